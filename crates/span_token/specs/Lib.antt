@@ -1,0 +1,2 @@
+-- spans
+pub mod Extents

@@ -1,0 +1,15 @@
+//! Documents, spans and the refusal types that all crates share.
+//!
+//! A `Span` is a half-open range of a document's characters, and a `Document` is borrowed text that
+//! tells spans from bytes. A call that lacks memory answers `OutOfMemory`, and a call with causes of
+//! its own answers a `Failure`. `OwnedText` and `OwnedList` are a `String` and a `Vec` that contracts
+//! see as their bytes and their elements alone. Stands on std.
+#![tactic(auto)]
+
+mod owned;
+mod refusal;
+mod span;
+
+pub use owned::{OwnedList, OwnedText};
+pub use refusal::{Failure, OutOfMemory};
+pub use span::Span;
