@@ -1,0 +1,4 @@
+-- why a call failed
+pub mod Causes
+-- what reads of named files give, and what a flush does
+pub mod Bytes
