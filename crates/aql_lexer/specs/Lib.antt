@@ -1,0 +1,2 @@
+-- tokens
+pub mod Kinds
