@@ -1,0 +1,2 @@
+-- bags
+pub mod Bags

@@ -1,0 +1,3 @@
+-- values and rows
+pub mod Datums
+pub mod Rows

@@ -1,0 +1,84 @@
+ghost use Rattle.std.specs.Prelude.{◌≡◌, ◌<◌, ◌≤◌, ◌^◌, ◌++◌, ◌∷◌, [], length, map, slice_index_or, IfOk, OnOk, OnErr};
+ghost use Rattle.std.specs.Vec.{vec_len};
+ghost use Rattle.std.specs.List.{All};
+ghost use Rattle.row_values.specs.Rows.{RowList};
+
+use crate::Row;
+use span_token::OutOfMemory;
+use std::alloc::Global;
+use std::marker::Model;
+
+/// A list of rows of one width, fewer than 2^32 of them.
+#[derive(Debug, Drop)]
+pub struct Rows<'d> {
+    width: u32,
+    rows: Vec<Row<'d>>,
+}
+
+impl<'d> Model for Rows<'d> {
+    ghost use Rattle.std.specs.Prelude.{◌≡◌, ◌<◌, ◌^◌, length};
+    ghost use Rattle.std.specs.Vec.{vec_len};
+    ghost use Rattle.std.specs.List.{All};
+    ghost use Rattle.row_values.specs.Rows.{RowList};
+
+    ghost Value = { RowList };
+
+    ghost view = { λ list. record { width = list.width; rows = list.rows.items } };
+
+    ghost invariant = { λ list. (vec_len list.rows < 2 ^ 32) × All (λ row. length row ≡ list.width) list.rows.items };
+}
+
+impl<'d> Rows<'d> {
+    /// No row, of `width` columns. It takes no memory.
+    pub fn new(alloc: Global, width: u32) -> Rows<'d>
+        ensures { result ≡ record { width = width; rows = [] } }
+    {
+        Rows {
+            width,
+            rows: Vec::new(alloc),
+        }
+    }
+
+    /// The number of columns of each row.
+    pub fn width(&self) -> u32
+        ensures { result ≡ self.now.width }
+    {
+        self.width
+    }
+
+    /// The number of rows.
+    pub fn len(&self) -> u32
+        ensures { result ≡ length self.now.rows }
+    {
+        self.rows.len() as u32
+    }
+
+    /// Row `i`, from 0. It has `width` columns.
+    pub fn get(&self, i: u32) -> &Row<'d>
+        requires in_range { i < length self.now.rows }
+        ensures row { result.now ≡ slice_index_or self.now.rows i result.now }
+        ensures width { length result.now ≡ self.now.width }
+    {
+        &self.rows[i as usize]
+    }
+
+    /// Puts `row` after the others. After want of memory the list is as it was.
+    pub fn push(&mut self, row: Row<'d>) -> Result<(), OutOfMemory>
+        requires width { length row ≡ self.old.width }
+        ensures ok { OnOk result (self.new ≡ record { width = self.old.width; rows = self.old.rows ++ row.entry ∷ [] }) }
+        ensures err { OnErr result (self.new ≡ self.old) }
+    {
+        if self.rows.len() >= 4294967295 {
+            return Err(OutOfMemory);
+        }
+        self.rows.push(row)?;
+        Ok(())
+    }
+
+    /// Takes all rows away, and keeps the memory for the next ones.
+    pub fn clear(&mut self)
+        ensures { self.new ≡ record { width = self.old.width; rows = [] } }
+    {
+        self.rows.clear();
+    }
+}
