@@ -1,9 +1,13 @@
 -- Counts of faults, and what a call that failed did to them.
 use Rattle.std.specs.Prelude.{ℕ, ◌+◌, ◌-◌, ◌^◌, ◌≤◌, min, Result, OnErr}
 
--- a count of faults rose, or stands at its last value, 2^64 - 1
+-- one more than a count, which stops at its last value, 2^64 - 1
+abbrev pub counted : ℕ → ℕ
+counted n = min (n + 1) (2 ^ 64 - 1)
+
+-- a count of faults rose, or stands at its last value
 abbrev pub Rose : ℕ → ℕ → Type 0
-Rose before now = min (before + 1) (2 ^ 64 - 1) ≤ now
+Rose before now = counted before ≤ now
 
 -- a call never lowers the count of faults, and fails only where the count rose
 pub record HasCause {T E : Type 0} (before now : ℕ) (result : Result T E) : Type 0 where

@@ -2,3 +2,9 @@
 pub mod Causes
 -- what reads of named files give, and what a flush does
 pub mod Bytes
+-- what contracts see of the objects in memory
+pub mod InMemory
+-- the bytes that a map of files holds
+pub mod Held
+-- the room of a sink in memory
+pub mod Room

@@ -7,12 +7,24 @@
 //! std, and on `span_token` for the answer to want of memory.
 #![tactic(auto)]
 
+mod calls;
+mod count_sink;
 mod failed;
 mod files;
+mod mem_files;
+mod mem_sink;
+mod mem_source;
+mod pieces;
 mod sink;
 mod source;
+mod sure_source;
 
+pub use count_sink::CountSink;
 pub use failed::Failed;
 pub use files::Files;
+pub use mem_files::MemFiles;
+pub use mem_sink::MemSink;
+pub use mem_source::MemSource;
 pub use sink::Sink;
 pub use source::Source;
+pub use sure_source::SureSource;
