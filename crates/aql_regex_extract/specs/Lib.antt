@@ -1,0 +1,4 @@
+-- patterns: what a text means as a pattern, its whole-text form and its groups
+pub mod Patterns
+-- what contracts see of the compiled types
+pub mod Views

@@ -1,0 +1,22 @@
+-- What contracts see of a compiled pattern: its text.
+use Rattle.std.specs.Prelude.{◌≡◌, ℕ, List}
+use Rattle.regex.specs.Patterns.{default_config}
+use Rattle.regex.specs.Strings.{regex_source, regex_config, IsReadFromSource}
+use Rattle.regex.specs.declared.string.regex.Regex.{Regex}
+use Rattle.aql_regex_extract.specs.Patterns.{group_count_of, whole_form}
+use Rattle.aql_regex_extract.specs.declared.pattern.Pattern.TheInside.{Inside}
+
+-- the expression is the one that the text stands for
+pub record IsBuiltFrom (text : List ℕ) (r : Regex) : Type 0 where
+  pub source : regex_source r ≡ text
+  pub config : regex_config r ≡ default_config
+  pub read : IsReadFromSource r
+
+abbrev pub pattern_text : Inside → List ℕ
+pattern_text p = regex_source p.plain
+
+-- both expressions are built from the pattern's text, and its groups are counted
+pub record IsCompiled (p : Inside) : Type 0 where
+  pub plain : IsBuiltFrom (pattern_text p) p.plain
+  pub whole : IsBuiltFrom (whole_form (pattern_text p)) p.whole
+  pub groups : p.groups ≡ group_count_of (pattern_text p)
