@@ -1,0 +1,3 @@
+-- the tree
+pub mod Trees
+pub mod Views

@@ -1,0 +1,12 @@
+//! The tree of a program, the grammar that relates it to tokens, and its printer.
+//!
+//! `IsStatement` relates a statement to its tokens, with one case for each line of the grammar.
+//! Stands on `aql_lexer` for tokens and on `span_token` for owned text.
+#![tactic(auto)]
+
+mod tree;
+
+pub use tree::{
+    Ast, Cons, Extract, Flag, Form, FromPart, Ident, Item, Number, Query, Range, Select, Spec,
+    Statement,
+};
