@@ -1,2 +1,6 @@
 -- spans
 pub mod Extents
+-- documents
+pub mod Documents
+pub mod Leads
+pub mod Layout

@@ -6,10 +6,13 @@
 //! see as their bytes and their elements alone. Stands on std.
 #![tactic(auto)]
 
+mod document;
 mod owned;
+mod places;
 mod refusal;
 mod span;
 
+pub use document::Document;
 pub use owned::{OwnedList, OwnedText};
 pub use refusal::{Failure, OutOfMemory};
 pub use span::Span;

@@ -1,0 +1,5 @@
+-- spans
+pub mod ExtentLemmas
+-- characters and bytes
+pub mod LeadsLemmas
+pub mod PlaceLemmas

@@ -1,0 +1,138 @@
+ghost use Rattle.std.specs.Prelude.{◌≡◌, ◌≤◌, ◌+◌, length, take, chars, IfOk, IsUtf8, IsCharBoundary, option_map};
+ghost use Rattle.span_token.specs.Extents.{extent_of};
+ghost use Rattle.span_token.specs.Leads.{leads, IsPlace};
+ghost use Rattle.span_token.specs.Documents.{LiesIn, len_of, whole_of, text_in, chars_before, moved};
+
+use crate::places::{count_leads, seek};
+use crate::{OutOfMemory, Span};
+use std::alloc::Global;
+use std::marker::Model;
+
+/// A text, borrowed, with its label, and what is needed to tell its characters from its bytes.
+#[derive(Drop)]
+pub struct Document<'d> {
+    text: &'d str,
+    label: Option<&'d str>,
+    characters: u32,
+}
+
+impl<'d> Model for Document<'d> {
+    ghost use Rattle.span_token.specs.Documents.{Doc};
+
+    ghost Value = { Doc };
+
+    ghost use Rattle.span_token.specs.Layout.{doc_of, IsLaidOut};
+
+    ghost view = { doc_of };
+
+    ghost invariant = { IsLaidOut };
+}
+
+impl<'d> Document<'d> {
+    /// The document of `text`, which has at most 16,777,216 bytes, with its label.
+    pub fn new(
+        alloc: Global,
+        text: &'d str,
+        label: Option<&'d str>,
+    ) -> Result<Document<'d>, OutOfMemory>
+        requires short { length text.now ≤ 16777216 }
+        ensures document { IfOk result (λ d. d ≡ record { text = text.now; label = option_map (λ l. l.now) label.entry }) }
+    {
+        let characters = count_leads(text.as_bytes()) as u32;
+        Ok(Document {
+            text,
+            label,
+            characters,
+        })
+    }
+
+    /// The number of characters.
+    pub fn len(&self) -> u32
+        ensures len { result ≡ len_of self.now }
+        ensures short { result ≤ 16777216 }
+    {
+        self.characters
+    }
+
+    /// The span of all characters.
+    pub fn whole(&self) -> Span
+        ensures whole { extent_of result ≡ whole_of self.now }
+        ensures in_document { LiesIn (extent_of result) self.now }
+    {
+        Span {
+            begin: 0,
+            end: self.characters,
+        }
+    }
+
+    /// The label.
+    pub fn label(&self) -> Option<&'d str>
+        ensures { option_map (λ l. l.now) result ≡ self.now.label }
+    {
+        self.label
+    }
+
+    /// The text.
+    pub fn text(&self) -> &'d str
+        ensures text { result.now ≡ self.now.text }
+        ensures short { length result.now ≤ 16777216 }
+    {
+        self.text
+    }
+
+    /// The text of `span`.
+    pub fn text_of(&self, span: Span) -> &'d str
+        requires in_document { LiesIn (extent_of span) self.now }
+        ensures text { result.now ≡ text_in self.now (extent_of span) }
+        ensures whole { extent_of span ≡ whole_of self.now → result.now ≡ self.now.text }
+    {
+        let begin = self.byte_of(span.begin);
+        let end = self.byte_of(span.end);
+        &self.text[begin..end]
+    }
+
+    /// The number of characters before byte `byte` of the text, at which a character begins or the text ends.
+    pub fn char_at(&self, byte: u32) -> u32
+        requires boundary { IsCharBoundary self.now.text byte }
+        ensures char { result ≡ chars_before self.now.text byte }
+        ensures within { result ≤ len_of self.now }
+    {
+        self.leads_before(byte as usize)
+    }
+
+    /// The span of the bytes `from` to `to` of the text of `source`.
+    pub fn span_in(&self, source: Span, from: usize, to: usize) -> Span
+        requires in_document { LiesIn (extent_of source) self.now }
+        requires from { IsCharBoundary (text_in self.now (extent_of source)) from }
+        requires to { IsCharBoundary (text_in self.now (extent_of source)) to }
+        requires ordered { from ≤ to }
+        ensures moved { extent_of result ≡ moved self.now (extent_of source) from to }
+        ensures after { source.begin ≤ result.begin }
+        ensures within { result.end ≤ source.end }
+        ensures in_document { LiesIn (extent_of result) self.now }
+    {
+        let first = self.byte_of(source.begin);
+        let begin = self.leads_before(first + from);
+        let end = self.leads_before(first + to);
+        Span { begin, end }
+    }
+
+    /// The byte at which character `place` begins, or the text ends.
+    fn byte_of(&self, place: u32) -> usize
+        requires { place ≤ len_of self.now }
+        ensures place { IsPlace self.now.text place result }
+        ensures utf8 { IsUtf8 self.now.text }
+        ensures short { length self.now.text ≤ 16777216 }
+    {
+        seek(self.text, 0, 0, place)
+    }
+
+    /// How many characters begin before byte `byte`.
+    fn leads_before(&self, byte: usize) -> u32
+        requires { byte ≤ length self.now.text }
+        ensures leads { result ≡ leads (take byte self.now.text) }
+        ensures utf8 { IsUtf8 self.now.text }
+    {
+        count_leads(&self.text.as_bytes()[..byte]) as u32
+    }
+}
