@@ -8,3 +8,5 @@ pub mod InMemory
 pub mod Held
 -- the room of a sink in memory
 pub mod Room
+-- what contracts see of an adapter over an object of std
+pub mod Counting
