@@ -1,0 +1,39 @@
+-- The exit status of each status, and its line on standard error.
+use Rattle.std.specs.Prelude.{ℕ, List, [], ◌∷◌, ◌++◌, codes}
+use Rattle.std.specs.Fmt.{decimal}
+use Rattle.aqlx_top.specs.declared.status.Status.{Status}
+use Rattle.aqlx_top.specs.declared.status.Status.TheVariants.{Done, Program, Usage, Corpus, ReadFault, WriteFault}
+use Rattle.aqlx_top.specs.declared.status.ProgramFault.{ProgramFault}
+use Rattle.aqlx_top.specs.declared.status.ProgramFault.TheVariants.{Syntax}
+use Rattle.aqlx_top.specs.declared.status.CorpusFault.{CorpusFault}
+use Rattle.aqlx_top.specs.declared.status.CorpusFault.TheVariants.{BadLine, LineLong, CorpusLarge}
+
+-- the exit status
+abbrev pub code_of : Status → ℕ
+code_of Done = 0
+code_of (Program _) = 1
+code_of Usage = 2
+code_of (Corpus _) = 3
+code_of ReadFault = 4
+code_of WriteFault = 5
+
+-- a line on standard error
+abbrev pub error_line : List ℕ → List ℕ
+error_line text = codes "aqlx: " ++ text ++ 10 ∷ []
+
+abbrev pub program_text : ProgramFault → List ℕ
+program_text (Syntax fault) = codes "syntax: statement " ++ decimal fault.statement ++ codes ", line " ++ decimal fault.line
+
+abbrev pub corpus_text : CorpusFault → List ℕ
+corpus_text (BadLine line) = codes "corpus line " ++ decimal line ++ codes " is not a document"
+corpus_text (LineLong line) = codes "corpus line " ++ decimal line ++ codes " is longer than 16777216 bytes"
+corpus_text CorpusLarge = codes "corpus too large"
+
+-- what a status writes on standard error: one line, and nothing where all is done or writing failed
+abbrev pub message_of : Status → List ℕ
+message_of Done = []
+message_of (Program fault) = error_line (program_text fault)
+message_of Usage = error_line (codes "usage: aqlx MODE PROGRAM [--workers N]")
+message_of (Corpus fault) = error_line (corpus_text fault)
+message_of ReadFault = error_line (codes "read fault")
+message_of WriteFault = []

@@ -1,0 +1,14 @@
+//! The top call: command words, a program and a corpus in, output lines and a status out.
+//!
+//! `aqlx` writes exactly the bytes that the program means on the corpus, in the corpus's order, and
+//! answers each other status only for its named cause; whatever it answers, what it wrote is a prefix
+//! of the defined output. Stands on `aql_io` for files, sources and sinks, on `corpus_json` for lines
+//! and documents, and on `aql_regex_extract` for patterns.
+#![tactic(auto)]
+
+mod put;
+mod status;
+mod status_line;
+mod words;
+
+pub use status::{CorpusFault, ProgramFault, Status, SyntaxFault};

@@ -1,0 +1,36 @@
+ghost use Rattle.std.specs.Prelude.{◌≡◌, ◌≤◌, OnErr, OnOk, IfSome, is_some, length, MatchResult};
+ghost use Rattle.aql_io.specs.Causes.{Rose};
+ghost use Rattle.aqlx_top.specs.Prefixes.{AppendsFront};
+
+use aql_io::{Failed, Sink};
+
+/// Writes `piece` whole, in as many calls as the sink wants; after a failed call a prefix of it is
+/// written, and nothing more is tried.
+pub(crate) fn put<O: Sink>(out: &mut O, piece: &[u8]) -> Result<(), Failed>
+    ensures bytes { AppendsFront (O.held out.old) (O.held out.new) result piece.now }
+    ensures told { is_some (O.held out.new) ≡ is_some (O.held out.old) }
+    ensures flushed { O.flushed out.new ≡ O.flushed out.old }
+    ensures later { O.faults out.old ≤ O.faults out.new }
+    ensures cause { OnErr result (Rose (O.faults out.old) (O.faults out.new)) }
+{
+    let mut written = 0usize;
+    while written < piece.len() {
+        let taken = out.write(&piece[written..])?;
+        written += taken;
+    }
+    Ok(())
+}
+
+/// Writes `piece` whole and hands on all that the sink holds.
+pub(crate) fn put_and_flush<O: Sink>(out: &mut O, piece: &[u8]) -> Result<(), Failed>
+    ensures bytes { AppendsFront (O.held out.old) (O.held out.new) result piece.now }
+    ensures told { is_some (O.held out.new) ≡ is_some (O.held out.old) }
+    ensures flushed { OnOk result (IfSome (O.held out.new) (λ bytes. O.flushed out.new ≡ length bytes)) }
+    ensures later { O.faults out.old ≤ O.faults out.new }
+    ensures cause { OnErr result (Rose (O.faults out.old) (O.faults out.new)) }
+{
+    match put(out, piece) {
+        Ok(()) => out.flush(),
+        Err(failed) => Err(failed),
+    }
+}
