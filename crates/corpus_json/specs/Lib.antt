@@ -1,0 +1,3 @@
+-- documents
+pub mod Documents
+pub mod Inputs
