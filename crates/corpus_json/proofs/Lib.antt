@@ -1,1 +1,2 @@
+pub mod TextLength
 pub mod Values
