@@ -1,3 +1,8 @@
 -- the tree
 pub mod Trees
 pub mod Views
+-- tokens
+pub mod Spellings
+pub mod Parts
+-- the grammar
+pub mod Grammar
