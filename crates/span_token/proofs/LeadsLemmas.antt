@@ -19,10 +19,10 @@ is_ascii_lead b h = grind (arith, nat_tests)
 pub is_follower : (b : ℕ) → 128 ≤ b → b < 192 → begins_char b ≡ false
 is_follower b h k = grind (arith, nat_tests)
 
-leads_head : (b : ℕ) (bs : List ℕ) → begins_char b ≡ true → leads (b ∷ bs) ≡ 1 + leads bs
+pub leads_head : (b : ℕ) (bs : List ℕ) → begins_char b ≡ true → leads (b ∷ bs) ≡ 1 + leads bs
 leads_head b bs e = let one : leads (b ∷ []) ≡ 1 = rw e refl in leads-append (b ∷ []) bs ∙ ap (λ n. n + leads bs) one
 
-leads_skip : (b : ℕ) (bs : List ℕ) → begins_char b ≡ false → leads (b ∷ bs) ≡ 0 + leads bs
+pub leads_skip : (b : ℕ) (bs : List ℕ) → begins_char b ≡ false → leads (b ∷ bs) ≡ 0 + leads bs
 leads_skip b bs e = let none : leads (b ∷ []) ≡ 0 = rw e refl in leads-append (b ∷ []) bs ∙ ap (λ n. n + leads bs) none
 
 follows : (x : ℕ) → begins_char (128 + x % 64) ≡ false

@@ -3,3 +3,4 @@ pub mod ExtentLemmas
 -- characters and bytes
 pub mod LeadsLemmas
 pub mod PlaceLemmas
+pub mod BlockLemmas

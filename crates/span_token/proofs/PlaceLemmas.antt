@@ -1,10 +1,10 @@
 -- Where characters stand among the bytes of a text.
-use Rattle.std.proofs.Common.{◌≡◌, ◌≤◌, ◌&&◌, Bool, true, false, zero, suc, ◌+◌, ◌-◌, ◌∙◌, ℕ, List, [], ◌∷◌, ◌++◌, length, take, drop, refl, sym, ap, arith, IsUtf8, IsCharBoundary, chars, encode_utf8_all, slice_range}
+use Rattle.std.proofs.Common.{◌≡◌, ap₂, subst, ◌≤◌, ◌&&◌, Bool, true, false, zero, suc, ◌+◌, ◌-◌, ◌∙◌, ℕ, List, [], ◌∷◌, ◌++◌, length, take, drop, refl, sym, ap, arith, IsUtf8, IsCharBoundary, chars, encode_utf8_all, slice_range}
 use Rattle.std.proofs.Math.Seq.{take-add}
-use Rattle.std.proofs.lemmas.List.{take-append-drop, length-take-le, length-append, length-take, length-drop, take-append-le, append_cancel_left, take_all, take_at, drop_at, drop-take}
-use Rattle.std.proofs.lemmas.Str.{encodes-chars, encodes-append, chars-append, scalars-chars, IsUtf8-take}
+use Rattle.std.proofs.lemmas.List.{take-append-drop, length-take-le, length-append, length-take, length-drop, take-append-le, append_cancel_left, take_all, take_at, drop_at, drop-take, drop-drop, drop-append-le}
+use Rattle.std.proofs.lemmas.Str.{IsUtf8-append, IsCharBoundary-from_drop, IsUtf8-drop, IsUtf8-take, encodes-chars, encodes-append, chars-append, scalars-chars, IsUtf8-take}
 use Rattle.span_token.specs.Leads.{leads, IsPlace}
-use Rattle.span_token.proofs.LeadsLemmas.{leads-append, leads-chars, leads-encodes}
+use Rattle.span_token.proofs.LeadsLemmas.{leads-append, leads-chars, leads-encodes, leads-take-le}
 use lib.Utf8.{scalar, scalars}
 
 -- the characters before a place
@@ -69,6 +69,10 @@ pub IsUtf8-range : (bs : List ℕ) (b e : ℕ) → IsUtf8 bs → IsUtf8 (encode_
 IsUtf8-range bs b e u =
     (slice_range (chars bs) b e, (scalars-take (e - b) (drop b (chars bs)) (scalars-drop b (chars bs) (scalars-chars bs u)), refl))
 
+IsUtf8-after : (bs : List ℕ) (b e : ℕ) → IsUtf8 bs → IsUtf8 (encode_utf8_all (drop (e - b) (drop b (chars bs))))
+IsUtf8-after bs b e u =
+    (drop (e - b) (drop b (chars bs)), (scalars-drop (e - b) (drop b (chars bs)) (scalars-drop b (chars bs) (scalars-chars bs u)), refl))
+
 -- what follows a place
 pub drop_to_place : (bs : List ℕ) (n i : ℕ) → IsUtf8 bs → IsPlace bs n i → drop i bs ≡ encode_utf8_all (drop n (chars bs))
 drop_to_place bs n i u p =
@@ -83,6 +87,7 @@ pub record IsMoved (bs : List ℕ) (b e i x : ℕ) : Type 0 where
   pub within : i + x ≤ length bs
   pub moved : leads (take (i + x) bs) ≡ b + length (chars (take x (encode_utf8_all (slice_range (chars bs) b e))))
   pub before_end : leads (take (i + x) bs) ≤ e
+  pub boundary : IsCharBoundary bs (i + x)
 
 moved_within : (bs t rest : List ℕ) (b e i x : ℕ) → IsUtf8 t → IsCharBoundary t x → drop i bs ≡ t ++ rest → i ≤ length bs → leads (take i bs) ≡ b → b + leads t ≤ e
     → (i + x ≤ length bs) × (leads (take (i + x) bs) ≡ b + length (chars (take x t))) × (leads (take (i + x) bs) ≤ e)
@@ -93,17 +98,56 @@ moved_within bs t rest b e i x u at split in' passed room =
     let part : leads (take x t) ≤ leads t = omega (arith, leads-append (take x t) (drop x t), ap leads (take-append-drop x t)) in
     (omega (arith, ap length split, length-append t rest, length-drop i bs, at.0), omega (arith, count, passed, leads-chars (take x t) (IsUtf8-take t x u at)), omega (arith, count, passed, part, room))
 
+split_at_place : (bs : List ℕ) (b e i : ℕ) → IsUtf8 bs → IsPlace bs b i
+    → drop i bs ≡ encode_utf8_all (slice_range (chars bs) b e) ++ encode_utf8_all (drop (e - b) (drop b (chars bs)))
+split_at_place bs b e i u p =
+    drop_to_place bs b i u p ∙ ap encode_utf8_all (sym (take-append-drop (e - b) (drop b (chars bs))))
+    ∙ encodes-append (slice_range (chars bs) b e) (drop (e - b) (drop b (chars bs)))
+
+-- what follows byte `x` of a text that stands at byte `i`
+rest_within : (bs t rest : List ℕ) (i x : ℕ) → IsCharBoundary t x → drop i bs ≡ t ++ rest → drop (i + x) bs ≡ drop x t ++ rest
+rest_within bs t rest i x at split = sym (drop-drop x i bs) ∙ ap (drop x) split ∙ drop-append-le x t rest at.0
+
+boundary_within : (bs t rest : List ℕ) (i x : ℕ) → IsUtf8 t → IsUtf8 rest → IsCharBoundary t x → drop i bs ≡ t ++ rest → i + x ≤ length bs
+    → IsCharBoundary bs (i + x)
+boundary_within bs t rest i x u v at split in' =
+    let text : IsUtf8 (drop x t ++ rest) = IsUtf8-append (drop x t) rest (IsUtf8-drop t x u at) v in
+    IsCharBoundary-from_drop bs (i + x) in' (subst IsUtf8 (sym (rest_within bs t rest i x at split)) text)
+
 pub moved_place : (bs : List ℕ) (b e i x : ℕ) → IsUtf8 bs → IsPlace bs b i → b ≤ e → e ≤ length (chars bs)
     → IsCharBoundary (encode_utf8_all (slice_range (chars bs) b e)) x → IsMoved bs b e i x
 moved_place bs b e i x u p le in' at =
     let inner : List ℕ = slice_range (chars bs) b e in
     let rest : List ℕ = drop (e - b) (drop b (chars bs)) in
-    let split : drop i bs ≡ encode_utf8_all inner ++ encode_utf8_all rest =
-    drop_to_place bs b i u p ∙ ap encode_utf8_all (sym (take-append-drop (e - b) (drop b (chars bs)))) ∙ encodes-append inner rest in
-    let room : b + leads (encode_utf8_all inner) ≤ e =
-    omega (arith, leads-encodes inner, length-take (e - b) (drop b (chars bs))) in
+    let split = split_at_place bs b e i u p in
+    let room : b + leads (encode_utf8_all inner) ≤ e = omega (arith, leads-encodes inner, length-take (e - b) (drop b (chars bs))) in
     let found = moved_within bs (encode_utf8_all inner) (encode_utf8_all rest) b e i x (IsUtf8-range bs b e u) at split p.boundary.0 p.passed room in
-    record { within = found.0; moved = found.1; before_end = found.2 }
+    record {
+      within = found.0;
+      moved = found.1;
+      before_end = found.2;
+      boundary = boundary_within bs (encode_utf8_all inner) (encode_utf8_all rest) i x (IsUtf8-range bs b e u) (IsUtf8-after bs b e u) at split found.0;
+    }
+
+bytes_within : (bs t rest : List ℕ) (i x y : ℕ) → IsCharBoundary t x → IsCharBoundary t y → drop i bs ≡ t ++ rest
+    → slice_range bs (i + x) (i + y) ≡ slice_range t x y
+bytes_within bs t rest i x y at to split =
+    let gap : (i + y) - (i + x) ≡ y - x = omega arith in
+    let room : y - x ≤ length (drop x t) = omega (arith, length-drop x t, to.0) in
+    ap₂ (λ n r. take n r) gap (rest_within bs t rest i x at split) ∙ take-append-le (y - x) (drop x t) rest room
+
+-- the text of what was moved is the bytes that were moved
+pub moved_text : (bs : List ℕ) (b e i x y : ℕ) → IsUtf8 bs → IsPlace bs b i → b ≤ e → e ≤ length (chars bs)
+    → IsCharBoundary (encode_utf8_all (slice_range (chars bs) b e)) x → IsCharBoundary (encode_utf8_all (slice_range (chars bs) b e)) y → x ≤ y
+    → encode_utf8_all (slice_range (chars bs) (leads (take (i + x) bs)) (leads (take (i + y) bs))) ≡ slice_range (encode_utf8_all (slice_range (chars bs) b e)) x y
+moved_text bs b e i x y u p le in' at to ordered =
+    let from = moved_place bs b e i x u p le in' at in
+    let end = moved_place bs b e i y u p le in' to in
+    let begins : IsPlace bs (leads (take (i + x) bs)) (i + x) = record { passed = refl; boundary = from.boundary } in
+    let ends : IsPlace bs (leads (take (i + y) bs)) (i + y) = record { passed = refl; boundary = end.boundary } in
+    let rises : leads (take (i + x) bs) ≤ leads (take (i + y) bs) = leads-take-le (i + x) (i + y) bs (omega arith) in
+    sym (between_places bs (leads (take (i + x) bs)) (leads (take (i + y) bs)) (i + x) (i + y) u begins ends rises).bytes
+    ∙ bytes_within bs (encode_utf8_all (slice_range (chars bs) b e)) (encode_utf8_all (drop (e - b) (drop b (chars bs)))) i x y at to (split_at_place bs b e i u p)
 
 -- the text of all characters
 pub whole_text : (bs : List ℕ) → IsUtf8 bs → encode_utf8_all (slice_range (chars bs) 0 (length (chars bs))) ≡ bs

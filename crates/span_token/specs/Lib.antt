@@ -3,4 +3,5 @@ pub mod Extents
 -- documents
 pub mod Documents
 pub mod Leads
+pub mod Places
 pub mod Layout

@@ -1,9 +1,9 @@
-ghost use Rattle.std.specs.Prelude.{◌≡◌, ◌≤◌, ◌+◌, length, take, chars, IfOk, IsUtf8, IsCharBoundary, option_map};
+ghost use Rattle.std.specs.Prelude.{◌≡◌, ◌≤◌, ◌+◌, length, take, slice_range, chars, IfOk, IsUtf8, IsCharBoundary, option_map};
 ghost use Rattle.span_token.specs.Extents.{extent_of};
 ghost use Rattle.span_token.specs.Leads.{leads, IsPlace};
 ghost use Rattle.span_token.specs.Documents.{LiesIn, len_of, whole_of, text_in, chars_before, moved};
 
-use crate::places::{count_leads, seek};
+use crate::places::Places;
 use crate::{OutOfMemory, Span};
 use std::alloc::Global;
 use std::marker::Model;
@@ -14,6 +14,7 @@ pub struct Document<'d> {
     text: &'d str,
     label: Option<&'d str>,
     characters: u32,
+    places: Places,
 }
 
 impl<'d> Model for Document<'d> {
@@ -38,11 +39,13 @@ impl<'d> Document<'d> {
         requires short { length text.now ≤ 16777216 }
         ensures document { IfOk result (λ d. d ≡ record { text = text.now; label = option_map (λ l. l.now) label.entry }) }
     {
-        let characters = count_leads(text.as_bytes()) as u32;
+        let places = Places::of(alloc, text)?;
+        let characters = places.leads_before(text, text.len()) as u32;
         Ok(Document {
             text,
             label,
             characters,
+            places,
         })
     }
 
@@ -107,6 +110,7 @@ impl<'d> Document<'d> {
         requires to { IsCharBoundary (text_in self.now (extent_of source)) to }
         requires ordered { from ≤ to }
         ensures moved { extent_of result ≡ moved self.now (extent_of source) from to }
+        ensures text { text_in self.now (extent_of result) ≡ slice_range (text_in self.now (extent_of source)) from to }
         ensures after { source.begin ≤ result.begin }
         ensures within { result.end ≤ source.end }
         ensures in_document { LiesIn (extent_of result) self.now }
@@ -124,7 +128,7 @@ impl<'d> Document<'d> {
         ensures utf8 { IsUtf8 self.now.text }
         ensures short { length self.now.text ≤ 16777216 }
     {
-        seek(self.text, 0, 0, place)
+        self.places.byte_of(self.text, place)
     }
 
     /// How many characters begin before byte `byte`.
@@ -133,6 +137,6 @@ impl<'d> Document<'d> {
         ensures leads { result ≡ leads (take byte self.now.text) }
         ensures utf8 { IsUtf8 self.now.text }
     {
-        count_leads(&self.text.as_bytes()[..byte]) as u32
+        self.places.leads_before(self.text, byte) as u32
     }
 }

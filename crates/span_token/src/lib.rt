@@ -7,6 +7,7 @@
 #![tactic(auto)]
 
 mod document;
+mod leads;
 mod owned;
 mod places;
 mod refusal;

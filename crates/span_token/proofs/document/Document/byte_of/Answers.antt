@@ -3,6 +3,6 @@ use Rattle.span_token.specs.Documents.{len_of}
 use Rattle.span_token.proofs.LeadsLemmas.{leads-chars}
 use Rattle.span_token.proofs.document.Document.byte_of.Goals as goal
 
-pub seek-requires-clause-exists : goal.seek-requires-clause-exists
-seek-requires-clause-exists c =
+pub byte_of-requires-clause-exists : goal.byte_of-requires-clause-exists
+byte_of-requires-clause-exists c =
     omega (arith, c.requires, ap len_of c.self.view_is, leads-chars c.self.inside.text.now c.self.invariant.utf8)

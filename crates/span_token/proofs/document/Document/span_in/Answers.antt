@@ -1,7 +1,7 @@
-use Rattle.std.proofs.Common.{◌∙◌, ◌+◌, arith}
+use Rattle.std.proofs.Common.{◌≡◌, ap₂, encode_utf8_all, slice_range, chars, ◌∙◌, ◌+◌, arith}
 use Rattle.span_token.proofs.ExtentLemmas.{same_extent}
 use Rattle.span_token.proofs.LeadsLemmas.{leads-take-le}
-use Rattle.span_token.proofs.PlaceLemmas.{moved_place}
+use Rattle.span_token.proofs.PlaceLemmas.{moved_place, moved_text}
 use Rattle.span_token.proofs.document.Document.span_in.Goals as goal
 
 pub overflow_add-first : goal.overflow_add-first
@@ -32,6 +32,12 @@ returns-clause-moved c =
     let from = moved_place c.args.self.now.text c.args.source.begin c.args.source.end c.byte_of-first.result c.args.from c.byte_of-first.ensures.utf8 c.byte_of-first.ensures.place c.args.source.ordered c.requires.in_document c.requires.from in
     let to = moved_place c.args.self.now.text c.args.source.begin c.args.source.end c.byte_of-first.result c.args.to c.byte_of-first.ensures.utf8 c.byte_of-first.ensures.place c.args.source.ordered c.requires.in_document c.requires.to in
     same_extent _ _ (c.leads_before-begin.ensures.leads ∙ from.moved) (c.leads_before-end.ensures.leads ∙ to.moved)
+
+pub returns-clause-text : goal.returns-clause-text
+returns-clause-text c =
+    let ends : encode_utf8_all (slice_range (chars c.args.self.now.text) c.leads_before-begin.result c.leads_before-end.result) ≡ _ =
+    ap₂ (λ b e. encode_utf8_all (slice_range (chars c.args.self.now.text) b e)) c.leads_before-begin.ensures.leads c.leads_before-end.ensures.leads in
+    ends ∙ moved_text c.args.self.now.text c.args.source.begin c.args.source.end c.byte_of-first.result c.args.from c.args.to c.byte_of-first.ensures.utf8 c.byte_of-first.ensures.place c.args.source.ordered c.requires.in_document c.requires.from c.requires.to c.requires.ordered
 
 pub returns-clause-after : goal.returns-clause-after
 returns-clause-after c =
