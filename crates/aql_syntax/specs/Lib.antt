@@ -4,5 +4,7 @@ pub mod Views
 -- tokens
 pub mod Spellings
 pub mod Parts
+pub mod Places
 -- the grammar
 pub mod Grammar
+pub mod Programs
