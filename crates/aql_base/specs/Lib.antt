@@ -1,2 +1,4 @@
 -- bags
 pub mod Bags
+-- lists in order
+pub mod Sorting

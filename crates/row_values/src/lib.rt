@@ -7,10 +7,12 @@
 //! spans and the refusal types.
 #![tactic(auto)]
 
+mod order;
 mod row;
 mod rows;
 mod value;
 
+pub use order::{compare_rows, compare_values, is_in_order, same_value, sort_rows};
 pub use row::Row;
 pub use rows::Rows;
 pub use value::Value;

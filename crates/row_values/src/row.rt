@@ -3,6 +3,8 @@ ghost use Rattle.std.specs.Vec.{vec_len};
 ghost use Rattle.row_values.specs.Datums.{datum_of};
 
 use crate::Value;
+use std::cmp::Ordering;
+use std::hash::{Hash, Hasher};
 use std::marker::Model;
 
 /// A row: a list of values, fewer than 2^32.
@@ -45,5 +47,74 @@ impl<'d> Row<'d> {
         ensures value { datum_of result ≡ slice_index_or self.now i (datum_of result) }
     {
         self.values[i as usize]
+    }
+}
+
+impl<'d> PartialEq for Row<'d> {
+    ghost use Rattle.row_values.specs.Rows.{row_cmp};
+    ghost use Rattle.std.specs.Ordering.{eq_by_cmp};
+    ghost use Rattle.std.specs.Cmp.{partial_equiv_from_equiv};
+    ghost use Rattle.std.proofs.lemmas.Cmp.{eq_by_cmp_equiv};
+    ghost use Rattle.row_values.specs.RowOrder.{row_cmp_total};
+
+    ghost eq = { eq_by_cmp row_cmp };
+
+    ghost laws = { partial_equiv_from_equiv (eq_by_cmp_equiv row_cmp_total) };
+
+    fn eq(&self, other: &Self) -> bool {
+        self.cmp(other).is_eq()
+    }
+}
+
+impl<'d> Eq for Row<'d> {
+    ghost use Rattle.std.proofs.lemmas.Cmp.{eq_by_cmp_equiv};
+    ghost use Rattle.row_values.specs.RowOrder.{row_cmp_total};
+
+    ghost laws = { eq_by_cmp_equiv row_cmp_total };
+}
+
+impl<'d> PartialOrd for Row<'d> {
+    ghost use Rattle.std.specs.Prelude.{refl};
+    ghost use Rattle.row_values.specs.Rows.{row_cmp};
+    ghost use Rattle.std.specs.Ordering.{as_partial_cmp};
+    ghost use Rattle.std.specs.Cmp.{po};
+    ghost use Rattle.row_values.specs.RowOrder.{row_cmp_total};
+
+    ghost partial_cmp = { as_partial_cmp row_cmp };
+
+    ghost laws = { po row_cmp_total (λ x y. refl) };
+
+    fn partial_cmp(&self, other: &Self) -> Option<Ordering> {
+        Some(self.cmp(other))
+    }
+}
+
+impl<'d> Ord for Row<'d> {
+    ghost use Rattle.std.specs.Prelude.{refl};
+    ghost use Rattle.row_values.specs.Rows.{row_cmp};
+    ghost use Rattle.row_values.specs.RowOrder.{row_cmp_total};
+
+    ghost cmp = { row_cmp };
+
+    ghost total = { row_cmp_total };
+
+    ghost matches_partial_cmp = { λ x y. refl };
+
+    ghost matches_eq = { λ x y. refl };
+
+    fn cmp(&self, other: &Self) -> Ordering {
+        self.values.as_slice().cmp(&other.values.as_slice())
+    }
+}
+
+impl<'d> Hash for Row<'d> {
+    ghost use Rattle.row_values.specs.Hashing.{row_input, row_input-same};
+
+    ghost hash_input = { row_input };
+
+    ghost respects_eq = { row_input-same };
+
+    fn hash<H: Hasher>(&self, state: &mut H) {
+        self.values.as_slice().hash(state);
     }
 }

@@ -1,7 +1,7 @@
 ghost use Rattle.std.specs.Prelude.{◌≡◌, ◌<◌, ◌≤◌, ◌^◌, ◌++◌, ◌∷◌, [], length, map, slice_index_or, IfOk, OnOk, OnErr};
 ghost use Rattle.std.specs.Vec.{vec_len};
 ghost use Rattle.std.specs.List.{All};
-ghost use Rattle.row_values.specs.Rows.{RowList};
+ghost use Rattle.row_values.specs.Rows.{RowList, sorted};
 
 use crate::Row;
 use span_token::OutOfMemory;
@@ -80,5 +80,21 @@ impl<'d> Rows<'d> {
         ensures { self.new ≡ record { width = self.old.width; rows = [] } }
     {
         self.rows.clear();
+    }
+
+    /// The rows, borrowed, in their order.
+    pub fn as_slice(&self) -> &[Row<'d>]
+        ensures { result.now ≡ self.now.rows }
+    {
+        self.rows.as_slice()
+    }
+
+    /// Puts the rows in row order.
+    pub(crate) fn sort(&mut self)
+        ensures { self.new ≡ record { width = self.old.width; rows = sorted self.old.rows } }
+    {
+        if !self.rows.as_slice().is_sorted() {
+            self.rows.sort_unstable();
+        }
     }
 }
