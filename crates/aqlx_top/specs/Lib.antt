@@ -4,3 +4,4 @@ pub mod Words
 pub mod Statuses
 -- what a sink gained
 pub mod Prefixes
+pub mod ProgramFile
