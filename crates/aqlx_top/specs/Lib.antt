@@ -5,3 +5,4 @@ pub mod Statuses
 -- what a sink gained
 pub mod Prefixes
 pub mod ProgramFile
+pub mod FirstForm
