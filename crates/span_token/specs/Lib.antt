@@ -1,5 +1,7 @@
 -- spans
 pub mod Extents
+pub mod Relations
+pub mod Contexts
 -- documents
 pub mod Documents
 pub mod Leads

@@ -6,14 +6,18 @@
 //! see as their bytes and their elements alone. Stands on std.
 #![tactic(auto)]
 
+mod contexts;
 mod document;
 mod leads;
 mod owned;
 mod places;
 mod refusal;
+mod relations;
 mod span;
 
+pub use contexts::{left_context, right_context};
 pub use document::Document;
 pub use owned::{OwnedList, OwnedText};
 pub use refusal::{Failure, OutOfMemory};
+pub use relations::{between, combine, contains, follows, overlaps};
 pub use span::Span;
