@@ -9,7 +9,7 @@ use Rattle.std.proofs.lemmas.List.Sums.{sum_by-cons, sum_by-remove}
 use Rattle.std.proofs.lemmas.List.Sorted.{IsPermutation-refl, IsPermutation-sym, IsPermutation-trans, IsPermutation-cons, IsPermutation-remove, sum_by-IsPermutation, length_permutation}
 use Rattle.aql_base.specs.Bags.{SameBag, OccursEquallyOften}
 
-abbrev number_of : Bool → ℕ
+abbrev pub number_of : Bool → ℕ
 number_of b = cond b 1 0
 
 -- equal bags have as many elements that pass a test
@@ -37,7 +37,7 @@ module _ {X : Type 0} {cmp : X → X → Ordering} (order : IsTotalOrder cmp) (e
   same : X → X → Bool
   same x y = eq_by_cmp cmp x y
 
-  told : (x y : X) → eq_by_cmp cmp x y ≡ true → x ≡ y
+  pub told : (x y : X) → eq_by_cmp cmp x y ≡ true → x ≡ y
   told x y e = by (cmp x y) refl
     where
       by : (o : Ordering) → cmp x y ≡ o → x ≡ y
@@ -48,7 +48,7 @@ module _ {X : Type 0} {cmp : X → X → Ordering} (order : IsTotalOrder cmp) (e
   itself : (x : X) → eq_by_cmp cmp x x ≡ true
   itself x = ap is_eq (tied_itself order x)
 
-  one_at : (x : X) → number_of (eq_by_cmp cmp x x) ≡ 1
+  pub one_at : (x : X) → number_of (eq_by_cmp cmp x x) ≡ 1
   one_at x = ap number_of (itself x)
 
   -- counts decide bags, where the order tells all values apart

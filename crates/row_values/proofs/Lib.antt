@@ -2,3 +2,5 @@
 pub mod Sorted
 -- rows by the values that they keep
 mod Kept
+-- the order of an output's columns
+mod ColumnOrder

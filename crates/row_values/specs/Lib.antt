@@ -5,3 +5,5 @@ pub mod Rows
 pub mod RowOrder
 -- what values and rows give to a hash function
 pub mod Hashing
+-- outputs
+pub mod Outputs

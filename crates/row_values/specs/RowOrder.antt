@@ -105,6 +105,9 @@ lists_exact cmp exact (x ∷ xs) (y ∷ ys) e =
     let rest = lists_exact cmp exact xs ys (then_second (cmp x y) (slice_cmp cmp xs ys) e) in
     λ i. first i ∷ rest i
 
+pub text_exact : (s t : List ℕ) → slice_cmp nat_cmp s t ≡ Equal → s ≡ t
+text_exact = lists_exact nat_cmp nat_exact
+
 extent_exact : (d e : Extent) → extent_cmp d e ≡ Equal → d ≡ e
 extent_exact d e h =
     let begins = nat_exact d.begin e.begin (then_first (nat_cmp d.begin e.begin) (nat_cmp d.end e.end) h) in

@@ -8,11 +8,13 @@
 #![tactic(auto)]
 
 mod order;
+mod output;
 mod row;
 mod rows;
 mod value;
 
 pub use order::{compare_rows, compare_values, is_in_order, same_value, sort_rows};
+pub use output::Output;
 pub use row::Row;
 pub use rows::Rows;
 pub use value::Value;

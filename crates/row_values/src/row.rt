@@ -48,6 +48,13 @@ impl<'d> Row<'d> {
     {
         self.values[i as usize]
     }
+
+    /// The values, borrowed, in their order.
+    pub fn values(&self) -> &[Value<'d>]
+        ensures { map datum_of result.now ≡ self.now }
+    {
+        self.values.as_slice()
+    }
 }
 
 impl<'d> PartialEq for Row<'d> {
