@@ -1,8 +1,9 @@
--- the command words
+-- the command words, and the program that they name
 pub mod Words
--- statuses and their lines on standard error
-pub mod Statuses
--- what a sink gained
-pub mod Prefixes
 pub mod ProgramFile
 pub mod FirstForm
+-- what a call did to its objects
+pub mod Devices
+pub mod Prefixes
+-- statuses and their lines on standard error
+pub mod Statuses

@@ -1,10 +1,40 @@
-ghost use Rattle.std.specs.Prelude.{◌≡◌, ◌++◌, ◌∷◌, [], IfOk, string_bytes, codes};
+ghost use Rattle.std.specs.Prelude.{◌≡◌, ◌++◌, ◌∷◌, [], IfOk, OnErr, string_bytes, codes};
 ghost use Rattle.std.specs.Fmt.{decimal};
-ghost use Rattle.aqlx_top.specs.Statuses.{message_of, error_line, program_text, corpus_text};
+ghost use Rattle.aqlx_top.specs.Devices.{sink_ends, IsUntouched};
+ghost use Rattle.aqlx_top.specs.Statuses.{IsToldAs, IsWrittenAs, message_of, error_line, program_text, corpus_text};
 
+use crate::put::put_and_flush;
 use crate::{CorpusFault, ProgramFault, Status};
+use aql_io::{Failed, Sink};
 use span_token::OutOfMemory;
 use std::alloc::Global;
+
+/// Writes the line of `status` on standard error and flushes it, and answers `status`; where that fails,
+/// a failed write is answered in its place. With `Done` and `WriteFault` nothing is written.
+pub(crate) fn report<E: Sink>(
+    alloc: Global,
+    err: &mut E,
+    status: Status,
+) -> Result<Status, OutOfMemory>
+    ensures told { IfOk result (IsToldAs (sink_ends (E.held err.old) (E.held err.new) (E.flushed err.old) (E.flushed err.new) (E.faults err.old) (E.faults err.new)) status) }
+    ensures memory { OnErr result (IsUntouched (sink_ends (E.held err.old) (E.held err.new) (E.flushed err.old) (E.flushed err.new) (E.faults err.old) (E.faults err.new))) }
+{
+    match status {
+        Status::Done | Status::WriteFault => Ok(status),
+        _ => write_line(alloc, err, status),
+    }
+}
+
+fn write_line<E: Sink>(alloc: Global, err: &mut E, status: Status) -> Result<Status, OutOfMemory>
+    ensures told { IfOk result (IsWrittenAs (sink_ends (E.held err.old) (E.held err.new) (E.flushed err.old) (E.flushed err.new) (E.faults err.old) (E.faults err.new)) status) }
+    ensures memory { OnErr result (IsUntouched (sink_ends (E.held err.old) (E.held err.new) (E.flushed err.old) (E.flushed err.new) (E.faults err.old) (E.faults err.new))) }
+{
+    let line = status_line(alloc, &status)?;
+    match put_and_flush(err, line.as_bytes()) {
+        Ok(()) => Ok(status),
+        Err(Failed) => Ok(Status::WriteFault),
+    }
+}
 
 /// What `status` writes on standard error: its one line with its line feed, and nothing with `Done`
 /// and `WriteFault`.
