@@ -1,3 +1,11 @@
+-- the lines of the bytes that a corpus gave
+pub mod Lines
+-- what a reader of lines took and gave
+pub mod Reading
+-- how a reader puts a line together
+pub mod Pieces
+pub mod Moves
+pub mod Window
 -- documents
 pub mod Documents
 pub mod Inputs

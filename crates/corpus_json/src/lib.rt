@@ -5,8 +5,12 @@
 
 mod input;
 mod limits;
+mod line_buffer;
 mod read;
+mod step;
 
 pub use input::{Input, NotDocument};
-pub use limits::LINE_LIMIT;
+pub use limits::{CORPUS_LIMIT, LINE_LIMIT};
+pub use line_buffer::LineBuffer;
 pub use read::read_document;
+pub use step::Step;

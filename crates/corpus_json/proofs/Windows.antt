@@ -1,0 +1,78 @@
+-- The part of a buffer that is ready, as its ends move.
+use Rattle.std.proofs.Common.{◌≡◌, ◌≢◌, ℕ, ◌+◌, ◌-◌, ◌≤◌, List, [], ◌∷◌, ◌++◌, length, take, drop, sym, ap, ◌∙◌, arith, Option, Some, None, take-append-drop, slice_range}
+use Rattle.std.proofs.lemmas.List.{drop-drop, drop-take, length-take-le, length-take}
+use Rattle.std.specs.Io.KnownBytes.{Consumes}
+use Rattle.corpus_json.specs.declared.step.Step.{Step}
+use Rattle.corpus_json.specs.declared.step.Step.TheVariants.{Long}
+use Rattle.corpus_json.specs.declared.limits.TheConstants.{CORPUS_LIMIT}
+use Rattle.corpus_json.specs.Moves.{MovesWhole, IsTooMany}
+use Rattle.corpus_json.specs.Pieces.{TakesLine, TakesTooMany, Fills}
+use Rattle.corpus_json.specs.Reading.{Reading, settled}
+
+-- nothing is ready between equal ends
+pub slice_range-none : (bytes : List ℕ) (to : ℕ) → slice_range bytes to to ≡ []
+slice_range-none bytes to = grind (arith)
+
+-- what is left of the ready bytes past place n
+pub slice_range-past : (bytes : List ℕ) (from to n : ℕ) → from + n ≤ to → drop n (slice_range bytes from to) ≡ slice_range bytes (from + n) to
+slice_range-past bytes from to n within =
+    let size : to - from ≡ n + (to - (from + n)) = omega arith in
+    ap (λ k. drop n (take k (drop from bytes))) size
+    ∙ drop-take n (to - (from + n)) (drop from bytes)
+    ∙ ap (take (to - (from + n))) (drop-drop n from bytes)
+
+-- a piece that an LF ends is taken out of what is ready
+pub takes-whole : (bytes : List ℕ) (from to taken n : ℕ) (last : Option Step) (before : Reading) (line_before line_now : List ℕ)
+    → record { ready = slice_range bytes from to; taken = taken; last = last } ≡ before
+    → from ≤ to
+    → MovesWhole (slice_range bytes from to) line_before line_now n
+    → TakesLine before record { ready = slice_range bytes (from + (n + 1)) to; taken = taken; last = last } line_before line_now
+takes-whole bytes from to taken n last before line_before line_now is in_order moved =
+    let within : from + (n + 1) ≤ to = omega (arith, moved.lf.within, length-take (to - from) (drop from bytes)) in
+    let past = slice_range-past bytes from to (n + 1) within in
+    record {
+      piece = take n (slice_range bytes from to);
+      line = moved.line;
+      split = ap (λ (r : Reading). r.ready) (sym is) ∙ moved.lf.split ∙ ap (λ rest. take n (slice_range bytes from to) ++ 10 ∷ rest) past;
+      no_lf = moved.lf.no_lf;
+      short = moved.short;
+      same = ap (λ (r : Reading). let now : Reading = record r { ready = slice_range bytes (from + (n + 1)) to } in now) is;
+    }
+
+-- too many bytes before an LF end the reading
+pub takes-too_many : (bytes : List ℕ) (from to taken : ℕ) (last : Option Step) (before : Reading) (line_before : List ℕ)
+    → record { ready = slice_range bytes from to; taken = taken; last = last } ≡ before
+    → IsTooMany (slice_range bytes from to) line_before
+    → TakesTooMany before record { ready = slice_range bytes to to; taken = taken; last = Some Long } line_before
+takes-too_many bytes from to taken last before line_before is many =
+    let ready = slice_range bytes from to in
+    record {
+      piece = take many.n ready;
+      others = drop many.n ready;
+      split = ap (λ (r : Reading). r.ready) (sym is) ∙ sym (take-append-drop many.n ready);
+      no_lf = many.no_lf;
+      long = rw length-take (omega (arith, many.long, many.within));
+      settled = ap (λ (r : List ℕ). let now : Reading = record { ready = r; taken = taken; last = Some Long } in now) (slice_range-none bytes to) ∙ ap (λ (r : Reading). settled r.taken Long) is;
+    }
+
+-- the front of the buffer is ready after a read that brought some bytes; `all` is the buffer with what the read left in it
+pub fills-some : (left_before left_now : Option (List ℕ)) (faults_before faults_now : ℕ) (all buf : List ℕ) (n taken : ℕ) (last : Option Step) (before : Reading)
+    → all ≡ buf
+    → taken ≡ before.taken
+    → last ≡ None
+    → n ≢ 0
+    → n ≤ length buf
+    → taken + n ≤ CORPUS_LIMIT
+    → Consumes left_before left_now (take n buf)
+    → faults_before ≤ faults_now
+    → Fills left_before left_now faults_before faults_now before record { ready = slice_range all 0 n; taken = taken + n; last = last } None
+fills-some left_before left_now faults_before faults_now all buf n taken last before same was going some within below consumed later =
+    let front : slice_range buf 0 n ≡ take n buf = grind (arith) in
+    let size : length (take n buf) ≡ n = length-take-le n buf within in
+    let sum : taken + n ≡ before.taken + length (take n buf) = omega arith in
+    record {
+      more = take n buf;
+      consumed = consumed;
+      later = later;
+      brings = (λ none. some (sym size ∙ ap length none), omega arith, cc);
+    }

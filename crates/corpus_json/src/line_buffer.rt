@@ -1,0 +1,230 @@
+ghost use Rattle.std.specs.Prelude.{◌≡◌, ◌≤◌, ℕ, [], None, Some, Ok, IfOk, OnErr, IfSome, is_some, length, vec_len, take, min, MatchResult, MatchOption, ◌-◌};
+ghost use Rattle.std.specs.Io.KnownBytes.{Consumes, Keeps, IsAtEnd};
+ghost use Rattle.aql_io.specs.Causes.{HasCause};
+ghost use Rattle.corpus_json.specs.Lines.{HasNoLf, FirstLfAt};
+ghost use Rattle.corpus_json.specs.Moves.{MovesPiece};
+ghost use Rattle.corpus_json.specs.Pieces.{TakesPiece, Fills, step_after};
+ghost use Rattle.corpus_json.specs.Reading.{NextLine, Took};
+
+use crate::Step;
+use crate::limits::{CORPUS_LIMIT, LINE_LIMIT};
+use aql_io::{Failed, Source};
+use memchr::memchr;
+use span_token::OutOfMemory;
+use std::alloc::Global;
+use std::marker::Model;
+
+/// How many bytes one read may bring.
+const ROOM: usize = 65_536;
+
+/// The bytes that were taken from a source of lines and not given yet.
+///
+/// It reads ahead by one buffer of a fixed size, and holds no source: each call is given it.
+#[derive(Debug, Drop)]
+pub struct LineBuffer {
+    bytes: Vec<u8>,
+    from: usize,
+    to: usize,
+    taken: u64,
+    last: Option<Step>,
+}
+
+impl Model for LineBuffer {
+    ghost use Rattle.std.specs.Prelude.{slice_range};
+    ghost use Rattle.corpus_json.specs.Reading.{Reading};
+    ghost use Rattle.corpus_json.specs.Window.{IsWindow};
+
+    ghost Value = { Reading };
+
+    ghost view = { λ b. record { ready = slice_range b.bytes.items b.from b.to; taken = b.taken; last = b.last } };
+
+    ghost invariant = { λ b. IsWindow b.bytes b.from b.to b.taken };
+}
+
+impl LineBuffer {
+    /// A buffer that took nothing yet.
+    pub fn new(alloc: Global) -> Result<LineBuffer, OutOfMemory>
+        ensures { IfOk result (λ buffer. buffer ≡ record { ready = []; taken = 0; last = None }) }
+    {
+        let bytes = vec![in alloc; 0; ROOM]?;
+        Ok(LineBuffer {
+            bytes,
+            from: 0,
+            to: 0,
+            taken: 0,
+            last: None,
+        })
+    }
+
+    /// Puts the next line of `source` into `line`, or says why there is none.
+    ///
+    /// A line is bytes: it ends before an LF, which is taken and not given, or at the source's end
+    /// where bytes stand after the last LF. A CR belongs to the line, and UTF-8 isn't looked at. A
+    /// line without bytes is a line. What `line` held before is gone; it keeps its room.
+    ///
+    /// `Long` comes exactly where more than `LINE_LIMIT` bytes stand before the next LF in what was
+    /// taken, whether or not that LF was taken too; `Limit` exactly where `CORPUS_LIMIT` bytes were
+    /// taken and what is left of them has no LF; `Failed` only where a read of this call failed
+    /// before. After any answer but `Line`, and after a line that the source's end ended, every later
+    /// call gives the same answer, `End` in the last case, and doesn't touch the source.
+    ///
+    /// The source is read only where nothing is ready, a buffer's bytes at most. After an answer other
+    /// than `Line`, what `line` holds is left open; after want of memory no clause says where the
+    /// reader stands.
+    ///
+    /// Meaning: `NextLine`, `specs/Reading.antt`, over the lines of `specs/Lines.antt`.
+    pub fn next_line<S: Source>(
+        &mut self,
+        source: &mut S,
+        line: &mut Vec<u8>,
+    ) -> Result<Step, OutOfMemory>
+        ensures answer { IfOk result (NextLine (S.left source.old) (S.left source.new)
+            (S.faults source.old) (S.faults source.new) self.old self.new line.new.items) }
+        ensures err { OnErr result (Took (S.left source.old) (S.left source.new)) }
+        ensures told { is_some (S.left source.new) ≡ is_some (S.left source.old) }
+        ensures later { S.faults source.old ≤ S.faults source.new }
+        ensures lasting { IfSome self.old.last (λ last. (result ≡ Ok last) × (source.new ≡ source.old)) }
+    {
+        if let Some(last) = self.last {
+            return Ok(last);
+        }
+        line.clear();
+        'pieces: loop {
+            if let Some(step) = self.take_piece(line)? {
+                return Ok(step);
+            }
+            if let Some(step) = self.fill(source) {
+                return Ok(last_step(step, line.is_empty()));
+            }
+        }
+    }
+
+    /// Moves what is ready, up to the first LF, to the end of `line`.
+    fn take_piece(&mut self, line: &mut Vec<u8>) -> Result<Option<Step>, OutOfMemory>
+        requires going { self.old.last ≡ None }
+        requires short { vec_len line.old ≤ LINE_LIMIT }
+        ensures { IfOk result (TakesPiece self.old self.new line.old.items line.new.items) }
+    {
+        match move_piece(&self.bytes[self.from..self.to], line)? {
+            Piece::Whole(n) => {
+                self.from += n + 1;
+                Ok(Some(Step::Line))
+            }
+            Piece::Part => {
+                self.from = self.to;
+                Ok(None)
+            }
+            Piece::TooMany => {
+                self.from = self.to;
+                self.last = Some(Step::Long);
+                Ok(Some(Step::Long))
+            }
+        }
+    }
+
+    /// Reads once, where nothing is ready, or says why it brought nothing.
+    fn fill<S: Source>(&mut self, source: &mut S) -> Option<Step>
+        requires going { self.old.last ≡ None }
+        requires given { self.old.ready ≡ [] }
+        ensures read { Fills (S.left source.old) (S.left source.new) (S.faults source.old) (S.faults source.new) self.old self.new result }
+        ensures told { is_some (S.left source.new) ≡ is_some (S.left source.old) }
+    {
+        self.from = 0;
+        self.to = 0;
+        let most = room_below(self.taken);
+        if most < 1 {
+            self.last = Some(Step::Limit);
+            return Some(Step::Limit);
+        }
+        match read_most(source, &mut self.bytes, most) {
+            Ok(0) => {
+                self.last = Some(Step::End);
+                Some(Step::End)
+            }
+            Ok(n) => {
+                self.to = n;
+                self.taken += n as u64;
+                None
+            }
+            Err(Failed) => {
+                self.last = Some(Step::Failed);
+                Some(Step::Failed)
+            }
+        }
+    }
+}
+
+/// What a piece of a line is.
+#[derive(Clone, Copy, Debug)]
+pub enum Piece {
+    /// The line's last, with an LF at this place after it.
+    Whole(usize),
+    /// All bytes, without an LF.
+    Part,
+    /// More bytes than the line has room for.
+    TooMany,
+}
+
+/// Moves `ready`, up to its first LF, to the end of `line`, where the line has room for it.
+fn move_piece(ready: &[u8], line: &mut Vec<u8>) -> Result<Piece, OutOfMemory>
+    requires { vec_len line.old ≤ LINE_LIMIT }
+    ensures { IfOk result (MovesPiece ready.now line.old.items line.new.items) }
+{
+    let room = LINE_LIMIT - line.len();
+    match find_lf(ready) {
+        Some(n) => {
+            if room < n {
+                return Ok(Piece::TooMany);
+            }
+            line.extend_from_slice(&ready[..n])?;
+            Ok(Piece::Whole(n))
+        }
+        None => {
+            if room < ready.len() {
+                return Ok(Piece::TooMany);
+            }
+            line.extend_from_slice(ready)?;
+            Ok(Piece::Part)
+        }
+    }
+}
+
+/// The place of the first LF.
+fn find_lf(bytes: &[u8]) -> Option<usize>
+    ensures { MatchOption result (HasNoLf bytes.now) (FirstLfAt bytes.now) }
+{
+    memchr(b'\n', bytes)
+}
+
+/// The answer where a read brought nothing: at the source's end, a line that was begun is whole.
+fn last_step(step: Step, is_empty: bool) -> Step
+    ensures { result ≡ step_after step is_empty }
+{
+    match step {
+        Step::End => { if is_empty { Step::End } else { Step::Line } }
+        other => other,
+    }
+}
+
+/// How many bytes the next read may bring, where `taken` were taken.
+fn room_below(taken: u64) -> usize
+    requires { taken ≤ CORPUS_LIMIT }
+    ensures { result ≡ min ROOM (CORPUS_LIMIT - taken) }
+{
+    let left = CORPUS_LIMIT - taken;
+    ROOM.min(left as usize)
+}
+
+/// Reads once into the first `most` bytes of `buf`.
+fn read_most<S: Source>(source: &mut S, buf: &mut [u8], most: usize) -> Result<usize, Failed>
+    requires within { most ≤ length buf.old }
+    requires some { 1 ≤ most }
+    ensures bound { IfOk result (λ n. n ≤ most) }
+    ensures bytes { MatchResult result
+        (λ n. Consumes (S.left source.old) (S.left source.new) (take n buf.new) × (n ≡ 0 → IsAtEnd (S.left source.new)))
+        (λ _. Keeps (S.left source.old) (S.left source.new)) }
+    ensures told { is_some (S.left source.new) ≡ is_some (S.left source.old) }
+    ensures cause { HasCause (S.faults source.old) (S.faults source.new) result }
+{
+    source.read(&mut buf[..most])
+}
