@@ -1,3 +1,4 @@
 pub mod Sinks
 pub mod Lists
 pub mod FileLemmas
+pub mod Documents
