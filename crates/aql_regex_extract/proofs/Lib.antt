@@ -1,1 +1,4 @@
 pub mod Trees
+pub mod CapturedRows
+pub mod SearchSteps
+pub mod MatchesAlike

@@ -1,5 +1,5 @@
 -- The tree of a text against what the `regex` crate says of an expression that it built, or refused to build.
-use Rattle.std.proofs.Common.{◌≡◌, ◌≢◌, ◌⊎◌, inl, inr, ℕ, ◌-◌, ◌<◌, ◌≤◌, List, length, Option, Some, None, IsSome, IsSomeAnd, refl, ap, sym, ◌∙◌, arith, IfSome}
+use Rattle.std.proofs.Common.{◌≡◌, ◌≢◌, ◌⊎◌, inl, inr, ℕ, ◌-◌, ◌<◌, ◌≤◌, List, length, Option, Some, None, IsSomeAnd, refl, ap, sym, subst, arith, IfSome}
 use Rattle.std.proofs.lemmas.Bool.Decides.{nat_tests}
 use Rattle.std.specs.Str.{chars}
 use Rattle.regex.specs.Patterns.{Re, SameCaptures, Config, default_config, Reads, Refuses}
@@ -13,6 +13,7 @@ use Rattle.regex_syntax.specs.Grammar.{Names, group_count, read}
 use Rattle.regex_syntax.specs.declared.error.ErrorKind.{ErrorKind}
 use Rattle.regex_syntax.specs.declared.error.ErrorKind.TheVariants.{OutOfMemory, NestLimitExceeded}
 use Rattle.aql_regex_extract.specs.Patterns.{tree_of, tree_within, group_count_of, groups_within}
+use Rattle.aql_regex_extract.specs.Views.{IsBuiltFrom, Finds}
 
 found_tree : (hir : Hir) (names : Names) (o : Option (Nested Re × Names)) →
     IsSomeAnd o (λ (re, got). (re.depth ≤ 250) × SameCaptures (meaning hir) re.value × (names ≡ got) × (group_count (meaning hir) ≤ length names)) →
@@ -65,3 +66,13 @@ pub group_count_of-regex : (r : Regex) (text : List ℕ) → regex_source r ≡ 
     group_count_of text ≡ length (regex_names r) - 1
 group_count_of-regex r text source config is_read =
     group_count_of-Reads text r.pattern.program.hir (names_of r.pattern.names.items) (rw (source, config) at is_read)
+
+-- an expression that is built from a text finds what the text stands for
+pub Finds-built : (r : Regex) (text : List ℕ) → IsBuiltFrom text r → Finds (regex_pattern r) text
+Finds-built r text h =
+    let tree = tree_of-regex r text h.source h.config h.read in
+    subst (λ (o : Option Re). IsSomeAnd o (SameCaptures (regex_pattern r))) (sym tree.1) tree.2
+
+-- a matcher of an expression that is built from a text
+pub Finds-matcher : (re : Re) (r : Regex) (made text : List ℕ) → re ≡ regex_pattern r → IsBuiltFrom made r → made ≡ text → Finds re text
+Finds-matcher re r made text same h is = rw (same, ← is) (Finds-built r made h)

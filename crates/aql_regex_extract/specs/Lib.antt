@@ -2,3 +2,7 @@
 pub mod Patterns
 -- what contracts see of the compiled types
 pub mod Views
+-- what a pattern finds
+pub mod Matches
+-- one step of a search
+pub mod Steps

@@ -1,9 +1,9 @@
 -- What contracts see of a compiled pattern: its text.
-use Rattle.std.specs.Prelude.{◌≡◌, ℕ, List}
-use Rattle.regex.specs.Patterns.{default_config}
+use Rattle.std.specs.Prelude.{◌≡◌, ℕ, List, IsSomeAnd}
+use Rattle.regex.specs.Patterns.{Re, SameCaptures, default_config}
 use Rattle.regex.specs.Strings.{regex_source, regex_config, IsReadFromSource}
 use Rattle.regex.specs.declared.string.regex.Regex.{Regex}
-use Rattle.aql_regex_extract.specs.Patterns.{group_count_of, whole_form}
+use Rattle.aql_regex_extract.specs.Patterns.{tree_of, group_count_of, whole_form}
 use Rattle.aql_regex_extract.specs.declared.pattern.Pattern.TheInside.{Inside}
 
 -- the expression is the one that the text stands for
@@ -20,3 +20,7 @@ pub record IsCompiled (p : Inside) : Type 0 where
   pub plain : IsBuiltFrom (pattern_text p) p.plain
   pub whole : IsBuiltFrom (whole_form (pattern_text p)) p.whole
   pub groups : p.groups ≡ group_count_of (pattern_text p)
+
+-- an expression finds what the text stands for
+abbrev pub Finds : Re → List ℕ → Type 0
+Finds re text = IsSomeAnd (tree_of text) (SameCaptures re)

@@ -7,5 +7,8 @@
 #![tactic(auto)]
 
 mod pattern;
+mod rows;
+mod search;
 
 pub use pattern::{Pattern, PatternFault, compile_pattern};
+pub use search::Searcher;

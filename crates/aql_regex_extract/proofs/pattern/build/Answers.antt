@@ -1,5 +1,5 @@
-use Rattle.std.proofs.Common.{◌≡◌, ap, ◌∙◌, refl, true}
-use Rattle.regex.specs.Patterns.{Config, default_config}
+use Rattle.std.proofs.Common.{ap, ◌∙◌, refl, true}
+use Rattle.regex.specs.Patterns.{Config}
 use Rattle.aql_regex_extract.proofs.Trees.{tree_of-regex, no_tree-refused}
 use Rattle.aql_regex_extract.proofs.pattern.build.Goals as goal
 

@@ -1,4 +1,4 @@
-use Rattle.std.proofs.Common.{arith, sym, ◌∙◌}
+use Rattle.std.proofs.Common.{arith}
 use Rattle.aql_regex_extract.proofs.Trees.{group_count_of-regex}
 use Rattle.aql_regex_extract.proofs.pattern.groups_of.Goals as goal
 

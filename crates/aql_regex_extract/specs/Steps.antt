@@ -1,0 +1,22 @@
+-- One step of a search through the text of an extent: what it finds, and what it puts after the rows so far.
+use Rattle.std.specs.Prelude.{◌≡◌, ℕ, ◌++◌, List, [], Option, Some, None, MatchOption, nat_le, if◌then◌else◌}
+use Rattle.regex.specs.Patterns.{Match}
+use Rattle.span_token.specs.Documents.{Doc}
+use Rattle.span_token.specs.Extents.{Extent}
+use Rattle.aql_regex_extract.specs.Matches.{row_of}
+
+-- the row of a match that ends at or after `least`, and else nothing
+abbrev pub row_from : ℕ → Doc → Extent → List ℕ → Match → List (Option Extent)
+row_from least d source groups m = if nat_le least m.trace.end then row_of d source groups m else []
+
+-- a match was found, and its row put after the others, if it ends at or after `least`
+pub record PushesMatch (least : ℕ) (d : Doc) (source : Extent) (groups : List ℕ) (found : Option Match) (old new : List (Option Extent)) (end : ℕ) : Type 0 where
+  pub it : Match
+  pub is_found : found ≡ Some it
+  pub ends : end ≡ it.trace.end
+  pub pushed : new ≡ old ++ row_from least d source groups it
+
+-- the answer of a search is the end of what was found
+abbrev pub Pushes : ℕ → Doc → Extent → List ℕ → Option Match → List (Option Extent) → List (Option Extent) → Option ℕ → Type 0
+Pushes least d source groups found old new answer =
+    MatchOption answer ((found ≡ None) × (new ≡ old)) (PushesMatch least d source groups found old new)
