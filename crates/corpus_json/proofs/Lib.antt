@@ -5,3 +5,5 @@ pub mod LineCuts
 -- how a reader of lines comes to its answer
 pub mod Windows
 pub mod UnderWay
+-- what a run of a reader's calls gave, after one more answer
+pub mod Givens
