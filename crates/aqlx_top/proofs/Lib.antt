@@ -2,3 +2,4 @@ pub mod Sinks
 pub mod Lists
 pub mod FileLemmas
 pub mod Documents
+pub mod Readings

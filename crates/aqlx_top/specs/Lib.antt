@@ -7,3 +7,6 @@ pub mod Devices
 pub mod Prefixes
 -- statuses and their lines on standard error
 pub mod Statuses
+-- what was taken from the corpus, and a run under way
+pub mod Taken
+pub mod Progress
