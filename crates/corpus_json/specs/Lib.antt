@@ -2,6 +2,8 @@
 pub mod Lines
 -- what a reader of lines took and gave
 pub mod Reading
+-- a reader that holds its source
+pub mod Readers
 -- what a run of its calls gave so far
 pub mod Given
 -- how a reader puts a line together
