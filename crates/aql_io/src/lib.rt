@@ -34,3 +34,6 @@ pub use real_source::RealSource;
 pub use sink::Sink;
 pub use source::Source;
 pub use sure_source::SureSource;
+
+#[cfg(test)]
+mod tests;
