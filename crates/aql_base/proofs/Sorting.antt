@@ -1,5 +1,5 @@
 -- Laws of lists in order: the sorted list is in order and the same bag, and no other list is.
-use Rattle.std.proofs.Common.{◌≡◌, ℕ, zero, suc, ◌+◌, Bool, true, false, cond, List, [], ◌∷◌, get_or, refl, sym, ap, subst, ◌∙◌, arith, All, true≢false}
+use Rattle.std.proofs.Common.{◌≡◌, ℕ, zero, suc, ◌+◌, ◌<◌, length, map, Bool, true, false, cond, List, [], ◌∷◌, get_or, refl, sym, ap, subst, ◌∙◌, arith, All, true≢false}
 use Rattle.std.specs.Cmp.{IsTotalOrder}
 use Rattle.std.specs.List.{IsAllAdjacentAnswer}
 use Rattle.std.specs.Prelude.{IsTrue, ◌↔◌}
@@ -8,6 +8,7 @@ use Rattle.std.specs.Ordering.{is_lt, is_le, is_gt, ordering_reverse}
 use Rattle.std.specs.declared.cmp.Ordering.{Ordering}
 use Rattle.std.specs.declared.cmp.Ordering.TheVariants.{Less, Equal, Greater}
 use Rattle.std.proofs.lemmas.Cmp.{upto}
+use Rattle.std.proofs.lemmas.List.{length-map, get_or-map}
 use Rattle.std.proofs.lemmas.List.Elements.{All-cons, All-weaker}
 use Rattle.std.proofs.lemmas.List.Sorted.{IsPermutation-refl, IsPermutation-sym, IsPermutation-trans, IsPermutation-cons, All-permutation, Contains-permutation, length_permutation, sorted_far, ranks_by}
 use Rattle.aql_base.specs.Bags.{SameBag}
@@ -138,3 +139,10 @@ module _ {X : Type 0} {cmp : X → X → Ordering} (order : IsTotalOrder cmp) wh
   sorted_from_answer xs true h = (λ e k d low high. after_not order (get_or xs k d) (get_or xs (k + 1) d) (not_greater (cmp (get_or xs k d) (get_or xs (k + 1) d)) (h k d high)), λ up. refl)
   sorted_from_answer [] false h = absurd (omega (arith, h.1))
   sorted_from_answer (x ∷ xs) false h = (λ e. absurd (true≢false (sym e)), λ up. absurd (true≢false (sym (greater (cmp (get_or (x ∷ xs) h.0 x) (get_or (x ∷ xs) (h.0 + 1) x)) (h.2 x)) ∙ not_after order (get_or (x ∷ xs) h.0 x) (get_or (x ∷ xs) (h.0 + 1) x) (up h.0 x (omega arith) h.1))))
+
+-- what is in order by its images has them in order
+pub IsSorted-map : {X Y : Type 0} (cmp : X → X → Ordering) (f : Y → X) (ys : List Y) → IsSorted (λ a b. cmp (f a) (f b)) ys → IsSorted cmp (map f ys)
+IsSorted-map cmp f [] h = λ k d low high. absurd (omega arith)
+IsSorted-map cmp f (y ∷ ys) h = λ k d low high.
+    let below : k + 1 < length (y ∷ ys) = omega (arith, length-map (y ∷ ys) f) in
+    rw (get_or-map f (y ∷ ys) k y d (omega arith), get_or-map f (y ∷ ys) (k + 1) y d below) (h k y low below)

@@ -1,10 +1,12 @@
 -- The rows in row order: one list for a bag.
-use Rattle.std.proofs.Common.{◌≡◌, List}
+use Rattle.std.proofs.Common.{map, subst, ◌≡◌, List}
+use Rattle.std.specs.List.Sorted.{IsPermutation, IsSorted}
+use Rattle.std.proofs.lemmas.List.Sorted.{IsPermutation-map}
 use Rattle.aql_base.specs.Bags.{SameBag}
 use Rattle.aql_base.proofs.Bags.{SameBag-sym, SameBag-trans, SameBag-is}
-use Rattle.aql_base.proofs.Sorting.{SameBag-sorted_by, IsSorted-sorted_by, sorted_by-unique, sorted_by-SameBag, sorted_by-in_order}
+use Rattle.aql_base.proofs.Sorting.{IsSorted-map, SameBag-sorted_by, IsSorted-sorted_by, sorted_by-unique, sorted_by-SameBag, sorted_by-in_order}
 use Rattle.row_values.specs.Datums.{Datum}
-use Rattle.row_values.specs.Rows.{IsInOrder, sorted}
+use Rattle.row_values.specs.Rows.{row_cmp, IsInOrder, sorted}
 use Rattle.row_values.specs.RowOrder.{row_cmp_total, row_cmp_exact}
 
 pub IsInOrder-sorted : (rows : List (List Datum)) → IsInOrder (sorted rows)
@@ -31,3 +33,8 @@ sorted-SameBag xs ys bag = sorted_by-SameBag row_cmp_total row_cmp_exact xs ys b
 
 pub SameBag-from_sorted : (xs ys : List (List Datum)) → sorted xs ≡ sorted ys → SameBag xs ys
 SameBag-from_sorted xs ys e = SameBag-trans xs (sorted ys) ys (SameBag-trans xs (sorted xs) (sorted ys) (SameBag-sorted xs) (SameBag-is (sorted xs) (sorted ys) e)) (SameBag-sym ys (sorted ys) (SameBag-sorted ys))
+
+-- a sort of what shows the rows sorts the rows
+pub sorted-from_shown : {R : Type 0} (shown : R → List Datum) (rows : List (List Datum)) (before after : List R) → map shown before ≡ rows → IsPermutation before after → IsSorted (λ a b. row_cmp (shown a) (shown b)) after → map shown after ≡ sorted rows
+sorted-from_shown shown rows before after is moved up =
+    sorted-unique rows (map shown after) (IsSorted-map row_cmp shown after up) (subst (λ xs. IsPermutation xs (map shown after)) is (IsPermutation-map shown before after moved))

@@ -30,7 +30,8 @@ pub fn compare_rows(a: &Row<'_>, b: &Row<'_>) -> Ordering
 
 /// Whether no row comes before the one in front of it. It takes one pass.
 pub fn is_in_order(rows: &Rows<'_>) -> bool
-    ensures { IsTrue result ↔ IsInOrder rows.now.rows }
+    ensures order { IsTrue result ↔ IsInOrder rows.now.rows }
+    ensures sorted { IsTrue result ↔ (sorted rows.now.rows ≡ rows.now.rows) }
 {
     rows.as_slice().is_sorted()
 }

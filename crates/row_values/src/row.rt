@@ -1,28 +1,31 @@
-ghost use Rattle.std.specs.Prelude.{◌≡◌, ◌<◌, ◌^◌, length, map, slice_index_or};
+ghost use Rattle.std.specs.Prelude.{◌≡◌, ◌<◌, ◌^◌, ◌++◌, ◌∷◌, [], length, map, slice_index_or, IfOk, OnOk, OnErr};
 ghost use Rattle.std.specs.Vec.{vec_len};
 ghost use Rattle.row_values.specs.Datums.{datum_of};
 
 use crate::Value;
+use smallvec::SmallVec;
+use span_token::OutOfMemory;
+use std::alloc::Global;
 use std::cmp::Ordering;
 use std::hash::{Hash, Hasher};
 use std::marker::Model;
 
-/// A row: a list of values, fewer than 2^32.
+/// A row: a list of values, fewer than 2^32. Up to four values take no memory of their own.
 #[derive(Debug, Drop)]
 pub struct Row<'d> {
-    values: Vec<Value<'d>>,
+    values: SmallVec<Value<'d>, 4>,
 }
 
 impl<'d> Model for Row<'d> {
     ghost use Rattle.std.specs.Prelude.{◌<◌, ◌^◌, List, map};
-    ghost use Rattle.std.specs.Vec.{vec_len};
     ghost use Rattle.row_values.specs.Datums.{Datum, datum_of};
+    ghost use Rattle.smallvec.specs.SmallVec.{small_vec_len};
 
     ghost Value = { List Datum };
 
     ghost view = { λ row. map datum_of row.values.items };
 
-    ghost invariant = { λ row. vec_len row.values < 2 ^ 32 };
+    ghost invariant = { λ row. small_vec_len row.values < 2 ^ 32 };
 }
 
 impl<'d> Row<'d> {
@@ -31,7 +34,83 @@ impl<'d> Row<'d> {
         requires few { vec_len values < 2 ^ 32 }
         ensures values { result ≡ map datum_of values.entry.items }
     {
+        Row {
+            values: SmallVec::from_vec(values),
+        }
+    }
+
+    /// The row of no value, to be filled. It takes no memory.
+    pub fn empty(alloc: Global) -> Row<'d>
+        ensures { result ≡ [] }
+    {
+        Row {
+            values: SmallVec::new(alloc),
+        }
+    }
+
+    /// The row of one value. It takes no memory.
+    pub fn single(alloc: Global, value: Value<'d>) -> Row<'d>
+        ensures { result ≡ datum_of value.entry ∷ [] }
+    {
+        let mut values = SmallVec::new(alloc);
+        values.push_reserved(value);
         Row { values }
+    }
+
+    /// The row of the given values, in their order.
+    pub fn copied(alloc: Global, values: &[Value<'d>]) -> Result<Row<'d>, OutOfMemory>
+        ensures { IfOk result (λ row. row ≡ map datum_of values.now) }
+    {
+        let mut row = Row::empty(alloc);
+        row.extend(values)?;
+        Ok(row)
+    }
+
+    /// A copy of the row.
+    pub fn copy(&self, alloc: Global) -> Result<Row<'d>, OutOfMemory>
+        ensures { IfOk result (λ row. row ≡ self.now) }
+    {
+        Row::copied(alloc, self.values())
+    }
+
+    /// The row, followed by `values`.
+    pub fn followed_by(&self, alloc: Global, values: &[Value<'d>]) -> Result<Row<'d>, OutOfMemory>
+        ensures { IfOk result (λ row. row ≡ self.now ++ map datum_of values.now) }
+    {
+        let mut row = self.copy(alloc)?;
+        row.extend(values)?;
+        Ok(row)
+    }
+
+    /// The row, followed by the values of `other`.
+    pub fn joined(&self, alloc: Global, other: &Row<'d>) -> Result<Row<'d>, OutOfMemory>
+        ensures { IfOk result (λ row. row ≡ self.now ++ other.now) }
+    {
+        self.followed_by(alloc, other.values())
+    }
+
+    /// Puts `value` after the others. After want of memory the row is as it was.
+    pub fn push(&mut self, value: Value<'d>) -> Result<(), OutOfMemory>
+        ensures ok { OnOk result (self.new ≡ self.old ++ datum_of value.entry ∷ []) }
+        ensures err { OnErr result (self.new ≡ self.old) }
+    {
+        if self.values.len() >= u32::MAX as usize {
+            return Err(OutOfMemory);
+        }
+        self.values.push(value)?;
+        Ok(())
+    }
+
+    /// Puts `values` after the others, in their order. After want of memory the row is as it was.
+    pub fn extend(&mut self, values: &[Value<'d>]) -> Result<(), OutOfMemory>
+        ensures ok { OnOk result (self.new ≡ self.old ++ map datum_of values.now) }
+        ensures err { OnErr result (self.new ≡ self.old) }
+    {
+        if values.len() > u32::MAX as usize - self.values.len() {
+            return Err(OutOfMemory);
+        }
+        self.values.extend_from_slice(values)?;
+        Ok(())
     }
 
     /// The number of values.
@@ -46,7 +125,7 @@ impl<'d> Row<'d> {
         requires in_range { i < length self.now }
         ensures value { datum_of result ≡ slice_index_or self.now i (datum_of result) }
     {
-        self.values[i as usize]
+        self.values()[i as usize]
     }
 
     /// The values, borrowed, in their order.

@@ -89,6 +89,35 @@ impl<'d> Rows<'d> {
         self.rows.as_slice()
     }
 
+    /// A copy of the list.
+    pub fn copy(&self, alloc: Global) -> Result<Rows<'d>, OutOfMemory>
+        ensures { IfOk result (λ copy. copy ≡ self.now) }
+    {
+        let rows = copy_rows(alloc, self.rows.as_slice())?;
+        Ok(Rows {
+            width: self.width,
+            rows,
+        })
+    }
+
+    /// The rows, borrowed, in row order. Rows that are in order take one pass.
+    pub fn sorted(&self, alloc: Global) -> Result<Vec<&Row<'d>>, OutOfMemory>
+        ensures { IfOk result (λ out. map (λ row. row.now) out.items ≡ sorted self.now.rows) }
+    {
+        let mut out = self.borrowed(alloc)?;
+        if !self.rows.as_slice().is_sorted() {
+            out.sort_unstable();
+        }
+        Ok(out)
+    }
+
+    /// The rows, borrowed, in their order.
+    fn borrowed(&self, alloc: Global) -> Result<Vec<&Row<'d>>, OutOfMemory>
+        ensures { IfOk result (λ out. map (λ row. row.now) out.items ≡ self.now.rows) }
+    {
+        Ok(self.rows.as_slice().iter().collect(alloc)?)
+    }
+
     /// Puts the rows in row order.
     pub(crate) fn sort(&mut self)
         ensures { self.new ≡ record { width = self.old.width; rows = sorted self.old.rows } }
@@ -97,4 +126,15 @@ impl<'d> Rows<'d> {
             self.rows.sort_unstable();
         }
     }
+}
+
+/// Copies of the rows.
+fn copy_rows<'d>(alloc: Global, rows: &[Row<'d>]) -> Result<Vec<Row<'d>>, OutOfMemory>
+    ensures { IfOk result (λ copies. copies.items ≡ rows.now) }
+{
+    let mut copies = Vec::with_capacity(alloc, rows.len())?;
+    for row in rows {
+        copies.push(row.copy(alloc)?)?;
+    }
+    Ok(copies)
 }

@@ -9,4 +9,4 @@ use Rattle.row_values.proofs.row.RowHash.hash.Goals as goal
 pub returns : goal.returns
 returns g c = rw (← c.self.view_is)
     (c.hash.ensures ∙ ap (fold g.H.Hasher.write c.args.state.now)
-    (ap (fed.slice (λ (v : Value). datum_input (datum_of v))) c.as_slice.ensures.value ∙ row_input-values c.self.inside.values.items))
+    (ap (fed.slice (λ (v : Value). datum_input (datum_of v))) c.as_slice.ensures ∙ row_input-values c.self.inside.values.items))
