@@ -1,12 +1,12 @@
 -- What an expression finds is what the text of its pattern means.
-use Rattle.std.proofs.Common.{◌≡◌, ℕ, zero, suc, ◌*◌, ◌+◌, ◌<◌, ◌++◌, List, [], ◌∷◌, map, get_or, true, Option, Some, None, IsSomeAnd, refl, sym, ap, ap₂, ◌∙◌}
+use Rattle.std.proofs.Common.{◌≡◌, ℕ, zero, suc, ◌*◌, ◌+◌, ◌<◌, ◌++◌, List, [], ◌∷◌, map, get_or, true, Option, Some, None, IsSomeAnd, is_some, option_and_then, refl, sym, ap, ap₂, ◌∙◌}
 use Rattle.std.specs.List.{flat_map}
-use Rattle.regex.specs.Patterns.{Re, Match, SameCaptures, find_all_str}
+use Rattle.regex.specs.Patterns.{Re, Match, SameCaptures, find_str, find_all_str}
 use Rattle.regex.specs.Writes.{both}
-use Rattle.regex.proofs.ForCallers.{spans, find_all_alike}
+use Rattle.regex.proofs.ForCallers.{spans, find_all_alike, is_match_alike}
 use Rattle.span_token.specs.Documents.{Doc}
 use Rattle.span_token.specs.Extents.{Extent}
-use Rattle.aql_regex_extract.specs.Matches.{group_in, row_by, row_of, matches_by, matches_of}
+use Rattle.aql_regex_extract.specs.Matches.{group_in, row_by, row_of, matches_by, matches_of, has_match}
 use Rattle.aql_regex_extract.specs.Patterns.{tree_of}
 use Rattle.aql_regex_extract.specs.Views.{Finds}
 use Rattle.aql_regex_extract.proofs.CapturedRows.{row_by-alike}
@@ -48,3 +48,31 @@ rows-by re (Some tree) hay d source groups finds bytes = rows-alike re tree hay 
 pub rows-of_pattern : (re : Re) (pattern hay : List ℕ) (d : Doc) (source : Extent) (groups : List ℕ) → Finds re pattern → ((k : ℕ) → get_or hay k 0 < 256) →
     flat_map (row_of d source groups) (find_all_str re hay) ≡ flat_map (row_of d source groups) (matches_of pattern hay)
 rows-of_pattern re pattern hay d source groups finds bytes = rows-by re (tree_of pattern) hay d source groups finds bytes
+
+found-by : (re : Re) (o : Option Re) (hay : List ℕ) → IsSomeAnd o (SameCaptures re) → ((k : ℕ) → get_or hay k 0 < 256) →
+    is_some (find_str re hay 0) ≡ is_some (option_and_then (λ tree. find_str tree hay 0) o)
+found-by re None hay finds bytes = absurd finds
+found-by re (Some tree) hay finds bytes = is_match_alike finds hay bytes true 0
+
+-- an expression matches somewhere in a text where the pattern does
+pub has_match-of_pattern : (re : Re) (pattern hay : List ℕ) → Finds re pattern → ((k : ℕ) → get_or hay k 0 < 256) →
+    is_some (find_str re hay 0) ≡ has_match pattern hay
+has_match-of_pattern re pattern hay finds bytes = found-by re (tree_of pattern) hay finds bytes
+
+list-seen : (d : Doc) (source : Extent) (groups : List ℕ) (ms : List Match) →
+    map (row_of d source groups) ms ≡ map (λ (s : Seen). row_by d source groups (seen_group s)) (map spans ms)
+list-seen d source groups [] = refl
+list-seen d source groups (m ∷ ms) = ap₂ ◌∷◌ (row_of-seen d source groups m) (list-seen d source groups ms)
+
+list-by : (re : Re) (o : Option Re) (hay : List ℕ) (d : Doc) (source : Extent) (groups : List ℕ) → IsSomeAnd o (SameCaptures re) → ((k : ℕ) → get_or hay k 0 < 256) →
+    map (row_of d source groups) (find_all_str re hay) ≡ map (row_of d source groups) (matches_by o hay)
+list-by re None hay d source groups finds bytes = absurd finds
+list-by re (Some tree) hay d source groups finds bytes =
+    list-seen d source groups (find_all_str re hay)
+    ∙ ap (map (λ (s : Seen). row_by d source groups (seen_group s))) (find_all_alike finds hay bytes true)
+    ∙ sym (list-seen d source groups (find_all_str tree hay))
+
+-- the same with a list for each row
+pub list-of_pattern : (re : Re) (pattern hay : List ℕ) (d : Doc) (source : Extent) (groups : List ℕ) → Finds re pattern → ((k : ℕ) → get_or hay k 0 < 256) →
+    map (row_of d source groups) (find_all_str re hay) ≡ map (row_of d source groups) (matches_of pattern hay)
+list-of_pattern re pattern hay d source groups finds bytes = list-by re (tree_of pattern) hay d source groups finds bytes

@@ -1,5 +1,5 @@
 -- The next match after one that ended, by searches from a place on.
-use Rattle.std.proofs.Common.{◌≡◌, ℕ, ◌+◌, ◌-◌, ◌<◌, ◌≤◌, ◌++◌, List, [], length, true, Option, Some, None, sym, ap, ap₂, ◌∙◌, ⊎_elim, subst, append_assoc, arith}
+use Rattle.std.proofs.Common.{◌≡◌, ℕ, ◌+◌, ◌-◌, ◌<◌, ◌≤◌, ◌++◌, List, [], ◌∷◌, map, length, true, Option, Some, None, sym, ap, ap₂, ◌∙◌, ⊎_elim, subst, append_assoc, arith}
 use Rattle.std.proofs.lemmas.List.{append-nil}
 use Rattle.std.proofs.lemmas.Option.{none-some, same_Some}
 use Rattle.regex_hir.proofs.OptionLemmas.{option_cases}
@@ -95,3 +95,32 @@ pub PushesMatch-of_same : (a b : Re) (hay : List ℕ) (d : Doc) (source : Extent
     a ≡ b → PushesMatch 0 d source groups (next_match true a hay after) old new end → PushesMatch 0 d source groups (next_match true b hay after) old new end
 PushesMatch-of_same a b hay d source groups after old new end same h =
     subst (λ (re : Re). PushesMatch 0 d source groups (next_match true re hay after) old new end) same h
+
+-- ---- the same with a list for each row
+
+-- the rows of the rest of a search
+abbrev pub rest_list : Doc → Extent → List ℕ → Re → List ℕ → ℕ → List (List (Option Extent))
+rest_list d source groups re hay after = map (row_of d source groups) (matches_after true re hay after)
+
+module _ (re : Re) (hay : List ℕ) (d : Doc) (source : Extent) (groups : List ℕ) where
+  pub rest_list-step : (after : ℕ) (rows : List (List (Option Extent))) (row : List (Option Extent)) (end : ℕ) →
+      PushesMatch 0 d source groups (next_match true re hay after) [] row end →
+      (rows ++ row ∷ []) ++ rest_list d source groups re hay (end + 1) ≡ rows ++ rest_list d source groups re hay after
+  rest_list-step after rows row end h =
+      let all = search_lemmas.matches_after_some re hay true after h.it h.is_found in
+      let is_row : row ≡ row_of d source groups h.it = h.pushed ∙ row_from-enough 0 d source groups h.it (omega arith) in
+      append_assoc rows (row ∷ []) (rest_list d source groups re hay (end + 1))
+      ∙ ap (λ rest. rows ++ rest)
+      (ap₂ (λ r e. r ∷ rest_list d source groups re hay (e + 1)) is_row h.ends ∙ ap (map (row_of d source groups)) (sym all))
+
+  pub rest_list-none : (after : ℕ) → next_match true re hay after ≡ None → rest_list d source groups re hay after ≡ []
+  rest_list-none after none = ap (map (row_of d source groups)) (search_lemmas.matches_after_none re hay true after none)
+
+  pub rest_list-past : (end : ℕ) → length hay ≤ end → rest_list d source groups re hay (end + 1) ≡ []
+  rest_list-past end past = ⊎_elim
+      (rest_list-none (end + 1))
+      (λ (some : (x : Match) × (_ ≡ Some x)). absurd (omega (arith, search_lemmas.next_within re hay true (end + 1) some.0 some.1)))
+      (option_cases (next_match true re hay (end + 1)))
+
+  pub rest_list-all : rest_list d source groups re hay 0 ≡ map (row_of d source groups) (find_all_str re hay)
+  rest_list-all = ap (map (row_of d source groups)) (search_lemmas.matches_after_text re hay)

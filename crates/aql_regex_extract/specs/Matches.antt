@@ -5,6 +5,7 @@ use Rattle.regex.specs.Patterns.{Re, Match, find_str, find_all_str, span}
 use Rattle.regex.specs.Writes.{group_of}
 use Rattle.span_token.specs.Documents.{Doc, text_in, moved}
 use Rattle.span_token.specs.Extents.{Extent, extent_of}
+use Rattle.std.specs.declared.vec.Vec.{Vec}
 use Rattle.span_token.specs.declared.span.Span.{Span}
 use Rattle.aql_regex_extract.specs.Patterns.{tree_of}
 
@@ -57,3 +58,7 @@ extents_of = map (option_map extent_of)
 -- a span, where there is one, lies in the source
 abbrev pub IsInside : Extent → Option Span → Type 0
 IsInside source o = IfSome o (λ s. (source.begin ≤ s.begin) × (s.end ≤ source.end))
+
+-- what the spans of each row say
+abbrev pub extents_of_rows : {A : Type 0} → List (Vec (Option Span) A) → List (List (Option Extent))
+extents_of_rows = map (λ row. extents_of row.items)

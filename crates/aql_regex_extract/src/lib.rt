@@ -6,9 +6,15 @@
 //! `span_token` for documents and spans.
 #![tactic(auto)]
 
+mod find;
+mod list;
 mod pattern;
 mod rows;
 mod search;
+mod searcher;
+mod whole;
 
+pub use find::{find_all, has_match, matches_whole};
 pub use pattern::{Pattern, PatternFault, compile_pattern};
-pub use search::Searcher;
+pub use searcher::Searcher;
+pub use whole::WholeSearcher;

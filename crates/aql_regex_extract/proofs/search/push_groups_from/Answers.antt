@@ -3,7 +3,7 @@ use Rattle.std.proofs.lemmas.List.{append-nil}
 use Rattle.span_token.specs.Extents.{extent_of}
 use Rattle.aql_regex_extract.specs.Matches.{extents_of}
 use Rattle.aql_regex_extract.proofs.CapturedRows.{row_of-captures, row_from-enough, row_from-early, end-captures}
-use Rattle.aql_regex_extract.proofs.search.push_from.Goals as goal
+use Rattle.aql_regex_extract.proofs.search.push_groups_from.Goals as goal
 
 pub returns-in_ok-push_groups-clause-found : goal.returns-in_ok-push_groups-clause-found
 returns-in_ok-push_groups-clause-found c =

@@ -1,5 +1,5 @@
 use Rattle.aql_regex_extract.proofs.Trees.{Finds-matcher}
-use Rattle.aql_regex_extract.proofs.search.Searcher.new.Goals as goal
+use Rattle.aql_regex_extract.proofs.searcher.Searcher.new.Goals as goal
 
 pub invariant_of-result : goal.invariant_of-result
 invariant_of-result c =

@@ -1,0 +1,94 @@
+ghost use Rattle.std.specs.Prelude.{◌≡◌, ◌++◌, ◌≤◌, map, IfOk, OnOk, All};
+ghost use Rattle.span_token.specs.Documents.{LiesIn, text_in};
+ghost use Rattle.span_token.specs.Extents.{extent_of};
+ghost use Rattle.aql_regex_extract.specs.Matches.{has_match, match_rows, flat_rows, extents_of, extents_of_rows, IsInside};
+
+use crate::list::list_found;
+use crate::pattern::Pattern;
+use crate::search::{has_found, push_found};
+use regex::Matcher;
+use span_token::{Document, OutOfMemory, Span};
+use std::alloc::Global;
+use std::marker::Model;
+
+/// What searches for one pattern, made once and kept while documents go by. Contracts see it as the
+/// pattern's text.
+#[derive(Drop)]
+pub struct Searcher<'p> {
+    pattern: &'p Pattern,
+    matcher: Matcher<'p>,
+}
+
+impl<'p> Model for Searcher<'p> {
+    ghost use Rattle.std.specs.Prelude.{ℕ, List};
+    ghost use Rattle.regex.specs.Strings.{matcher_pattern};
+    ghost use Rattle.aql_regex_extract.specs.Views.{Finds};
+
+    ghost Value = { List ℕ };
+
+    ghost view = { λ s. s.pattern.now };
+
+    ghost invariant = { λ s. Finds (matcher_pattern s.matcher) s.pattern.now };
+}
+
+impl<'p> Searcher<'p> {
+    /// A searcher for `pattern`.
+    pub fn new(alloc: Global, pattern: &'p Pattern) -> Result<Searcher<'p>, OutOfMemory>
+        ensures { IfOk result (λ s. s ≡ pattern.now) }
+    {
+        let matcher = pattern.plain.matcher(alloc)?;
+        Ok(Searcher { pattern, matcher })
+    }
+
+    /// All successive matches in the text of `source`, put after what `into` holds: for each match, in
+    /// order, one entry for each number in `groups`, None for a group that takes no part.
+    ///
+    /// After want of memory no clause says what `into` holds after what it held.
+    ///
+    /// Meaning: `flat_rows`, `specs/Matches.antt`.
+    pub fn find_all(
+        &mut self,
+        doc: &Document<'_>,
+        source: Span,
+        groups: &[u32],
+        into: &mut Vec<Option<Span>>,
+    ) -> Result<(), OutOfMemory>
+        requires in_document { LiesIn (extent_of source) doc.now }
+        ensures matches { OnOk result (extents_of into.new.items ≡ extents_of into.old.items
+            ++ flat_rows self.old doc.now (extent_of source) groups.now) }
+        ensures within { All (IsInside (extent_of source)) into.old.items
+            → OnOk result (All (IsInside (extent_of source)) into.new.items) }
+        ensures same { self.new ≡ self.old }
+    {
+        let text = doc.text_of(source);
+        push_found(&mut self.matcher, doc, source, text, groups, into)
+    }
+
+    /// The same, with a list for each match.
+    ///
+    /// Meaning: `match_rows`, `specs/Matches.antt`.
+    pub fn find_rows(
+        &mut self,
+        alloc: Global,
+        doc: &Document<'_>,
+        source: Span,
+        groups: &[u32],
+    ) -> Result<Vec<Vec<Option<Span>>>, OutOfMemory>
+        requires in_document { LiesIn (extent_of source) doc.now }
+        ensures matches { IfOk result (λ rows. extents_of_rows rows.items
+            ≡ match_rows self.old doc.now (extent_of source) groups.now) }
+        ensures within { IfOk result (λ rows. All (λ row. All (IsInside (extent_of source)) row.items) rows.items) }
+        ensures same { self.new ≡ self.old }
+    {
+        let text = doc.text_of(source);
+        list_found(alloc, &mut self.matcher, doc, source, text, groups)
+    }
+
+    /// Whether the pattern matches somewhere in `text`.
+    pub fn has_match(&mut self, text: &str) -> bool
+        ensures found { result ≡ has_match self.old text.now }
+        ensures same { self.new ≡ self.old }
+    {
+        has_found(&mut self.matcher, text)
+    }
+}
