@@ -3,3 +3,4 @@ pub mod Lists
 pub mod FileLemmas
 pub mod Documents
 pub mod Readings
+pub mod Turns

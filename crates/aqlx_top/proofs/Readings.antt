@@ -38,10 +38,10 @@ after_lf : (left : Option (List ℕ)) (given ready more line : List ℕ) (lines 
     → IsReadTo left (given ++ more) (lines ++ line ∷ []) now
 after_lf left given ready more line lines now split whole unended ends =
     let all : given ++ more ≡ joined (lines ++ line ∷ []) ++ now.ready =
-        more_given given ready more lines split
-        ∙ ap (λ (bs : List ℕ). joined lines ++ bs) (ends.split ∙ sym (append_assoc line (10 ∷ []) now.ready))
-        ∙ sym (append_assoc (joined lines) (line ++ 10 ∷ []) now.ready)
-        ∙ ap (λ (bs : List ℕ). bs ++ now.ready) (sym (joined-push lines line)) in
+    more_given given ready more lines split
+    ∙ ap (λ (bs : List ℕ). joined lines ++ bs) (ends.split ∙ sym (append_assoc line (10 ∷ []) now.ready))
+    ∙ sym (append_assoc (joined lines) (line ++ 10 ∷ []) now.ready)
+    ∙ ap (λ (bs : List ℕ). bs ++ now.ready) (sym (joined-push lines line)) in
     let each : All HasNoLf (lines ++ line ∷ []) = All-append HasNoLf lines (line ∷ []) whole (All-cons HasNoLf line [] unended.no_lf (All-nil HasNoLf)) in
     rw ends.going (all, each)
 
@@ -53,9 +53,9 @@ after_end : (left : Option (List ℕ)) (given ready more line : List ℕ) (lines
 after_end left given ready more line lines now split whole unended counted ends =
     let some : line ≢ [] = λ none. ends.some (ends.whole ∙ none) in
     let all : lines_of true (given ++ more) ≡ lines ++ line ∷ [] =
-        ap (lines_of true) (more_given given ready more lines split ∙ ap (λ (bs : List ℕ). joined lines ++ bs) ends.whole)
-        ∙ lines_with true lines line whole unended.no_lf
-        ∙ ap (λ (ls : List (List ℕ)). lines ++ ls) (last_line-ended line some) in
+    ap (lines_of true) (more_given given ready more lines split ∙ ap (λ (bs : List ℕ). joined lines ++ bs) ends.whole)
+    ∙ lines_with true lines line whole unended.no_lf
+    ∙ ap (λ (ls : List (List ℕ)). lines ++ ls) (last_line-ended line some) in
     let below : length (given ++ more) < CORPUS_LIMIT = rw counted ends.below in
     rw (ap (λ (r : Reading). r.last) ends.ended) (refl, all, ends.at_end, below)
 
@@ -67,8 +67,8 @@ pub line_read : (left_before left_now : Option (List ℕ)) (faults_before faults
     → IsReadTo left_now (given ++ next.more) (lines ++ line ∷ []) now
 line_read left_before left_now faults_before faults_now given line lines ready taken None now counted read next =
     elim next.answer.1 [
-    | inl ends ↦ after_lf left_now given ready next.more line lines now read.0 read.1 next.answer.0 ends
-    | inr ends ↦ after_end left_now given ready next.more line lines now read.0 read.1 next.answer.0 (count_given given next.more taken now.taken counted next.counted) ends
+      | inl ends ↦ after_lf left_now given ready next.more line lines now read.0 read.1 next.answer.0 ends
+      | inr ends ↦ after_end left_now given ready next.more line lines now read.0 read.1 next.answer.0 (count_given given next.more taken now.taken counted next.counted) ends
     ]
 line_read left_before left_now faults_before faults_now given line lines ready taken (Some last) now counted read next =
     let other : Line ≡ End = next.answer.0 ∙ read.0 in absurd (cc)
@@ -97,9 +97,9 @@ pub end_read : (left_before left_now : Option (List ℕ)) (faults_before faults_
     → (lines_of true (given ++ next.more) ≡ lines) × IsAtEnd left_now × (length (given ++ next.more) < CORPUS_LIMIT)
 end_read left_before left_now faults_before faults_now given line lines ready taken None now counted told read next =
     let all : lines_of true (given ++ next.more) ≡ lines =
-        ap (lines_of true) (more_given given ready next.more lines read.0 ∙ ap (λ (bs : List ℕ). joined lines ++ bs) next.answer.0)
-        ∙ lines_with true lines [] read.1 (All-nil _)
-        ∙ append-nil lines in
+    ap (lines_of true) (more_given given ready next.more lines read.0 ∙ ap (λ (bs : List ℕ). joined lines ++ bs) next.answer.0)
+    ∙ lines_with true lines [] read.1 (All-nil _)
+    ∙ append-nil lines in
     let many : length (given ++ next.more) ≡ now.taken = count_given given next.more taken now.taken counted next.counted in
     let below : length (given ++ next.more) < CORPUS_LIMIT = rw many next.answer.2 in
     (all, next.answer.1, below)
@@ -140,9 +140,9 @@ pub long_read : (left_before left_now : Option (List ℕ)) (faults_before faults
 long_read left_before left_now faults_before faults_now given line lines ready taken None now read next =
     let long = lines_of-too_long false (ready ++ next.more) next.answer.0 in
     let all : lines_of false (given ++ next.more) ≡ lines ++ long.first ∷ long.later =
-        ap (lines_of false) (more_given given ready next.more lines read.0)
-        ∙ lines_of-joined false lines (ready ++ next.more) read.1
-        ∙ ap (λ (ls : List (List ℕ)). lines ++ ls) long.split in
+    ap (lines_of false) (more_given given ready next.more lines read.0)
+    ∙ lines_of-joined false lines (ready ++ next.more) read.1
+    ∙ ap (λ (ls : List (List ℕ)). lines ++ ls) long.split in
     (long.first, long.later, all, long.long)
 long_read left_before left_now faults_before faults_now given line lines ready taken (Some last) now read next =
     let other : Long ≡ End = next.answer.0 ∙ read.0 in absurd (cc)

@@ -10,3 +10,6 @@ pub mod Statuses
 -- what was taken from the corpus, and a run under way
 pub mod Taken
 pub mod Progress
+-- what a program means, and what the top call promises
+pub mod Run
+pub mod Outcome

@@ -1,5 +1,5 @@
--- A run under way.
-use Rattle.std.specs.Prelude.{◌≡◌, ℕ, ◌<◌, true, List, ◌++◌, length, All, Option, MatchOption}
+-- A run under way, and how it ends.
+use Rattle.std.specs.Prelude.{◌≡◌, ℕ, ◌<◌, ◌≤◌, true, List, ◌++◌, length, All, Option, MatchOption}
 use Rattle.std.specs.List.{flat_map}
 use Rattle.std.specs.Io.KnownBytes.{Appends, Consumes, IsAtEnd}
 use Rattle.span_token.specs.Documents.{Doc}
@@ -9,7 +9,13 @@ use Rattle.corpus_json.specs.declared.step.Step.TheVariants.{End}
 use Rattle.corpus_json.specs.Documents.{documents}
 use Rattle.corpus_json.specs.Lines.{lines_of, joined, HasNoLf}
 use Rattle.corpus_json.specs.Reading.{Reading}
-use Rattle.aqlx_top.specs.Taken.{HasNoBadLine}
+use Rattle.aqlx_top.specs.declared.status.Status.{Status}
+use Rattle.aqlx_top.specs.Devices.{SourceEnds}
+use Rattle.aqlx_top.specs.Taken.{How, is_at_end, IsTaken, IsStatusOf, HasNoBadLine}
+
+-- what is written for the documents of lines, one piece for each
+abbrev pub written_for : (Doc → List ℕ) → List (List ℕ) → List ℕ
+written_for piece lines = flat_map piece (documents lines)
 
 -- of the bytes that were taken these lines were given: with what is ready they are all bytes; or the source is at its end, and they are all lines
 abbrev pub IsReadTo : Option (List ℕ) → List ℕ → List (List ℕ) → Reading → Type 0
@@ -19,15 +25,36 @@ IsReadTo left given lines reading =
     (λ last. (last ≡ End) × (lines_of true given ≡ lines) × IsAtEnd left × (length given < CORPUS_LIMIT))
 
 -- where a run stands between two lines: what was taken, the lines that were looked at, none of them bad, and what of
--- their meaning is sent; the rest of it is pending. `piece` is what is written for a document
-pub record Stands (piece : Doc → List ℕ) (left_before left_now held_before held_now : Option (List ℕ)) (reading : Reading) (pending : List ℕ) (number : ℕ) : Type 0 where
+-- their meaning is sent; the rest of it is pending
+pub record Stands (piece : Doc → List ℕ) (corpus : SourceEnds) (held_before held_now : Option (List ℕ)) (reading : Reading) (pending : List ℕ) (number : ℕ) : Type 0 where
   pub given : List ℕ
   pub lines : List (List ℕ)
   pub sent : List ℕ
-  pub taken : Consumes left_before left_now given
+  pub taken : Consumes corpus.left_before corpus.left_after given
+  pub later : corpus.faults_before ≤ corpus.faults_after
   pub counted : reading.taken ≡ length given
-  pub read : IsReadTo left_now given lines reading
+  pub read : IsReadTo corpus.left_after given lines reading
   pub good : HasNoBadLine lines
   pub gained : Appends held_before held_now sent
-  pub wrote : sent ++ pending ≡ flat_map piece (documents lines)
+  pub wrote : sent ++ pending ≡ written_for piece lines
   pub numbered : number ≡ length lines
+
+-- a run that came to its end with this status: what it means is sent, but for what is pending
+pub record Finished (piece : Doc → List ℕ) (corpus : SourceEnds) (held_before held_now : Option (List ℕ)) (pending : List ℕ) (status : Status) : Type 0 where
+  pub given : List ℕ
+  pub how : How
+  pub sent : List ℕ
+  pub taken : IsTaken corpus given how
+  pub status_is : IsStatusOf how (lines_of (is_at_end how) given) status
+  pub gained : Appends held_before held_now sent
+  pub wrote : sent ++ pending ≡ written_for piece (lines_of (is_at_end how) given)
+
+-- a run at any moment: a prefix of what is meant by what was taken is sent
+pub record InPart (piece : Doc → List ℕ) (corpus : SourceEnds) (held_before held_now : Option (List ℕ)) : Type 0 where
+  pub given : List ℕ
+  pub how : How
+  pub sent : List ℕ
+  pub rest : List ℕ
+  pub taken : IsTaken corpus given how
+  pub gained : Appends held_before held_now sent
+  pub prefix : sent ++ rest ≡ written_for piece (lines_of (is_at_end how) given)

@@ -6,6 +6,7 @@
 //! and documents, and on `aql_regex_extract` for patterns.
 #![tactic(auto)]
 
+mod extraction;
 mod first_form;
 mod program_file;
 mod put;

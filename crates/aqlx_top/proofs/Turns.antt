@@ -1,0 +1,298 @@
+-- One turn of a run: a line is looked at, or the run ends.
+use Rattle.std.proofs.Common.{◌≡◌, ◌≢◌, ℕ, ◌+◌, ◌<◌, ◌≤◌, ◌^◌, ◌-◌, min, Bool, true, false, not, List, [], ◌∷◌, ◌++◌, length, take, drop, All, ap, ap₂, sym, subst, ◌∙◌, refl, append_assoc, arith, length-append, Option, Some, None, is_some, take-append-drop}
+use Rattle.std.proofs.lemmas.List.{append-nil}
+use Rattle.std.proofs.lemmas.List.Elements.{All-append, All-cons, All-nil}
+use Rattle.std.specs.List.{flat_map}
+use Rattle.std.proofs.lemmas.Bool.{lt-ltb}
+use Rattle.std.specs.Io.KnownBytes.{Appends, Consumes, IsAtEnd}
+use Rattle.aql_io.specs.Causes.{Rose}
+use Rattle.span_token.specs.Documents.{Doc}
+use Rattle.corpus_json.specs.declared.limits.TheConstants.{LINE_LIMIT, CORPUS_LIMIT}
+use Rattle.corpus_json.specs.declared.step.Step.{Step}
+use Rattle.corpus_json.specs.declared.step.Step.TheVariants.{Line, End, Long, Failed, Limit}
+use Rattle.corpus_json.specs.Documents.{documents, is_bad_line, is_too_long}
+use Rattle.corpus_json.specs.Lines.{lines_of, joined, HasNoLf}
+use Rattle.corpus_json.specs.Reading.{Reading, NextLine, Took}
+use Rattle.aqlx_top.specs.declared.status.Status.{Status}
+use Rattle.aqlx_top.specs.declared.status.Status.TheVariants.{Done, Corpus, ReadFault}
+use Rattle.aqlx_top.specs.declared.status.CorpusFault.TheVariants.{BadLine, LineLong, CorpusLarge}
+use Rattle.aqlx_top.specs.Devices.{SourceEnds, source_ends}
+use Rattle.aqlx_top.specs.Progress.{Stands, Finished, InPart, IsReadTo, written_for}
+use Rattle.aqlx_top.specs.Taken.{How, at_end, failed, at_limit, left_off, is_at_end, IsTaken, HasNoBadLine, IsFirstBad}
+use Rattle.aqlx_top.proofs.Documents.{pieces-append, documents_from_bad}
+use Rattle.aqlx_top.proofs.Readings.{IsLeftOff, lines_so_far, line_read, end_read, failed_read, limit_read, long_read}
+use Rattle.aqlx_top.proofs.Sinks.{appends_more}
+
+-- two reads in a row
+pub consumes_more : (a b c : Option (List ℕ)) (xs ys : List ℕ) → Consumes a b xs → Consumes b c ys → Consumes a c (xs ++ ys)
+consumes_more None b c xs ys h k = tt
+consumes_more (Some a) None c xs ys h k = absurd h
+consumes_more (Some a) (Some b) None xs ys h k = absurd k
+consumes_more (Some a) (Some b) (Some c) xs ys h k = h ∙ ap (λ (zs : List ℕ). xs ++ zs) k ∙ sym (append_assoc xs ys c)
+
+-- a count that rose in a later call rose
+pub rose_later : (a b c : ℕ) → a ≤ b → Rose b c → Rose a c
+rose_later a b c h k = omega arith
+
+-- a reading that is left off, or at its end, is how a run took what it took
+taken_so_far : (left_before left_now : Option (List ℕ)) (faults_before faults_now : ℕ) (given : List ℕ) (how : How)
+    → Consumes left_before left_now given → IsLeftOff left_now given how
+    → IsTaken (source_ends left_before left_now faults_before faults_now) given how
+taken_so_far left_before left_now faults_before faults_now given how taken off =
+    record { taken = taken; ended = off.ended; broken = λ e. absurd (off.broken e); full = λ e. absurd (off.full e) }
+
+-- what is sent and pending is the beginning of what is meant, where the lines are the first ones
+prefix_of : (piece : Doc → List ℕ) (sent pending : List ℕ) (lines after all : List (List ℕ)) → HasNoBadLine lines
+    → sent ++ pending ≡ written_for piece lines → all ≡ lines ++ after
+    → sent ++ (pending ++ written_for piece after) ≡ written_for piece all
+prefix_of piece sent pending lines after all good wrote split =
+    sym (append_assoc sent pending (written_for piece after))
+    ∙ ap (λ (bs : List ℕ). bs ++ written_for piece after) wrote
+    ∙ sym (pieces-append piece lines after good)
+    ∙ ap (written_for piece) (sym split)
+
+-- where lines were read to, a prefix of what they mean is sent
+part_at : (piece : Doc → List ℕ) (left_before left_now : Option (List ℕ)) (faults_before faults_now : ℕ) (held_before held_now : Option (List ℕ)) (given : List ℕ) (lines more : List (List ℕ)) (reading : Reading) (sent pending : List ℕ)
+    → Consumes left_before left_now given → IsReadTo left_now given (lines ++ more) reading → HasNoBadLine lines
+    → Appends held_before held_now sent → sent ++ pending ≡ written_for piece lines
+    → InPart piece (source_ends left_before left_now faults_before faults_now) held_before held_now
+part_at piece left_before left_now faults_before faults_now held_before held_now given lines more reading sent pending taken read good gained wrote =
+    let so_far = lines_so_far left_now given (lines ++ more) reading.ready reading.taken reading.last read in
+    record {
+      given = given;
+      how = so_far.0;
+      sent = sent;
+      rest = pending ++ written_for piece (more ++ so_far.1);
+      taken = taken_so_far left_before left_now faults_before faults_now given so_far.0 taken so_far.3;
+      gained = gained;
+      prefix = prefix_of piece sent pending lines (more ++ so_far.1) _ good wrote (so_far.2 ∙ append_assoc lines more so_far.1);
+    }
+
+-- between two lines
+pub part_of : (piece : Doc → List ℕ) (left_before left_now : Option (List ℕ)) (faults_before faults_now : ℕ) (held_before held_now : Option (List ℕ)) (reading : Reading) (pending : List ℕ) (number : ℕ)
+    → Stands piece (source_ends left_before left_now faults_before faults_now) held_before held_now reading pending number
+    → InPart piece (source_ends left_before left_now faults_before faults_now) held_before held_now
+part_of piece left_before left_now faults_before faults_now held_before held_now reading pending number s =
+    part_at piece left_before left_now faults_before faults_now held_before held_now s.given s.lines [] reading s.sent pending s.taken
+    (rw (append-nil s.lines) s.read) s.good s.gained s.wrote
+
+-- what is pending is sent whole
+pub sent_whole : (piece : Doc → List ℕ) (corpus : SourceEnds) (held_before held_now held_next : Option (List ℕ)) (reading : Reading) (pending : List ℕ) (number : ℕ)
+    → Stands piece corpus held_before held_now reading pending number
+    → Appends held_now held_next pending
+    → Stands piece corpus held_before held_next reading [] number
+sent_whole piece corpus held_before held_now held_next reading pending number s h =
+    record {
+      given = s.given;
+      lines = s.lines;
+      sent = s.sent ++ pending;
+      taken = s.taken;
+      later = s.later;
+      counted = s.counted;
+      read = s.read;
+      good = s.good;
+      gained = appends_more held_before held_now held_next s.sent pending s.gained h;
+      wrote = append-nil (s.sent ++ pending) ∙ s.wrote;
+      numbered = s.numbered;
+    }
+
+-- what is pending is sent in part
+pub sent_in_part : (piece : Doc → List ℕ) (corpus : SourceEnds) (held_before held_now held_next : Option (List ℕ)) (count : ℕ) (pending : List ℕ)
+    → (part : InPart piece corpus held_before held_now) (whole : List ℕ) → part.rest ≡ pending ++ whole
+    → Appends held_now held_next (take count pending)
+    → InPart piece corpus held_before held_next
+sent_in_part piece corpus held_before held_now held_next count pending part whole begins h =
+    record {
+      given = part.given;
+      how = part.how;
+      sent = part.sent ++ take count pending;
+      rest = drop count pending ++ whole;
+      taken = part.taken;
+      gained = appends_more held_before held_now held_next part.sent (take count pending) part.gained h;
+      prefix =
+        append_assoc part.sent (take count pending) (drop count pending ++ whole)
+        ∙ ap (λ (bs : List ℕ). part.sent ++ bs) (sym (append_assoc (take count pending) (drop count pending) whole) ∙ ap (λ (bs : List ℕ). bs ++ whole) (take-append-drop count pending) ∙ sym begins)
+        ∙ part.prefix;
+    }
+
+-- nothing is meant by what stands from a bad line on
+ended_before : (piece : Doc → List ℕ) (sent pending : List ℕ) (lines : List (List ℕ)) (line : List ℕ) (after all : List (List ℕ)) → HasNoBadLine lines
+    → is_bad_line line ≡ true → sent ++ pending ≡ written_for piece lines → all ≡ lines ++ line ∷ after
+    → sent ++ pending ≡ written_for piece all
+ended_before piece sent pending lines line after all good bad wrote split =
+    let none : written_for piece (line ∷ after) ≡ [] = ap (flat_map piece) (documents_from_bad line after bad) in
+    wrote
+    ∙ sym (append-nil (written_for piece lines))
+    ∙ ap (λ (bs : List ℕ). written_for piece lines ++ bs) (sym none)
+    ∙ sym (pieces-append piece lines (line ∷ after) good)
+    ∙ ap (written_for piece) (sym split)
+
+-- a line that isn't bad was looked at, and what is written for it is pending
+pub next_line_good : (piece : Doc → List ℕ) (left_before left_now left_next : Option (List ℕ)) (faults_before faults_now faults_next : ℕ) (held_before held_now : Option (List ℕ)) (reading next_reading : Reading) (pending gain line : List ℕ) (number next_number : ℕ)
+    → Stands piece (source_ends left_before left_now faults_before faults_now) held_before held_now reading pending number
+    → NextLine left_now left_next faults_now faults_next reading next_reading line Line
+    → faults_now ≤ faults_next
+    → is_bad_line line ≡ false
+    → gain ≡ written_for piece (line ∷ [])
+    → next_number ≡ number + 1
+    → Stands piece (source_ends left_before left_next faults_before faults_next) held_before held_now next_reading (pending ++ gain) next_number
+next_line_good piece left_before left_now left_next faults_before faults_now faults_next held_before held_now reading next_reading pending gain line number next_number s next later good gains counts =
+    record {
+      given = s.given ++ next.more;
+      lines = s.lines ++ line ∷ [];
+      sent = s.sent;
+      taken = consumes_more left_before left_now left_next s.given next.more s.taken next.consumed;
+      later = let before = s.later in omega arith;
+      counted = let e = length-append s.given next.more in let before = s.counted in let counted = next.counted in omega arith;
+      read = line_read left_now left_next faults_now faults_next s.given line s.lines reading.ready reading.taken reading.last next_reading s.counted s.read next;
+      good = All-append (λ (each : List ℕ). is_bad_line each ≡ false) s.lines (line ∷ []) s.good (All-cons (λ (each : List ℕ). is_bad_line each ≡ false) line [] good (All-nil (λ (each : List ℕ). is_bad_line each ≡ false)));
+      gained = s.gained;
+      wrote =
+        sym (append_assoc s.sent pending gain)
+        ∙ ap₂ (λ (bs cs : List ℕ). bs ++ cs) s.wrote gains
+        ∙ sym (pieces-append piece s.lines (line ∷ []) s.good);
+      numbered = let e = length-append s.lines (line ∷ []) in let before = s.numbered in counts ∙ (let after : number + 1 ≡ length (s.lines ++ line ∷ []) = omega arith in after);
+    }
+
+-- a line was looked at, and memory was wanting for what is written for it
+pub part_of_next : (piece : Doc → List ℕ) (left_before left_now left_next : Option (List ℕ)) (faults_before faults_now faults_next : ℕ) (held_before held_now : Option (List ℕ)) (reading next_reading : Reading) (pending line : List ℕ) (number : ℕ)
+    → Stands piece (source_ends left_before left_now faults_before faults_now) held_before held_now reading pending number
+    → NextLine left_now left_next faults_now faults_next reading next_reading line Line
+    → InPart piece (source_ends left_before left_next faults_before faults_next) held_before held_now
+part_of_next piece left_before left_now left_next faults_before faults_now faults_next held_before held_now reading next_reading pending line number s next =
+    part_at piece left_before left_next faults_before faults_next held_before held_now (s.given ++ next.more) s.lines (line ∷ []) next_reading s.sent pending
+    (consumes_more left_before left_now left_next s.given next.more s.taken next.consumed)
+    (line_read left_now left_next faults_now faults_next s.given line s.lines reading.ready reading.taken reading.last next_reading s.counted s.read next)
+    s.good s.gained s.wrote
+
+-- a bad line was looked at
+pub ended_bad : (piece : Doc → List ℕ) (left_before left_now left_next : Option (List ℕ)) (faults_before faults_now faults_next : ℕ) (held_before held_now : Option (List ℕ)) (reading next_reading : Reading) (pending line : List ℕ) (number next_number : ℕ)
+    → Stands piece (source_ends left_before left_now faults_before faults_now) held_before held_now reading pending number
+    → NextLine left_now left_next faults_now faults_next reading next_reading line Line
+    → is_bad_line line ≡ true
+    → is_too_long line ≡ false
+    → next_number ≡ number + 1
+    → Finished piece (source_ends left_before left_next faults_before faults_next) held_before held_now pending (Corpus (BadLine next_number))
+ended_bad piece left_before left_now left_next faults_before faults_now faults_next held_before held_now reading next_reading pending line number next_number s next bad short counts =
+    let read = line_read left_now left_next faults_now faults_next s.given line s.lines reading.ready reading.taken reading.last next_reading s.counted s.read next in
+    let so_far = lines_so_far left_next (s.given ++ next.more) (s.lines ++ line ∷ []) next_reading.ready next_reading.taken next_reading.last read in
+    let all : lines_of (is_at_end so_far.0) (s.given ++ next.more) ≡ s.lines ++ line ∷ so_far.1 = so_far.2 ∙ append_assoc s.lines (line ∷ []) so_far.1 in
+    record {
+      given = s.given ++ next.more;
+      how = so_far.0;
+      sent = s.sent;
+      taken = taken_so_far left_before left_next faults_before faults_next (s.given ++ next.more) so_far.0 (consumes_more left_before left_now left_next s.given next.more s.taken next.consumed) so_far.3;
+      status_is = record {
+        before = s.lines;
+        line = line;
+        after = so_far.1;
+        split = all;
+        good = s.good;
+        bad = bad;
+        reason = short;
+        numbered = counts ∙ ap (λ (n : ℕ). n + 1) s.numbered;
+      };
+      gained = s.gained;
+      wrote = ended_before piece s.sent pending s.lines line so_far.1 (lines_of (is_at_end so_far.0) (s.given ++ next.more)) s.good bad s.wrote all;
+    }
+
+-- the next line is too long
+pub ended_long : (piece : Doc → List ℕ) (left_before left_now left_next : Option (List ℕ)) (faults_before faults_now faults_next : ℕ) (held_before held_now : Option (List ℕ)) (reading next_reading : Reading) (pending line : List ℕ) (number next_number : ℕ)
+    → Stands piece (source_ends left_before left_now faults_before faults_now) held_before held_now reading pending number
+    → NextLine left_now left_next faults_now faults_next reading next_reading line Long
+    → next_number ≡ number + 1
+    → Finished piece (source_ends left_before left_next faults_before faults_next) held_before held_now pending (Corpus (LineLong next_number))
+ended_long piece left_before left_now left_next faults_before faults_now faults_next held_before held_now reading next_reading pending line number next_number s next counts =
+    let long = long_read left_now left_next faults_now faults_next s.given line s.lines reading.ready reading.taken reading.last next_reading s.read next in
+    let is_long : is_too_long long.0 ≡ true = lt-ltb LINE_LIMIT (length long.0) long.3 in
+    let bad : is_bad_line long.0 ≡ true = rw is_long refl in
+    record {
+      given = s.given ++ next.more;
+      how = left_off;
+      sent = s.sent;
+      taken = record {
+        taken = consumes_more left_before left_now left_next s.given next.more s.taken next.consumed;
+        ended = λ e. absurd (cc);
+        broken = λ e. absurd (cc);
+        full = λ e. absurd (cc);
+      };
+      status_is = record {
+        before = s.lines;
+        line = long.0;
+        after = long.1;
+        split = long.2;
+        good = s.good;
+        bad = bad;
+        reason = is_long;
+        numbered = counts ∙ ap (λ (n : ℕ). n + 1) s.numbered;
+      };
+      gained = s.gained;
+      wrote = ended_before piece s.sent pending s.lines long.0 long.1 (lines_of false (s.given ++ next.more)) s.good bad s.wrote long.2;
+    }
+
+-- the source is at its end
+pub ended_done : (piece : Doc → List ℕ) (left_before left_now left_next : Option (List ℕ)) (faults_before faults_now faults_next : ℕ) (held_before held_now : Option (List ℕ)) (reading next_reading : Reading) (pending line : List ℕ) (number : ℕ)
+    → Stands piece (source_ends left_before left_now faults_before faults_now) held_before held_now reading pending number
+    → NextLine left_now left_next faults_now faults_next reading next_reading line End
+    → is_some left_next ≡ is_some left_now
+    → Finished piece (source_ends left_before left_next faults_before faults_next) held_before held_now pending Done
+ended_done piece left_before left_now left_next faults_before faults_now faults_next held_before held_now reading next_reading pending line number s next told =
+    let end = end_read left_now left_next faults_now faults_next s.given line s.lines reading.ready reading.taken reading.last next_reading s.counted told s.read next in
+    record {
+      given = s.given ++ next.more;
+      how = at_end;
+      sent = s.sent;
+      taken = record {
+        taken = consumes_more left_before left_now left_next s.given next.more s.taken next.consumed;
+        ended = λ e. (end.1, end.2);
+        broken = λ e. absurd (cc);
+        full = λ e. absurd (cc);
+      };
+      status_is = (refl, subst HasNoBadLine (sym end.0) s.good);
+      gained = s.gained;
+      wrote = s.wrote ∙ ap (written_for piece) (sym end.0);
+    }
+
+-- a read failed
+pub ended_failed : (piece : Doc → List ℕ) (left_before left_now left_next : Option (List ℕ)) (faults_before faults_now faults_next : ℕ) (held_before held_now : Option (List ℕ)) (reading next_reading : Reading) (pending line : List ℕ) (number : ℕ)
+    → Stands piece (source_ends left_before left_now faults_before faults_now) held_before held_now reading pending number
+    → NextLine left_now left_next faults_now faults_next reading next_reading line Failed
+    → Finished piece (source_ends left_before left_next faults_before faults_next) held_before held_now pending ReadFault
+ended_failed piece left_before left_now left_next faults_before faults_now faults_next held_before held_now reading next_reading pending line number s next =
+    let end = failed_read left_now left_next faults_now faults_next s.given line s.lines reading.ready reading.taken reading.last next_reading s.counted s.read next in
+    record {
+      given = s.given ++ next.more;
+      how = failed;
+      sent = s.sent;
+      taken = record {
+        taken = consumes_more left_before left_now left_next s.given next.more s.taken next.consumed;
+        ended = λ e. absurd (cc);
+        broken = λ e. (rose_later faults_before faults_now faults_next s.later end.1, end.2);
+        full = λ e. absurd (cc);
+      };
+      status_is = (refl, subst HasNoBadLine (sym end.0) s.good);
+      gained = s.gained;
+      wrote = s.wrote ∙ ap (written_for piece) (sym end.0);
+    }
+
+-- the corpus has reached its limit
+pub ended_limit : (piece : Doc → List ℕ) (left_before left_now left_next : Option (List ℕ)) (faults_before faults_now faults_next : ℕ) (held_before held_now : Option (List ℕ)) (reading next_reading : Reading) (pending line : List ℕ) (number : ℕ)
+    → Stands piece (source_ends left_before left_now faults_before faults_now) held_before held_now reading pending number
+    → NextLine left_now left_next faults_now faults_next reading next_reading line Limit
+    → Finished piece (source_ends left_before left_next faults_before faults_next) held_before held_now pending (Corpus CorpusLarge)
+ended_limit piece left_before left_now left_next faults_before faults_now faults_next held_before held_now reading next_reading pending line number s next =
+    let end = limit_read left_now left_next faults_now faults_next s.given line s.lines reading.ready reading.taken reading.last next_reading s.counted s.read next in
+    record {
+      given = s.given ++ next.more;
+      how = at_limit;
+      sent = s.sent;
+      taken = record {
+        taken = consumes_more left_before left_now left_next s.given next.more s.taken next.consumed;
+        ended = λ e. absurd (cc);
+        broken = λ e. absurd (cc);
+        full = λ e. end.1;
+      };
+      status_is = (refl, subst HasNoBadLine (sym end.0) s.good);
+      gained = s.gained;
+      wrote = s.wrote ∙ ap (written_for piece) (sym end.0);
+    }

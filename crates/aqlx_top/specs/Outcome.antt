@@ -1,0 +1,112 @@
+-- The promise of the top call: what each answer says of the words, the files, the corpus and what was written.
+use Rattle.std.specs.Prelude.{◌≡◌, ◌≢◌, ℕ, ◌<◌, ◌⊎◌, true, List, [], length, take, Option, Some, Result, Ok, Err, IfSome, IsSomeAnd, IsErr}
+use Rattle.span_token.specs.declared.refusal.OutOfMemory.{OutOfMemory}
+use Rattle.corpus_json.specs.declared.limits.TheConstants.{CORPUS_LIMIT}
+use Rattle.corpus_json.specs.Lines.{lines_of}
+use Rattle.aqlx_top.specs.declared.status.Status.{Status}
+use Rattle.aqlx_top.specs.declared.status.Status.TheVariants.{Done, Program as Refused, Usage, Corpus, ReadFault, WriteFault}
+use Rattle.aqlx_top.specs.declared.status.ProgramFault.{ProgramFault}
+use Rattle.aqlx_top.specs.declared.status.ProgramFault.TheVariants.{Syntax}
+use Rattle.aqlx_top.specs.declared.status.CorpusFault.{CorpusFault}
+use Rattle.aqlx_top.specs.Devices.{FilesEnds, SourceEnds, SinkEnds, FilesFailed, SourceFailed, SinkFailed, Gained, IsUntouched}
+use Rattle.aqlx_top.specs.FirstForm.{Form, IsFirstForm}
+use Rattle.aqlx_top.specs.Run.{Program, Ran, RanInPart}
+use Rattle.aqlx_top.specs.Taken.{HasNoBadLine}
+use Rattle.aqlx_top.specs.Statuses.{HasLine, HasLinePart}
+use Rattle.aqlx_top.specs.Words.{IsRun, IsNoRun}
+
+-- what a call is given, and what it did
+pub record Call : Type 0 where
+  pub words : List (List ℕ)
+  pub files : FilesEnds
+  pub corpus : SourceEnds
+  pub out : SinkEnds
+  pub err : SinkEnds
+
+-- the program that a form stands for
+abbrev pub program_of : Form → Program
+program_of form = record { view = form.view; pattern = form.pattern; column = form.column }
+
+-- the words name a program file that holds this program
+pub record IsCalledFor (call : Call) (program : Program) : Type 0 where
+  pub name : List ℕ
+  pub text : List ℕ
+  pub form : Form
+  pub words : IsRun call.words name
+  pub file : IfSome call.files.told (λ names. names name ≡ Some text)
+  pub reads : IsFirstForm text form
+  pub stands_for : program ≡ program_of form
+
+-- the called program ran to this status, and all that it means before it is written and flushed
+pub record RanTo (call : Call) (status : Status) : Type 0 where
+  pub program : Program
+  pub called : IsCalledFor call program
+  pub ran : Ran program call.corpus call.out status
+
+-- the called program ran, and a prefix of what it means is written
+pub record RanTowards (call : Call) : Type 0 where
+  pub program : Program
+  pub called : IsCalledFor call program
+  pub ran : RanInPart program call.corpus call.out
+
+-- whatever a call answers: what it wrote is nothing, or a prefix of what the called program means
+abbrev pub WroteFront : Call → Type 0
+WroteFront call = Gained call.out [] ⊎ RanTowards call
+
+-- the words ask for a run, and nothing is done with the output
+pub record StoppedBefore (call : Call) : Type 0 where
+  pub name : List ℕ
+  pub words : IsRun call.words name
+  pub untouched : IsUntouched call.out
+
+-- the cause of each status, before its line is written
+abbrev pub HasCauseOf : Call → Status → Type 0
+HasCauseOf call Done = RanTo call Done
+HasCauseOf call (Refused (Syntax fault)) = (fault.statement ≡ 1) × (fault.line ≡ 1) × StoppedBefore call
+HasCauseOf call Usage = IsNoRun call.words × IsUntouched call.out
+HasCauseOf call (Corpus fault) = RanTo call (Corpus fault)
+HasCauseOf call ReadFault = (FilesFailed call.files × StoppedBefore call) ⊎ RanTo call ReadFault
+HasCauseOf call WriteFault = SinkFailed call.out × RanTowards call
+
+-- a status in whose place a failed write of its line is answered
+pub record LineFailed (call : Call) : Type 0 where
+  pub replaced : Status
+  pub cause : HasCauseOf call replaced
+  pub failed : SinkFailed call.err
+  pub part : HasLinePart call.err replaced
+
+-- what an answer says: each status has its cause and its line; a failed write is one of the output or of that line
+abbrev pub IsAnswered : Call → Result Status OutOfMemory → Type 0
+IsAnswered call (Ok WriteFault) = (HasCauseOf call WriteFault × IsUntouched call.err) ⊎ LineFailed call
+IsAnswered call (Ok status) = HasCauseOf call status × HasLine call.err status
+IsAnswered call (Err _) = WroteFront call × IsUntouched call.err
+
+-- every line of a corpus below the limit is blank or a document
+abbrev pub IsOfDocuments : SourceEnds → Type 0
+IsOfDocuments corpus = IsSomeAnd corpus.left_before (λ bytes. (length bytes < CORPUS_LIMIT) × HasNoBadLine (lines_of true bytes))
+
+-- no call of any object failed
+pub record HasNoFault (call : Call) : Type 0 where
+  pub files : ¬ FilesFailed call.files
+  pub corpus : ¬ SourceFailed call.corpus
+  pub out : ¬ SinkFailed call.out
+  pub err : ¬ SinkFailed call.err
+
+-- the program that the words name is not refused
+abbrev pub IsAccepted : Result Status OutOfMemory → Type 0
+IsAccepted result = (fault : ProgramFault) → result ≢ Ok (Refused fault)
+
+-- all is done, or memory is wanting
+abbrev pub IsDoneOrWanting : Result Status OutOfMemory → Type 0
+IsDoneOrWanting result = (result ≡ Ok Done) ⊎ IsErr result
+
+-- the promise of the top call
+pub record Outcome (call : Call) (result : Result Status OutOfMemory) : Type 0 where
+  -- each answer has its cause, its line on standard error, and its bytes on the output
+  pub answered : IsAnswered call result
+  -- whatever the answer is
+  pub front : WroteFront call
+  -- words that ask for no run have the status of usage, or memory or the line's writing failed
+  pub usage : IsNoRun call.words → (result ≡ Ok Usage) ⊎ ((result ≡ Ok WriteFault) × SinkFailed call.err) ⊎ IsErr result
+  -- with right words, a program that is read, a corpus of documents and no fault, all is done or memory is wanting
+  pub complete : (name : List ℕ) → IsRun call.words name → IsAccepted result → IsOfDocuments call.corpus → HasNoFault call → IsDoneOrWanting result
