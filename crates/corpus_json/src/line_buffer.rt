@@ -1,4 +1,4 @@
-ghost use Rattle.std.specs.Prelude.{◌≡◌, ◌≤◌, ℕ, [], None, Some, Ok, IfOk, OnErr, IfSome, is_some, length, vec_len, take, min, MatchResult, MatchOption, ◌-◌};
+ghost use Rattle.std.specs.Prelude.{IsTrue, ◌↔◌, ◌≡◌, ◌≤◌, ℕ, [], None, Some, Ok, IfOk, OnErr, IfSome, is_some, length, vec_len, take, min, MatchResult, MatchOption, ◌-◌};
 ghost use Rattle.std.specs.Io.KnownBytes.{Consumes, Keeps, IsAtEnd};
 ghost use Rattle.aql_io.specs.Causes.{HasCause};
 ghost use Rattle.corpus_json.specs.Lines.{HasNoLf, FirstLfAt};
@@ -54,6 +54,21 @@ impl LineBuffer {
             taken: 0,
             last: None,
         })
+    }
+
+    /// How many bytes were taken from the source in all.
+    pub fn taken(&self) -> u64
+        ensures count { result ≡ self.now.taken }
+        ensures below { self.now.taken ≤ CORPUS_LIMIT }
+    {
+        self.taken
+    }
+
+    /// Whether all that was taken was given, so that the next line has to wait for the source.
+    pub fn is_empty(&self) -> bool
+        ensures { IsTrue result ↔ (self.now.ready ≡ []) }
+    {
+        self.from == self.to
     }
 
     /// Puts the next line of `source` into `line`, or says why there is none.
