@@ -1,5 +1,5 @@
 -- Counts decide bags.
-use Rattle.std.proofs.Common.{◌≡◌, ℕ, suc, ◌<◌, Bool, true, false, cond, List, [], ◌∷◌, length, get_or, remove, refl, sym, ap, ◌∙◌, arith, count_by, true≢false}
+use Rattle.std.proofs.Common.{All, eq-zero-or-pos, inl, inr, ◌⊎◌, ◌≡◌, ℕ, suc, ◌<◌, Bool, true, false, cond, List, [], ◌∷◌, length, get_or, remove, refl, sym, ap, ◌∙◌, arith, count_by, true≢false}
 use Rattle.std.specs.Cmp.{IsTotalOrder}
 use Rattle.std.specs.Ordering.{is_eq, eq_by_cmp}
 use Rattle.std.specs.declared.cmp.Ordering.{Ordering}
@@ -7,7 +7,7 @@ use Rattle.std.specs.declared.cmp.Ordering.TheVariants.{Less, Equal, Greater}
 use Rattle.std.proofs.lemmas.Cmp.{tied_itself}
 use Rattle.std.proofs.lemmas.List.Sums.{sum_by-cons, sum_by-remove}
 use Rattle.std.proofs.lemmas.List.Sorted.{IsPermutation-refl, IsPermutation-sym, IsPermutation-trans, IsPermutation-cons, IsPermutation-remove, sum_by-IsPermutation, length_permutation}
-use Rattle.aql_base.specs.Bags.{SameBag, OccursEquallyOften}
+use Rattle.aql_base.specs.Bags.{SameBag, count_of, OccursEquallyOften}
 
 abbrev pub number_of : Bool → ℕ
 number_of b = cond b 1 0
@@ -73,3 +73,28 @@ module _ {X : Type 0} {cmp : X → X → Ordering} (order : IsTotalOrder cmp) (e
   pub SameBag-uncons : (x : X) (xs ys : List X) → SameBag (x ∷ xs) (x ∷ ys) → SameBag xs ys
   SameBag-uncons x xs ys h = SameBag-from_counts xs ys (λ z.
       omega (arith, counts_from_SameBag (x ∷ xs) (x ∷ ys) h z, sum_by-cons (λ y. number_of (eq_by_cmp cmp z y)) x xs, sum_by-cons (λ y. number_of (eq_by_cmp cmp z y)) x ys))
+
+module _ {X : Type 0} {cmp : X → X → Ordering} (order : IsTotalOrder cmp) where
+  equal_from : (o : Ordering) → is_eq o ≡ true → o ≡ Equal
+  equal_from Less e = absurd (true≢false (sym e))
+  equal_from Equal e = refl
+  equal_from Greater e = absurd (true≢false (sym e))
+
+  -- values that the order doesn't tell apart occur equally often
+  count_of-alike : (x y : X) (zs : List X) → eq_by_cmp cmp x y ≡ true → count_of cmp x zs ≡ count_of cmp y zs
+  count_of-alike x y zs e = λ i. count_by (λ z. is_eq (order.congr x y z (equal_from (cmp x y) e) i)) zs
+
+  at_an_element : (x : X) (items xs ys : List X) → 0 < count_of cmp x items → All (λ y. count_of cmp y xs ≡ count_of cmp y ys) items → count_of cmp x xs ≡ count_of cmp x ys
+  at_an_element x items xs ys some all =
+      let at = some_passes (eq_by_cmp cmp x) items some in
+      let y = get_or items at.0 x in
+      count_of-alike x y xs (at.2 x) ∙ all at.0 x at.1 ∙ sym (count_of-alike x y ys (at.2 x))
+
+  -- counts that agree at the elements of both lists agree everywhere
+  pub OccursEquallyOften-from_elements : (xs ys : List X) → All (λ y. count_of cmp y xs ≡ count_of cmp y ys) xs → All (λ y. count_of cmp y xs ≡ count_of cmp y ys) ys → OccursEquallyOften cmp xs ys
+  OccursEquallyOften-from_elements xs ys h k x = by (eq-zero-or-pos (count_of cmp x xs)) (eq-zero-or-pos (count_of cmp x ys))
+    where
+      by : (count_of cmp x xs ≡ 0) ⊎ (0 < count_of cmp x xs) → (count_of cmp x ys ≡ 0) ⊎ (0 < count_of cmp x ys) → count_of cmp x xs ≡ count_of cmp x ys
+      by (inl e) (inl f) = e ∙ sym f
+      by (inr some) q = at_an_element x xs xs ys some h
+      by p (inr some) = at_an_element x ys xs ys some k

@@ -1,5 +1,13 @@
-//! Bags, which all operators answer by, and a counter of steps.
+//! Bags, by which all operators answer, and a counter of steps.
 //!
-//! Two lists are one bag where each value occurs equally often in both: `SameBag` of `specs/Bags.antt`
-//! is the word of contracts, with the laws that it is kept by. Stands on std.
+//! `same_bag` is true exactly where each value occurs in two lists equally often; `SameBag` of
+//! `specs/Bags.antt` is the word of contracts, and `proofs/` has the laws that it is kept by. `Steps`
+//! counts what its owner ticks, for a bound that a contract can state and that costs nothing when the
+//! program runs. Stands on std.
 #![tactic(auto)]
+
+mod bag;
+mod steps;
+
+pub use bag::same_bag;
+pub use steps::Steps;
