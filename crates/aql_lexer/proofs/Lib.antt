@@ -1,0 +1,10 @@
+pub mod Runs
+pub mod Numbers
+pub mod Unescaping
+pub mod Quotes
+pub mod Blocks
+pub mod Found
+pub mod Complete
+pub mod Cuts
+pub mod Readings
+pub mod Progress
