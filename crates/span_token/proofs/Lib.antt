@@ -1,6 +1,14 @@
 -- spans
 pub mod ExtentLemmas
+-- tokens
+pub mod ClassLemmas
+pub mod Rising
+pub mod TokenLaws
+pub mod TokenCounts
+pub mod ContextLemmas
 -- characters and bytes
 pub mod LeadsLemmas
 pub mod PlaceLemmas
 pub mod BlockLemmas
+pub mod StepLemmas
+pub mod ScanLemmas

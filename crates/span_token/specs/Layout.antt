@@ -1,7 +1,7 @@
 -- What a `Document` keeps beside its text.
 use Rattle.std.specs.Prelude.{◌≡◌, ◌≤◌, length, chars, IsUtf8, option_map}
 use Rattle.span_token.specs.Documents.{Doc}
-use Rattle.span_token.specs.Places.{FitsText}
+use Rattle.span_token.specs.Places.{FitsText, FitsTokens}
 use Rattle.span_token.specs.declared.document.Document.TheInside.{Inside}
 
 -- the document that is kept
@@ -14,3 +14,4 @@ pub record IsLaidOut (d : Inside) : Type 0 where
   pub short : length d.text.now ≤ 16777216
   pub count : d.characters ≡ length (chars d.text.now)
   pub places : FitsText d.places d.text.now
+  pub tokens : FitsTokens d.tokens d.text.now

@@ -1,9 +1,13 @@
-ghost use Rattle.std.specs.Prelude.{◌≡◌, ◌≤◌, ◌+◌, length, take, slice_range, chars, IfOk, IsUtf8, IsCharBoundary, option_map};
+ghost use Rattle.std.specs.Prelude.{◌≡◌, ◌≤◌, ◌<◌, ◌+◌, length, slice_get, count_by, nat_lt, nat_le, take, slice_range, chars, IfOk, IsUtf8, IsCharBoundary, option_map};
 ghost use Rattle.span_token.specs.Extents.{extent_of};
+ghost use Rattle.span_token.specs.Tokens.{tokens_of, AreTokens};
+ghost use Rattle.span_token.specs.Contexts.{AreWithin};
+ghost use Rattle.span_token.specs.Places.{FitsTokens};
 ghost use Rattle.span_token.specs.Leads.{leads, IsPlace};
-ghost use Rattle.span_token.specs.Documents.{LiesIn, len_of, whole_of, text_in, chars_before, moved};
+ghost use Rattle.span_token.specs.Documents.{LiesIn, characters, len_of, whole_of, text_in, chars_before, moved};
 
 use crate::places::Places;
+use crate::tokens::{Tokens, tokens_of_text};
 use crate::{OutOfMemory, Span};
 use std::alloc::Global;
 use std::marker::Model;
@@ -15,6 +19,7 @@ pub struct Document<'d> {
     label: Option<&'d str>,
     characters: u32,
     places: Places,
+    tokens: Tokens,
 }
 
 impl<'d> Model for Document<'d> {
@@ -31,12 +36,43 @@ impl<'d> Model for Document<'d> {
 
 impl<'d> Document<'d> {
     /// The document of `text`, which has at most 16,777,216 bytes, with its label.
+    ///
+    /// Finds the tokens and keeps them, 8 bytes each. Where the text isn't ASCII, a table of 4 bytes
+    /// for each 64 bytes of text tells its characters from its bytes. No other call takes memory.
     pub fn new(
         alloc: Global,
         text: &'d str,
         label: Option<&'d str>,
     ) -> Result<Document<'d>, OutOfMemory>
         requires short { length text.now ≤ 16777216 }
+        ensures document { IfOk result (λ d. d ≡ record { text = text.now; label = option_map (λ l. l.now) label.entry }) }
+    {
+        let tokens = Tokens::Kept(tokens_of_text(alloc, text)?);
+        Document::with_tokens(alloc, text, label, tokens)
+    }
+
+    /// The same document, for a caller that asks for no tokens or for few: none are kept, and each
+    /// call that speaks of tokens goes through the text anew.
+    pub fn plain(
+        alloc: Global,
+        text: &'d str,
+        label: Option<&'d str>,
+    ) -> Result<Document<'d>, OutOfMemory>
+        requires short { length text.now ≤ 16777216 }
+        ensures document { IfOk result (λ d. d ≡ record { text = text.now; label = option_map (λ l. l.now) label.entry }) }
+    {
+        Document::with_tokens(alloc, text, label, Tokens::Unkept)
+    }
+
+    /// The document with what is kept of its tokens.
+    fn with_tokens(
+        alloc: Global,
+        text: &'d str,
+        label: Option<&'d str>,
+        tokens: Tokens,
+    ) -> Result<Document<'d>, OutOfMemory>
+        requires short { length text.now ≤ 16777216 }
+        requires fits { FitsTokens tokens text.now }
         ensures document { IfOk result (λ d. d ≡ record { text = text.now; label = option_map (λ l. l.now) label.entry }) }
     {
         let places = Places::of(alloc, text)?;
@@ -46,6 +82,7 @@ impl<'d> Document<'d> {
             label,
             characters,
             places,
+            tokens,
         })
     }
 
@@ -119,6 +156,50 @@ impl<'d> Document<'d> {
         let begin = self.leads_before(first + from);
         let end = self.leads_before(first + to);
         Span { begin, end }
+    }
+
+    /// The number of tokens.
+    pub fn token_count(&self) -> u32
+        ensures count { result ≡ length (tokens_of (characters self.now)) }
+        ensures meaning { AreTokens (characters self.now) (tokens_of (characters self.now)) }
+    {
+        self.tokens.count(self.text)
+    }
+
+    /// Token `i`, counted from 0 in the order of the text.
+    pub fn token(&self, i: u32) -> Span
+        requires exists { i < length (tokens_of (characters self.now)) }
+        ensures token { slice_get (tokens_of (characters self.now)) i ≡ Some (extent_of result) }
+        ensures not_empty { result.begin < result.end }
+        ensures in_document { LiesIn (extent_of result) self.now }
+    {
+        self.tokens.get(self.text, i)
+    }
+
+    /// The numbers of the tokens wholly in `span`: the first, and one past the last. Two equal
+    /// numbers where there is none.
+    pub fn tokens_in(&self, span: Span) -> (u32, u32)
+        requires in_document { LiesIn (extent_of span) self.now }
+        ensures tokens { AreWithin (tokens_of (characters self.now)) (extent_of span) result.0 result.1 }
+        ensures first { result.0 ≡ count_by (λ t. nat_lt t.begin span.begin) (tokens_of (characters self.now)) }
+    {
+        let first = self.begun_before(span.begin);
+        let past = self.ended_by(span.end);
+        (first, first.max(past))
+    }
+
+    /// How many tokens begin before a place.
+    pub(crate) fn begun_before(&self, place: u32) -> u32
+        ensures { result ≡ count_by (λ t. nat_lt t.begin place) (tokens_of (characters self.now)) }
+    {
+        self.tokens.begun_before(self.text, place)
+    }
+
+    /// How many tokens end at or before a place.
+    pub(crate) fn ended_by(&self, place: u32) -> u32
+        ensures { result ≡ count_by (λ t. nat_le t.end place) (tokens_of (characters self.now)) }
+    {
+        self.tokens.ended_by(self.text, place)
     }
 
     /// The byte at which character `place` begins, or the text ends.

@@ -6,18 +6,23 @@
 //! see as their bytes and their elements alone. Stands on std.
 #![tactic(auto)]
 
+mod classes;
 mod contexts;
 mod document;
 mod leads;
 mod owned;
 mod places;
+mod points;
 mod refusal;
 mod relations;
+mod scan;
 mod span;
+mod tokens;
 
-pub use contexts::{left_context, right_context};
+pub use contexts::{left_context, left_context_tok, right_context, right_context_tok};
 pub use document::Document;
 pub use owned::{OwnedList, OwnedText};
 pub use refusal::{Failure, OutOfMemory};
-pub use relations::{between, combine, contains, follows, overlaps};
+pub use relations::{between, combine, contains, follows, follows_tok, overlaps};
 pub use span::Span;
+pub use tokens::tokens_of_text;

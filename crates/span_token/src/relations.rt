@@ -1,8 +1,10 @@
 ghost use Rattle.std.specs.Prelude.{◌≡◌, ◌↔◌, IsTrue};
 ghost use Rattle.span_token.specs.Extents.{extent_of};
-ghost use Rattle.span_token.specs.Relations.{Follows, Overlaps, ContainsExtent, combined, gap_of, does_follow, do_overlap, does_contain};
+ghost use Rattle.span_token.specs.Documents.{LiesIn, characters};
+ghost use Rattle.span_token.specs.Tokens.{tokens_of};
+ghost use Rattle.span_token.specs.Relations.{Follows, FollowsTok, Overlaps, ContainsExtent, combined, gap_of, tokens_between as number_between, does_follow, does_follow_tok, do_overlap, does_contain};
 
-use crate::Span;
+use crate::{Document, Span};
 
 /// Whether `b` begins at or after the end of `a`, with `min` to `max` characters between.
 ///
@@ -18,6 +20,31 @@ pub fn follows(a: Span, b: Span, min: i64, max: i64) -> bool
     }
     let between = i64::from(b.begin - a.end);
     min <= between && between <= max
+}
+
+/// Whether `b` begins at or after the end of `a`, with `min` to `max` tokens of `doc` wholly between.
+///
+/// A token that sticks out of the gap on either side isn't counted.
+///
+/// Meaning: `FollowsTok`, `specs/Relations.antt`.
+pub fn follows_tok(doc: &Document<'_>, a: Span, b: Span, min: i64, max: i64) -> bool
+    requires first_in_document { LiesIn (extent_of a) doc.now }
+    requires second_in_document { LiesIn (extent_of b) doc.now }
+    ensures test { result ≡ does_follow_tok (tokens_of (characters doc.now)) (extent_of a) (extent_of b) min max }
+    ensures meaning { IsTrue result ↔ FollowsTok (tokens_of (characters doc.now)) (extent_of a) (extent_of b) min max }
+{
+    if b.begin < a.end {
+        return false;
+    }
+    let between = i64::from(tokens_between(doc, a.end, b.begin));
+    min <= between && between <= max
+}
+
+/// How many tokens begin at or after a place and end at or before another.
+fn tokens_between(doc: &Document<'_>, from: u32, to: u32) -> u32
+    ensures { result ≡ number_between (tokens_of (characters doc.now)) from to }
+{
+    doc.ended_by(to).saturating_sub(doc.begun_before(from))
 }
 
 /// Whether `a` and `b` share a character or are equal.
