@@ -8,3 +8,5 @@ pub mod Places
 -- the grammar
 pub mod Grammar
 pub mod Programs
+-- print
+pub mod Printing

@@ -46,10 +46,12 @@ abbrev mutual
   placed_term n (call at word args) =
       let args' = placed_args (n + 1 + 1) args in (call n word args'.0, args'.1 + 1)
   placed_term n (star at word) = (star n word, n + 1 + 1 + 1 + 1)
+
   pub placed_args : Placing Terms
   placed_args n no_terms = (no_terms, n)
   placed_args n (more_terms arg args) =
       let arg' = placed_term n arg in let args' = placed_later_args arg'.1 args in (more_terms arg'.0 args'.0, args'.1)
+
   pub placed_later_args : Placing Terms
   placed_later_args n no_terms = (no_terms, n)
   placed_later_args n (more_terms arg args) =
@@ -99,19 +101,24 @@ after_flag n (Some flag) = n + 1 + 1 + 1
 abbrev pub placed_spec : Placing Spec
 placed_spec n (pattern text bound alias name groups) =
     let bound' = placed_optional placed_bound (n + 1 + 1 + 1) bound in
-    let groups' = placed_groups (bound'.1 + 1 + 1 + 1) groups in
-    (pattern (placed_name (n + 1) text).0 bound'.0 (placed_name bound'.1 alias).0
-        (placed_name (bound'.1 + 1 + 1) name).0 groups'.0, groups'.1)
+    let groups' = placed_groups (bound'.1 + 1 + 1 + 1) groups in (
+      pattern (placed_name (n + 1) text).0 bound'.0 (placed_name bound'.1 alias).0
+          (placed_name (bound'.1 + 1 + 1) name).0 groups'.0,
+      groups'.1,
+    )
 placed_spec n (dict table flag alias name out) =
-    let m = after_flag (n + 1 + 1) flag in
-    (dict (placed_name (n + 1) table).0 flag (placed_name (m + 1) alias).0
-        (placed_name (m + 1 + 1 + 1) name).0 (placed_output (m + 1 + 1 + 1 + 1) out).0, m + 1 + 1 + 1 + 1 + 1 + 1)
+    let m = after_flag (n + 1 + 1) flag in (
+      dict (placed_name (n + 1) table).0 flag (placed_name (m + 1) alias).0
+          (placed_name (m + 1 + 1 + 1) name).0 (placed_output (m + 1 + 1 + 1 + 1) out).0,
+      m + 1 + 1 + 1 + 1 + 1 + 1,
+    )
 placed_spec n (blocks count gap tokens alias name out) =
     let count' = placed_range (n + 1 + 1 + 1) count in
-    let gap' = placed_range (count'.1 + 1 + 1) gap in
-    (blocks count'.0 gap'.0 tokens (placed_name (gap'.1 + 1 + 1) alias).0
-        (placed_name (gap'.1 + 1 + 1 + 1 + 1) name).0 (placed_output (gap'.1 + 1 + 1 + 1 + 1 + 1) out).0,
-     gap'.1 + 1 + 1 + 1 + 1 + 1 + 1 + 1)
+    let gap' = placed_range (count'.1 + 1 + 1) gap in (
+      blocks count'.0 gap'.0 tokens (placed_name (gap'.1 + 1 + 1) alias).0
+          (placed_name (gap'.1 + 1 + 1 + 1 + 1) name).0 (placed_output (gap'.1 + 1 + 1 + 1 + 1 + 1) out).0,
+      gap'.1 + 1 + 1 + 1 + 1 + 1 + 1 + 1,
+    )
 
 -- "consolidate" "on" expr [ "using" Str ]
 abbrev pub placed_cons : Placing Cons
@@ -170,6 +177,7 @@ abbrev mutual
       let side' = placed_query (n + 1) side in
       let sides' = placed_later_sides (side'.1 + 1) sides in
       (more_queries side'.0 sides'.0, sides'.1)
+
   pub placed_later_sides : Placing Queries
   placed_later_sides n no_queries = (no_queries, n)
   placed_later_sides n (more_queries side sides) =
@@ -190,6 +198,7 @@ abbrev mutual
       let source' = placed_source n source in
       let sources' = placed_later_sources source'.1 sources in
       (more_sources source'.0 sources'.0, sources'.1)
+
   pub placed_later_sources : Placing Sources
   placed_later_sources n no_sources = (no_sources, n)
   placed_later_sources n (more_sources source sources) =

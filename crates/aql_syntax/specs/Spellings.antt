@@ -12,6 +12,10 @@ pub data Spelling : Type 0 where
   free : Spelling
   plain : Spelling
 
+-- equal in all but the case of ASCII letters
+unfoldable pub same_word : List ℕ → List ℕ → Bool
+same_word a b = str_eq_ignore_ascii_case a b
+
 -- the words that are no names, in any case
 abbrev pub reserved_words : List (List ℕ)
 reserved_words =
@@ -21,8 +25,8 @@ reserved_words =
     codes "with" ∷ codes "in" ∷ codes "between" ∷ codes "return" ∷ codes "create" ∷
     codes "output" ∷ codes "view" ∷ codes "dictionary" ∷ []
 
-abbrev pub is_reserved : List ℕ → Bool
-is_reserved word = list_any (λ reserved. str_eq_ignore_ascii_case word reserved) reserved_words
+unfoldable pub is_reserved : List ℕ → Bool
+is_reserved word = list_any (λ reserved. same_word word reserved) reserved_words
 
 -- an ASCII letter or `_`, and then ASCII letters, digits and `_`
 abbrev pub begins_word : ℕ → Bool
@@ -31,22 +35,26 @@ begins_word c = is_ascii_alphabetic c || (c == byte "_")
 abbrev pub goes_on_word : ℕ → Bool
 goes_on_word c = begins_word c || is_ascii_digit c
 
-abbrev pub is_word : List ℕ → Bool
+unfoldable pub is_word : List ℕ → Bool
 is_word [] = false
 is_word (c ∷ cs) = begins_word c && list_all goes_on_word cs
 
 -- a name that can stand without quotes
-abbrev pub can_be_word : List ℕ → Bool
+unfoldable pub can_be_word : List ℕ → Bool
 can_be_word text = is_word text && not (is_reserved text)
 
--- one character or more, without a quote or a line feed
-abbrev pub can_be_name : List ℕ → Bool
+-- neither a quote nor a line feed
+abbrev pub stands_in_quotes : ℕ → Bool
+stands_in_quotes c = not (c == 34) && not (c == 10)
+
+-- a name that can stand in quotes: one character or more
+unfoldable pub can_be_name : List ℕ → Bool
 can_be_name [] = false
-can_be_name (c ∷ cs) = list_all (λ b. not (b == 34) && not (b == 10)) (c ∷ cs)
+can_be_name (c ∷ cs) = list_all stands_in_quotes (c ∷ cs)
 
 -- a keyword: in any case, or in lower case
 abbrev pub SpellsKeyword : Spelling → List ℕ → List ℕ → Type 0
-SpellsKeyword free keyword word = str_eq_ignore_ascii_case word keyword ≡ true
+SpellsKeyword free keyword word = same_word word keyword ≡ true
 SpellsKeyword plain keyword word = word ≡ keyword
 
 abbrev pub MayQuote : Spelling → List ℕ → Type 0

@@ -1,6 +1,6 @@
 -- The tree as definitions see it: texts as their bytes, numbers without bounds.
 -- `at` is the number of a node's first token, from 0.
-use Rattle.std.specs.Prelude.{ℕ, ℤ, Bool, List, Option}
+use Rattle.std.specs.Prelude.{ℕ, ℤ, Bool, List, [], ◌∷◌, Option}
 
 -- a name, or a text that stands in a name's place
 pub record Name : Type 0 where
@@ -22,10 +22,15 @@ mutual
     bare : ℕ → Name → Term
     call : ℕ → List ℕ → Terms → Term
     star : ℕ → List ℕ → Term
+
   -- the arguments of a call
   pub data Terms : Type 0 where
     no_terms : Terms
     more_terms : Term → Terms → Terms
+
+abbrev pub as_terms : List Term → Terms
+as_terms [] = no_terms
+as_terms (t ∷ ts) = more_terms t (as_terms ts)
 
 -- a column as it is, or an expression with a name
 pub record Item : Type 0 where
@@ -79,17 +84,28 @@ mutual
     extract : ℕ → List Item → Spec → Source → Tail → Query
     union : Queries → Query
     minus : Query → Query → Query
+
   -- the sides of a union
   pub data Queries : Type 0 where
     no_queries : Queries
     more_queries : Query → Queries → Queries
+
   -- a view, whose alias may be left out, or a query in parentheses
   pub data Source : Type 0 where
     view : Name → Option Name → Source
     nested : Query → Name → Source
+
   pub data Sources : Type 0 where
     no_sources : Sources
     more_sources : Source → Sources → Sources
+
+abbrev pub as_queries : List Query → Queries
+as_queries [] = no_queries
+as_queries (q ∷ qs) = more_queries q (as_queries qs)
+
+abbrev pub as_sources : List Source → Sources
+as_sources [] = no_sources
+as_sources (s ∷ ss) = more_sources s (as_sources ss)
 
 pub data Statement : Type 0 where
   module_ : Name → Statement

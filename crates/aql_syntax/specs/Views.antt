@@ -16,7 +16,8 @@ use Rattle.aql_syntax.specs.declared.tree.Spec.TheVariants as spec
 use Rattle.aql_syntax.specs.declared.tree.Query as declared_query
 use Rattle.aql_syntax.specs.declared.tree.Query.{Row_of-Query, end_of-Query, more_of-Query}
 use Rattle.aql_syntax.specs.declared.tree.Query.TheVariants as query
-use Rattle.aql_syntax.specs.declared.tree.Select.{Row_of-FromPart, end_of-FromPart, more_of-FromPart}
+use Rattle.aql_syntax.specs.declared.tree.Extract.{Extract}
+use Rattle.aql_syntax.specs.declared.tree.Select.{Select, Row_of-FromPart, end_of-FromPart, more_of-FromPart}
 use Rattle.aql_syntax.specs.declared.tree.FromPart.{FromPart}
 use Rattle.aql_syntax.specs.declared.tree.FromPart.TheVariants as part
 use Rattle.aql_syntax.specs.declared.tree.Statement as declared_statement
@@ -39,6 +40,7 @@ abbrev mutual
   term_at at (form.Bare name) = bare at (name_of name)
   term_at at (form.Call' name shape args) = call at name (terms_of args)
   term_at at (form.Star name) = star at name
+
   pub terms_of : {n : _} → Row_of-Ast n → Terms
   terms_of end_of-Ast = no_terms
   terms_of (more_of-Ast at form rest) = more_terms (term_at at form) (terms_of rest)
@@ -60,14 +62,32 @@ abbrev pub flag_of : declared_flag.Flag → Flag
 flag_of flag.Exact = exact
 flag_of flag.IgnoreCase = ignore_case
 
+abbrev pub group_of : Option declared_number.Number × Ident → Group
+group_of group = record { number = option_map number_of group.0; name = name_of group.1 }
+
 abbrev pub spec_of : declared_spec.Spec → Spec
 spec_of (spec.Regex text bound on groups) =
-    pattern (name_of text) (option_map range_of bound) (name_of on.0) (name_of on.1)
-        (map (λ group. record { number = option_map number_of group.0; name = name_of group.1 }) groups.items)
+    pattern (name_of text) (option_map range_of bound) (name_of on.0) (name_of on.1) (map group_of groups.items)
 spec_of (spec.Dict name flag on out) =
     dict (name_of name) (option_map flag_of flag) (name_of on.0) (name_of on.1) (name_of out)
 spec_of (spec.Blocks count gap tokens on out) =
     blocks (range_of count) (range_of gap) tokens (name_of on.0) (name_of on.1) (name_of out)
+
+abbrev pub clauses_of : Select → Clauses
+clauses_of query = record {
+  conds = map term_of query.conds.items;
+  cons = option_map cons_of query.cons;
+  group = map term_of query.group.items;
+  order = map term_of query.order.items;
+  limit = option_map number_of query.limit;
+}
+
+abbrev pub tail_of : Extract → Tail
+tail_of query = record {
+  conds = map term_of query.conds.items;
+  cons = option_map cons_of query.cons;
+  limit = option_map number_of query.limit;
+}
 
 abbrev mutual
   pub query_of : declared_query.Query → Query
@@ -77,20 +97,25 @@ abbrev mutual
         cons = option_map cons_of cons;
         group = map term_of group.items;
         order = map term_of order.items;
-        limit = option_map number_of limit })
+        limit = option_map number_of limit;
+      })
   query_of (query.Extract' at items spec source conds cons limit) =
       extract at (map item_of items.items) (spec_of spec) (source_of source) (record {
         conds = map term_of conds.items;
         cons = option_map cons_of cons;
-        limit = option_map number_of limit })
+        limit = option_map number_of limit;
+      })
   query_of (query.Union' shape sides) = union (queries_of sides)
   query_of (query.Minus' left_box left right_box right) = minus (query_of left) (query_of right)
+
   pub queries_of : {n : _} → Row_of-Query n → Queries
   queries_of end_of-Query = no_queries
   queries_of (more_of-Query side rest) = more_queries (query_of side) (queries_of rest)
+
   pub source_of : FromPart → Source
   source_of (part.View name alias) = view (name_of name) (option_map name_of alias)
   source_of (part.Nested' box query alias) = nested (query_of query) (name_of alias)
+
   pub sources_of : {n : _} → Row_of-FromPart n → Sources
   sources_of end_of-FromPart = no_sources
   sources_of (more_of-FromPart source rest) = more_sources (source_of source) (sources_of rest)

@@ -4,8 +4,12 @@
 //! Stands on `aql_lexer` for tokens and on `span_token` for owned text.
 #![tactic(auto)]
 
+mod names;
+mod printing;
 mod tree;
 
+pub use names::{is_reserved, same_word};
+pub use printing::print;
 pub use tree::{
     Ast, Cons, Extract, Flag, Form, FromPart, Ident, Item, Number, Query, Range, Select, Spec,
     Statement,

@@ -20,9 +20,11 @@ module _ (spelling : Spelling) where
     IsTerm (bare at name) = IsName spelling name
     IsTerm (call at word args) = Token (k.word word) ▸ Symbol "(" ▸ AreArgs args ▸ Symbol ")"
     IsTerm (star at word) = Token (k.word word) ▸ Symbol "(" ▸ Symbol "*" ▸ Symbol ")"
+
     pub AreArgs : Terms → Part
     AreArgs no_terms = Nothing
     AreArgs (more_terms arg args) = IsTerm arg ▸ AreLaterArgs args
+
     pub AreLaterArgs : Terms → Part
     AreLaterArgs no_terms = Nothing
     AreLaterArgs (more_terms arg args) = Symbol "," ▸ IsTerm arg ▸ AreLaterArgs args

@@ -7,6 +7,16 @@ use Rattle.aql_syntax.specs.Parts.{Part, ◌▸◌, ◌or◌, Nowhere, Token, Ke
 use Rattle.aql_syntax.specs.Grammar.Expressions.{IsColumn}
 use Rattle.aql_syntax.specs.Trees.{Name, Number, Range, one, two, Group, Flag, exact, ignore_case}
 
+-- how a flag is written
+abbrev pub flag_text : Flag → List ℕ
+flag_text exact = codes "Exact"
+flag_text ignore_case = codes "IgnoreCase"
+
+-- what a separation counts
+abbrev pub unit_of : Bool → String
+unit_of true = "tokens"
+unit_of false = "characters"
+
 module _ (spelling : Spelling) where
   -- range = "between" Int "and" Int | Int
   abbrev pub IsRange : Range → Part
@@ -47,10 +57,6 @@ module _ (spelling : Spelling) where
       IsColumn spelling alias name ▸ AreGroups groups
 
   -- flag = the Str 'Exact' | the Str 'IgnoreCase'
-  abbrev pub flag_text : Flag → List ℕ
-  flag_text exact = codes "Exact"
-  flag_text ignore_case = codes "IgnoreCase"
-
   abbrev pub IsFlag : Flag → Part
   IsFlag flag = Keyword spelling "with" ▸ Keyword spelling "flags" ▸ Token (k.str (flag_text flag))
 
@@ -59,10 +65,6 @@ module _ (spelling : Spelling) where
   IsDict dictionary flag alias name out =
       Keyword spelling "dictionary" ▸ IsDictionaryName spelling dictionary ▸ Optional IsFlag flag ▸
       Keyword spelling "on" ▸ IsColumn spelling alias name ▸ IsOutput out
-
-  abbrev pub unit_of : Bool → String
-  unit_of true = "tokens"
-  unit_of false = "characters"
 
   -- blocks = "blocks" "with" "count" range "and" "separation" range ( "tokens" | "characters" )
   --          "on" column "as" name

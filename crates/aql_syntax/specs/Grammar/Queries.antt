@@ -74,10 +74,12 @@ module _ (spelling : Spelling) where
     pub AreSides : Queries → Part
     AreSides no_queries = Nowhere
     AreSides (more_queries side sides) = InParens (IsQuery side) ▸ AreOtherSides sides
+
     pub AreOtherSides : Queries → Part
     AreOtherSides no_queries = Nowhere
     AreOtherSides (more_queries side sides) =
         Keyword spelling "union" ▸ Keyword spelling "all" ▸ InParens (IsQuery side) ▸ AreLaterSides sides
+
     pub AreLaterSides : Queries → Part
     AreLaterSides no_queries = Nothing
     AreLaterSides (more_queries side sides) =
@@ -91,6 +93,7 @@ module _ (spelling : Spelling) where
     pub AreSources : Sources → Part
     AreSources no_sources = Nowhere
     AreSources (more_sources source sources) = IsSource source ▸ AreLaterSources sources
+
     pub AreLaterSources : Sources → Part
     AreLaterSources no_sources = Nothing
     AreLaterSources (more_sources source sources) = Symbol "," ▸ IsSource source ▸ AreLaterSources sources

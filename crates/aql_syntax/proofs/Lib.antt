@@ -1,0 +1,5 @@
+pub mod Viewing
+pub mod Writing
+pub mod PrintingViews
+pub mod Prints
+pub mod PrintLaws
