@@ -8,6 +8,8 @@
 
 mod bag;
 mod steps;
+#[cfg(test)]
+mod tests;
 
 pub use bag::same_bag;
 pub use steps::Steps;
