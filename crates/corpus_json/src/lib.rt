@@ -16,3 +16,6 @@ pub use line_buffer::LineBuffer;
 pub use line_reader::{LineReader, Next};
 pub use read::read_document;
 pub use step::Step;
+
+#[cfg(test)]
+mod line_tests;

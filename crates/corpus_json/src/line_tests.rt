@@ -1,0 +1,113 @@
+use crate::{LineBuffer, LineReader, Next, Step};
+use aql_io::{MemSource, Source, SureSource};
+use span_token::OutOfMemory;
+use std::alloc::Global;
+use std::test::Fail;
+
+/// A letter for each answer, in order, with the bytes of each line before an `L`.
+fn said<S: Source>(alloc: Global, source: &mut S, answers: usize) -> Result<Vec<u8>, OutOfMemory> {
+    let mut said = Vec::new(alloc);
+    let mut lines = LineBuffer::new(alloc)?;
+    let mut line = Vec::new(alloc);
+    for _ in 0..answers {
+        match lines.next_line(source, &mut line)? {
+            Step::Line => {
+                said.extend_from_slice(&line)?;
+                said.push(b'L')?;
+            }
+            Step::End => said.push(b'E')?,
+            Step::Long => said.push(b'T')?,
+            Step::Failed => said.push(b'F')?,
+            Step::Limit => said.push(b'M')?,
+        }
+    }
+    Ok(said)
+}
+
+#[test]
+fn lines_end_at_lf_or_at_the_end_of_the_source(rt: HostRuntime) -> Result<(), Fail> {
+    let alloc = rt.alloc();
+    let table: [(&[u8], &[u8]); 9] = [
+        (b"", b"EEEEE"),
+        (b"\n", b"LEEEE"),
+        (b"\n\n", b"LLEEE"),
+        (b"ab\ncd\n", b"abLcdLEEE"),
+        (b"ab\ncd", b"abLcdLEEE"),
+        (b"ab\n\ncd\n", b"abLLcdLEE"),
+        (b"ab\r\ncd", b"ab\rLcdLEEE"),
+        (b"ab", b"abLEEEE"),
+        (b"\xff\n\x00", b"\xffL\x00LEEE"),
+    ];
+    for (bytes, wanted) in table {
+        for piece in 1..4usize {
+            let mut source = MemSource::new(bytes.to_vec(alloc)?, piece, Vec::new(alloc));
+            let given = said(alloc, &mut source, 5)?;
+            assert_eq!(rt; given.as_slice(), wanted, "pieces of {piece} bytes");
+        }
+    }
+    Ok(())
+}
+
+#[test]
+fn a_failed_read_ends_the_lines_for_good(rt: HostRuntime) -> Result<(), Fail> {
+    let alloc = rt.alloc();
+    let table: [(u64, &[u8]); 5] = [
+        (1, b"FFFF"),
+        (2, b"FFFF"),
+        (3, b"abLFFF"),
+        (4, b"abLcLFF"),
+        (5, b"abLcLdLE"),
+    ];
+    for (call, wanted) in table {
+        let mut source = MemSource::new(b"ab\nc\nd".to_vec(alloc)?, 2, [call].to_vec(alloc)?);
+        let given = said(alloc, &mut source, 4)?;
+        assert_eq!(rt; given.as_slice(), wanted, "read {call} fails");
+    }
+    Ok(())
+}
+
+/// The first two answers for a source of `count` letters and then `tail`, and the length of the first line.
+fn first_two(alloc: Global, count: usize, tail: &[u8]) -> Result<(Step, usize, Step), OutOfMemory> {
+    let mut bytes = vec![in alloc; b'a'; count]?;
+    bytes.extend_from_slice(tail)?;
+    let mut source = SureSource::new(bytes);
+    let mut lines = LineBuffer::new(alloc)?;
+    let mut line = Vec::new(alloc);
+    let first = lines.next_line(&mut source, &mut line)?;
+    let len = line.len();
+    let second = lines.next_line(&mut source, &mut line)?;
+    Ok((first, len, second))
+}
+
+#[test]
+fn a_line_may_have_16777216_bytes_and_not_one_more(rt: HostRuntime) -> Result<(), Fail> {
+    let alloc = rt.alloc();
+    for tail in [b"".as_slice(), b"\n".as_slice()] {
+        let (first, len, second) = first_two(alloc, 16_777_216, tail)?;
+        assert_eq!(rt; first, Step::Line);
+        assert_eq!(rt; len, 16_777_216);
+        assert_eq!(rt; second, Step::End);
+        let (first, _, second) = first_two(alloc, 16_777_217, tail)?;
+        assert_eq!(rt; first, Step::Long);
+        assert_eq!(rt; second, Step::Long);
+    }
+    Ok(())
+}
+
+#[test]
+fn a_reader_gives_lines_of_its_own_source(rt: HostRuntime) -> Result<(), Fail> {
+    let alloc = rt.alloc();
+    let mut source = SureSource::new(b"one\ntwo".to_vec(alloc)?);
+    let mut reader = LineReader::new(alloc, &mut source)?;
+    for wanted in ["one", "two"] {
+        let next = reader.next()?;
+        assert!(rt; matches!(&next, Next::Line(_)), "{wanted}");
+        if let Next::Line(line) = next {
+            assert_eq!(rt; line.as_slice(), wanted.as_bytes());
+        }
+    }
+    assert!(rt; matches!(reader.next()?, Next::End));
+    let mut rest = [0u8; 1];
+    assert_eq!(rt; reader.into_source().read(&mut rest), Ok(0));
+    Ok(())
+}
