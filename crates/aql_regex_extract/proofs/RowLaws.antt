@@ -1,9 +1,9 @@
 -- Laws of the rows of a pattern, for callers.
-use Rattle.std.proofs.Common.{◌≡◌, ℕ, ◌++◌, List, [], ◌∷◌, map, Option, Some, refl, sym, ap, ◌∙◌}
+use Rattle.std.proofs.Common.{◌≡◌, ℕ, ◌++◌, List, [], ◌∷◌, map, Option, Some, refl, ap}
 use Rattle.std.proofs.lemmas.List.Concat.{flat_map_single}
 use Rattle.std.specs.List.{flat_map}
 use Rattle.regex.specs.Patterns.{Match, span}
-use Rattle.span_token.specs.Documents.{Doc, text_in, moved}
+use Rattle.span_token.specs.Documents.{Doc, text_in}
 use Rattle.span_token.specs.Extents.{Extent}
 use Rattle.aql_regex_extract.specs.Matches.{placed, row_of, matches_of, match_rows, flat_rows}
 

@@ -6,3 +6,8 @@ pub mod Views
 pub mod Matches
 -- one step of a search
 pub mod Steps
+-- how large a pattern may grow
+pub mod Weight
+pub mod Capped
+-- why a text is refused
+pub mod Faults

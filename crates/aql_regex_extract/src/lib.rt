@@ -12,6 +12,7 @@ mod pattern;
 mod rows;
 mod search;
 mod searcher;
+mod weight;
 mod whole;
 
 pub use find::{find_all, has_match, matches_whole};

@@ -1,13 +1,22 @@
-ghost use Rattle.std.specs.Prelude.{◌≡◌, List, ℕ, IfOk, IfErr, OnOk, IsSome, IsErrOf, None, string_bytes};
+ghost use Rattle.std.specs.Prelude.{◌≡◌, IfOk, IfErr, OnOk, IsSome, string_bytes};
 ghost use Rattle.regex.specs.Patterns.{default_config};
 ghost use Rattle.regex.specs.Views.{builder_source, builder_config};
 ghost use Rattle.regex.specs.Strings.{regex_source, regex_config, IsReadFromSource};
-ghost use Rattle.aql_regex_extract.specs.Patterns.{tree_of, group_count_of, whole_form, IsBad};
+ghost use Rattle.aql_regex_extract.specs.Patterns.{tree_of, group_count_of, whole_form};
+ghost use Rattle.aql_regex_extract.specs.Weight.{IsLarge};
+ghost use Rattle.aql_regex_extract.specs.Faults.{IsPattern, HasCause, IsUnread};
 
+use crate::weight::weigh;
 use regex::{Error, Regex, RegexBuilder};
 use span_token::{Failure, OutOfMemory};
 use std::alloc::Global;
 use std::marker::Model;
+
+/// The most bytes of a pattern.
+const MOST_BYTES: u32 = 1_000;
+
+/// The most that the bytes of a pattern times its weight may be.
+const MOST_GROWTH: u64 = 50_000;
 
 /// A compiled pattern, which contracts see as its text. It doesn't change, and threads share it by `&`.
 #[derive(Drop)]
@@ -61,7 +70,7 @@ fn build(alloc: Global, text: &str) -> Result<Regex, Failure<PatternFault>>
     ensures config { IfOk result (λ r. regex_config r ≡ default_config) }
     ensures read { IfOk result IsReadFromSource }
     ensures good { OnOk result (IsSome (tree_of text.now)) }
-    ensures bad { IsErrOf result (Failure.Fault PatternFault.Bad) → tree_of text.now ≡ None }
+    ensures unread { IfErr result (IsUnread text.now) }
 {
     match options(text).build(alloc) {
         Ok(built) => Ok(built),
@@ -93,16 +102,12 @@ fn groups_of(expression: &Regex, text: &str) -> Result<u32, OutOfMemory>
     }
 }
 
-/// The pattern that `text` stands for.
-///
-/// It is bad exactly where `text` or its whole-text form isn't read by the grammar of `regex`, or
-/// nests deeper than 250.
-///
-/// Meaning: `tree_of` and `IsBad`, `specs/Patterns.antt`.
-pub fn compile_pattern(alloc: Global, text: &str) -> Result<Pattern, Failure<PatternFault>>
+/// The pattern of a text that isn't large.
+fn compile(alloc: Global, text: &str) -> Result<Pattern, Failure<PatternFault>>
+    requires not_large { ¬ (IsLarge text.now) }
     ensures ok { IfOk result (λ p. p ≡ text.now) }
-    ensures good { OnOk result (IsSome (tree_of text.now) × IsSome (tree_of (whole_form text.now))) }
-    ensures bad { IsErrOf result (Failure.Fault PatternFault.Bad) → IsBad text.now }
+    ensures pattern { OnOk result (IsPattern text.now) }
+    ensures fault { IfErr result (HasCause text.now) }
 {
     let plain = build(alloc, text)?;
     let groups = groups_of(&plain, text)?;
@@ -113,4 +118,35 @@ pub fn compile_pattern(alloc: Global, text: &str) -> Result<Pattern, Failure<Pat
         whole,
         groups,
     })
+}
+
+/// The fault of a text that is large. A text of more bytes than a `u32` counts is want of memory.
+fn refuse_large(alloc: Global, text: &str) -> Result<(), Failure<PatternFault>>
+    ensures not_large { OnOk result (¬ (IsLarge text.now)) }
+    ensures fault { IfErr result (HasCause text.now) }
+{
+    let Ok(bytes) = u32::try_from(text.len()) else {
+        return Err(Failure::OutOfMemory);
+    };
+    let weight = weigh(alloc, text.as_bytes())?;
+    if bytes > MOST_BYTES || u64::from(bytes) * weight > MOST_GROWTH {
+        return Err(Failure::Fault(PatternFault::Large { bytes, weight }));
+    }
+    Ok(())
+}
+
+/// The pattern that `text` stands for.
+///
+/// It is `Large` exactly where it is longer than 1,000 bytes, or its bytes times its weight are more
+/// than 50,000, and that is looked at first. It is `Bad` exactly where it or its whole-text form
+/// isn't read by the grammar of `regex`, or nests deeper than 250.
+///
+/// Meaning: `IsPattern` and `HasFault`, `specs/Faults.antt`; the weight, `specs/Weight.antt`.
+pub fn compile_pattern(alloc: Global, text: &str) -> Result<Pattern, Failure<PatternFault>>
+    ensures ok { IfOk result (λ p. p ≡ text.now) }
+    ensures pattern { OnOk result (IsPattern text.now) }
+    ensures fault { IfErr result (HasCause text.now) }
+{
+    refuse_large(alloc, text)?;
+    compile(alloc, text)
 }
