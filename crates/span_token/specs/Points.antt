@@ -1,5 +1,5 @@
 -- Where a character begins in a text, and the step to the next one.
-use Rattle.std.specs.Prelude.{ℕ, ◌+◌, ◌<◌, ◌≡◌, true, false, List, ◌∷◌, length, chars, slice_index}
+use Rattle.std.specs.Prelude.{ℕ, ◌+◌, ◌<◌, ◌≤◌, ◌≡◌, true, false, List, ◌∷◌, length, chars, slice_index}
 use Rattle.span_token.specs.Words.{is_word_char}
 use Rattle.span_token.specs.Tokens.{is_word_before, tokens_from}
 use Rattle.span_token.specs.Leads.{IsPlace}
@@ -29,3 +29,10 @@ pub record IsNextToken (text : List ℕ) (from : Point) (span : Span) (end : Poi
   pub first : tokens_from (chars text) from.place ≡ extent_of span ∷ tokens_from (chars text) end.place
   pub point : IsPoint text end
   pub seam : IsSeam (chars text) end.place
+
+-- the same in an ASCII text, whose bytes are its characters
+pub record IsNextAscii (bytes : List ℕ) (from : ℕ) (span : Span) : Type 0 where
+  pub first : tokens_from bytes from ≡ extent_of span ∷ tokens_from bytes span.end
+  pub in_text : span.end ≤ length bytes
+  pub ahead : from < span.end
+  pub seam : IsSeam bytes span.end

@@ -6,6 +6,7 @@
 //! see as their bytes and their elements alone. Stands on std.
 #![tactic(auto)]
 
+mod ascii;
 mod classes;
 mod contexts;
 mod document;

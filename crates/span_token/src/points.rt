@@ -13,6 +13,7 @@ pub(crate) struct Point {
 }
 
 /// The class of the character at a point, and the point after it; None at the end.
+#[inline(always)]
 pub(crate) fn step(text: &str, at: Point) -> Option<(Class, Point)>
     requires point { IsPoint text.now at }
     requires short { length text.now ≤ 16777216 }
@@ -48,6 +49,7 @@ fn step_beyond(text: &str, at: Point) -> Option<(Class, Point)>
 }
 
 /// The first point from `from` on at which no word character stands.
+#[inline(always)]
 pub(crate) fn past_word(text: &str, from: Point) -> Point
     requires point { IsPoint text.now from }
     requires short { length text.now ≤ 16777216 }

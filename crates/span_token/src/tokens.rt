@@ -3,6 +3,7 @@ ghost use Rattle.span_token.specs.Extents.{extent_of};
 ghost use Rattle.span_token.specs.Tokens.{tokens_of, AreTokens};
 ghost use Rattle.span_token.specs.Places.{FitsTokens};
 
+use crate::ascii::ascii_tokens;
 use crate::scan::TokenScan;
 use crate::{OutOfMemory, Span};
 use std::alloc::Global;
@@ -16,6 +17,18 @@ pub fn tokens_of_text(alloc: Global, text: &str) -> Result<Vec<Span>, OutOfMemor
     requires short { length text.now ≤ 16777216 }
     ensures list { IfOk result (λ spans. map extent_of spans.items ≡ tokens_of (chars text.now)) }
     ensures meaning { IfOk result (λ spans. AreTokens (chars text.now) (map extent_of spans.items)) }
+{
+    if text.is_ascii() {
+        ascii_tokens(alloc, text.as_bytes())
+    } else {
+        decoded_tokens(alloc, text)
+    }
+}
+
+/// The tokens of a text, decoded where it isn't ASCII.
+fn decoded_tokens(alloc: Global, text: &str) -> Result<Vec<Span>, OutOfMemory>
+    requires { length text.now ≤ 16777216 }
+    ensures { IfOk result (λ spans. map extent_of spans.items ≡ tokens_of (chars text.now)) }
 {
     let mut spans = Vec::new(alloc);
     let mut scan = TokenScan::new(text);
