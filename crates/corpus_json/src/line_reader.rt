@@ -63,6 +63,7 @@ impl<S: Source> LineReader<S> {
         ensures answer { IfOk result (λ next. NextLine (S.left self.old.source) (S.left self.new.source)
             (S.faults self.old.source) (S.faults self.new.source) self.old.reading self.new.reading
             (line_in next) (step_of next)) }
+        ensures err { OnErr result (Took (S.left self.old.source) (S.left self.new.source)) }
         ensures told { is_some (S.left self.new.source) ≡ is_some (S.left self.old.source) }
         ensures later { S.faults self.old.source ≤ S.faults self.new.source }
         ensures lasting { IfSome self.old.reading.last
