@@ -4,6 +4,7 @@ use Rattle.std.specs.Prelude.{◌≡◌, ◌≢◌, ℕ, ℤ, Bool, true, not, �
 use Rattle.std.specs.List.{AllPass, list_any, flat_map}
 use Rattle.std.specs.Int.{w64}
 use Rattle.std.specs.Char.{is_ascii_alphabetic, is_ascii_alphanumeric, is_ascii_digit}
+use Rattle.std.specs.Str.{byte}
 use Rattle.std.specs.Str.Parse.{signed_digits_value}
 use Rattle.aql_lexer.specs.Kinds.{Kind, word, name, int, str, regex, symbol}
 
@@ -36,7 +37,7 @@ is_white b = is_one_of (32 ∷ 9 ∷ 13 ∷ 10 ∷ 12 ∷ []) b
 
 -- one byte of white space, or a U+FEFF before which nothing stands
 abbrev pub IsWhite : List ℕ → List ℕ → Type 0
-IsWhite before bytes = ((b : ℕ) × (bytes ≡ b ∷ []) × (is_white b ≡ true)) ⊎ ((before ≡ []) × (bytes ≡ 239 ∷ 187 ∷ 191 ∷ []))
+IsWhite before bytes = ((b : ℕ) × (bytes ≡ b ∷ []) × (is_white b ≡ true)) ⊎ ((before ≡ []) × (bytes ≡ 0xEF ∷ 0xBB ∷ 0xBF ∷ []))
 
 -- `--`, and the bytes before the next LF, or before the end of the text
 pub record IsLineComment (bytes after : List ℕ) : Type 0 where
@@ -56,10 +57,10 @@ IsComment bytes after = IsLineComment bytes after ⊎ IsBlockComment bytes
 -- ---- words, names and numbers
 
 abbrev pub begins_word : ℕ → Bool
-begins_word b = is_ascii_alphabetic b || b == 95
+begins_word b = is_ascii_alphabetic b || b == byte "_"
 
 abbrev pub goes_on_word : ℕ → Bool
-goes_on_word b = is_ascii_alphanumeric b || b == 95
+goes_on_word b = is_ascii_alphanumeric b || b == byte "_"
 
 -- an ASCII letter or `_`, and then the longest run of ASCII letters, digits and `_`
 abbrev pub IsWord : List ℕ → List ℕ → Type 0
@@ -67,18 +68,18 @@ IsWord [] after = ⊥
 IsWord (b ∷ bs) after = (begins_word b ≡ true) × IsLongestRun goes_on_word bs after
 
 abbrev pub is_in_name : ℕ → Bool
-is_in_name b = not (b == 34 || is_line_feed b)
+is_in_name b = not (b == byte "\"" || is_line_feed b)
 
 -- `"`, one or more characters other than `"` and LF, and `"`
 pub record IsName (text bytes : List ℕ) : Type 0 where
-  pub quoted : bytes ≡ 34 ∷ (text ++ 34 ∷ [])
+  pub quoted : bytes ≡ codes "\"" ++ (text ++ codes "\"")
   pub some : text ≢ []
   pub plain : AllPass is_in_name text
 
 -- `-` or nothing, directly before the longest run of digits; the value is in the range of i64
 pub record IsInt (number : ℤ) (bytes after : List ℕ) : Type 0 where
   pub digits : List ℕ
-  pub signed : (bytes ≡ digits) ⊎ (bytes ≡ 45 ∷ digits)
+  pub signed : (bytes ≡ digits) ⊎ (bytes ≡ codes "-" ++ digits)
   pub some : digits ≢ []
   pub longest : IsLongestRun is_ascii_digit digits after
   pub value : number ≡ signed_digits_value 10 bytes
@@ -94,16 +95,16 @@ pub data Piece : Type 0 where
 
 abbrev pub written : Piece → List ℕ
 written (single b) = b ∷ []
-written (pair b) = 92 ∷ b ∷ []
+written (pair b) = byte "\\" ∷ b ∷ []
 
 -- what a piece stands for: before the characters that `escapes` names the backslash falls away
 abbrev pub meant : (ℕ → Bool) → Piece → List ℕ
 meant escapes (single b) = b ∷ []
-meant escapes (pair b) = if escapes b then b ∷ [] else 92 ∷ b ∷ []
+meant escapes (pair b) = if escapes b then b ∷ [] else byte "\\" ∷ b ∷ []
 
 -- a character in no pair is neither the quote nor a backslash
 abbrev pub IsPiece : ℕ → Piece → Type 0
-IsPiece quote (single b) = (b ≢ quote) × (b ≢ 92)
+IsPiece quote (single b) = (b ≢ quote) × (b ≢ byte "\\")
 IsPiece quote (pair b) = ⊤
 
 -- the quote, pieces up to the first quote that is in no pair, and the quote
@@ -119,17 +120,17 @@ escapes_in_string b = is_one_of (codes "'\\") b
 
 -- `\/`
 abbrev pub escapes_in_pattern : ℕ → Bool
-escapes_in_pattern b = b == 47
+escapes_in_pattern b = is_one_of (codes "/") b
 
 -- pieces between `'` and `'`
 abbrev pub IsStr : List ℕ → List ℕ → Type 0
-IsStr text bytes = IsQuoted 39 escapes_in_string text bytes
+IsStr text bytes = IsQuoted (byte "'") escapes_in_string text bytes
 
 -- pieces on one line between `/` and `/`; `/*` begins a comment
 pub record IsRegex (text bytes : List ℕ) : Type 0 where
-  pub quoted : IsQuoted 47 escapes_in_pattern text bytes
+  pub quoted : IsQuoted (byte "/") escapes_in_pattern text bytes
   pub one_line : AllPass is_in_line bytes
-  pub no_comment : slice_index bytes 1 ≢ 42
+  pub no_comment : slice_index bytes 1 ≢ byte "*"
 
 -- ---- symbols
 

@@ -27,7 +27,20 @@ fn add(toks: &mut Vec<Tok>, kind: Option<TokKind>, begin: u32, line: u32) -> Res
     Ok(())
 }
 
-/// The tokens of a program text, in their order.
+/// The tokens of a program text, in their order, or the byte at which it has none.
+///
+/// Space, tab, CR, LF, form feed and a U+FEFF before everything else are white space. A comment goes
+/// from `--` to before the next LF or the end of the text, or from `/*` to the next `*/` behind it.
+/// Words and numbers are as long as they can be, and a number is within i64. A string or a pattern ends
+/// at the first quote or slash that is in no pair with a backslash; `\'` and `\\` in a string and `\/`
+/// in a pattern stand for their second character, any other pair for both. A pattern and a name in
+/// quotes stay on one line, and a name isn't empty. `begin` counts bytes from 0, `line` lines from 1.
+///
+/// `LexFault` comes exactly where all before its byte is read and neither white space nor a comment
+/// nor a token stands at it: at a quote or `/*` that nothing ends, a `-` that is no sign and begins no
+/// comment, a number out of range, or another character.
+///
+/// Meaning: `IsReading` and `IsFault`, `specs/Reading.antt`; the forms, `specs/Tokens.antt`.
 pub fn lex(alloc: Global, text: &str) -> Result<Vec<Tok>, Failure<LexFault>>
     requires { length text.now < 2 ^ 32 }
     ensures tokens { IfOk result (λ toks. IsReading text.now (map token_of toks.items)) }

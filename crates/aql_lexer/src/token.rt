@@ -1,9 +1,9 @@
 use span_token::OwnedText;
 
-/// What a token is; its texts are what it stands for, with quotes taken off and escapes resolved.
+/// What a token is, with what it stands for: quotes are taken off and pairs with a backslash resolved.
 ///
-/// `Word` and `Name` hold a name or keyword, `Str` and `Regex` the text between quotes or slashes,
-/// and `Symbol` one of the ASCII bytes `( ) , . ; * < > { }`.
+/// A `Word` is a keyword or a name as it is written, a `Name` the characters between `"` and `"`, and a
+/// `Symbol` one of the ASCII bytes `( ) , . ; * < > { }`.
 #[derive(Debug, Drop)]
 pub enum TokKind {
     Word(OwnedText),
@@ -22,8 +22,8 @@ pub struct Tok {
     pub line: u32,
 }
 
-/// The byte, from 0, up to which the text reads and at which neither white space nor a comment nor
-/// a token stands.
+/// The byte of a text, from 0, up to which it is read and at which neither white space nor a comment
+/// nor a token stands.
 #[derive(Clone, Copy, Debug, PartialEq, Eq)]
 pub struct LexFault {
     pub place: u32,
