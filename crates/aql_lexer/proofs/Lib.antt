@@ -8,3 +8,4 @@ pub mod Complete
 pub mod Cuts
 pub mod Readings
 pub mod Progress
+pub mod Examples

@@ -1,5 +1,5 @@
 -- What the scanner finds at the front of a text: a form and its length in bytes. The laws that join
--- this to the definition stand in proofs/Stands.antt.
+-- this to the forms stand in proofs/Found.antt and proofs/Complete.antt.
 use Rattle.std.specs.Prelude.{ℕ, ◌+◌, ◌-◌, ◌^◌, ℤ, pos, negsuc, Bool, true, false, not, ◌&&◌, ◌==◌, nat_lt, List, [], ◌∷◌, length, take, drop, slice_index, if◌then◌else◌, Option, Some, None, option_map, option_and_then, ◌≡◌, ◌≤◌, ◌<◌, ◌⊎◌, ⊤}
 use Rattle.std.specs.List.{prefix_len}
 use Rattle.std.specs.Str.{IsCharBoundary}
