@@ -1,9 +1,9 @@
 -- One turn of a run: a line is looked at, or the run ends.
-use Rattle.std.proofs.Common.{◌≡◌, ◌≢◌, ℕ, ◌+◌, ◌<◌, ◌≤◌, ◌^◌, ◌-◌, min, Bool, true, false, not, List, [], ◌∷◌, ◌++◌, length, take, drop, All, ap, ap₂, sym, subst, ◌∙◌, refl, append_assoc, arith, length-append, Option, Some, None, is_some, take-append-drop}
+use Rattle.std.proofs.Common.{◌≡◌, ◌≢◌, ℕ, ◌+◌, ◌<◌, ◌≤◌, ◌^◌, ◌-◌, min, Bool, true, false, not, List, [], ◌∷◌, ◌++◌, length, take, drop, All, ap, ap₂, sym, subst, ◌∙◌, refl, append_assoc, arith, length-append, Option, Some, None, is_some, take-append-drop, Result, Ok, Err, IfSome, inl, inr}
 use Rattle.std.proofs.lemmas.List.{append-nil}
 use Rattle.std.proofs.lemmas.List.Elements.{All-append, All-cons, All-nil}
 use Rattle.std.specs.List.{flat_map}
-use Rattle.std.proofs.lemmas.Bool.{lt-ltb}
+use Rattle.std.proofs.lemmas.Bool.{lt-ltb, le-ltb}
 use Rattle.std.specs.Io.KnownBytes.{Appends, Consumes, IsAtEnd}
 use Rattle.aql_io.specs.Causes.{Rose}
 use Rattle.span_token.specs.Documents.{Doc}
@@ -13,6 +13,7 @@ use Rattle.corpus_json.specs.declared.step.Step.TheVariants.{Line, End, Long, Fa
 use Rattle.corpus_json.specs.Documents.{documents, is_bad_line, is_too_long}
 use Rattle.corpus_json.specs.Lines.{lines_of, joined, HasNoLf}
 use Rattle.corpus_json.specs.Reading.{Reading, NextLine, Took}
+use Rattle.corpus_json.proofs.LineCuts.{lines_of-joined}
 use Rattle.aqlx_top.specs.declared.status.Status.{Status}
 use Rattle.aqlx_top.specs.declared.status.Status.TheVariants.{Done, Corpus, ReadFault}
 use Rattle.aqlx_top.specs.declared.status.CorpusFault.TheVariants.{BadLine, LineLong, CorpusLarge}
@@ -89,6 +90,7 @@ sent_whole piece corpus held_before held_now held_next reading pending number s 
       taken = s.taken;
       later = s.later;
       counted = s.counted;
+      within = s.within;
       read = s.read;
       good = s.good;
       gained = appends_more held_before held_now held_next s.sent pending s.gained h;
@@ -110,9 +112,9 @@ sent_in_part piece corpus held_before held_now held_next count pending part whol
       taken = part.taken;
       gained = appends_more held_before held_now held_next part.sent (take count pending) part.gained h;
       prefix =
-        append_assoc part.sent (take count pending) (drop count pending ++ whole)
-        ∙ ap (λ (bs : List ℕ). part.sent ++ bs) (sym (append_assoc (take count pending) (drop count pending) whole) ∙ ap (λ (bs : List ℕ). bs ++ whole) (take-append-drop count pending) ∙ sym begins)
-        ∙ part.prefix;
+          append_assoc part.sent (take count pending) (drop count pending ++ whole)
+          ∙ ap (λ (bs : List ℕ). part.sent ++ bs) (sym (append_assoc (take count pending) (drop count pending) whole) ∙ ap (λ (bs : List ℕ). bs ++ whole) (take-append-drop count pending) ∙ sym begins)
+          ∙ part.prefix;
     }
 
 -- nothing is meant by what stands from a bad line on
@@ -132,12 +134,14 @@ pub next_line_good : (piece : Doc → List ℕ) (left_before left_now left_next 
     → Stands piece (source_ends left_before left_now faults_before faults_now) held_before held_now reading pending number
     → NextLine left_now left_next faults_now faults_next reading next_reading line Line
     → faults_now ≤ faults_next
+    → next_reading.taken ≤ CORPUS_LIMIT
     → is_bad_line line ≡ false
     → gain ≡ written_for piece (line ∷ [])
     → next_number ≡ number + 1
     → Stands piece (source_ends left_before left_next faults_before faults_next) held_before held_now next_reading (pending ++ gain) next_number
-next_line_good piece left_before left_now left_next faults_before faults_now faults_next held_before held_now reading next_reading pending gain line number next_number s next later good gains counts =
+next_line_good piece left_before left_now left_next faults_before faults_now faults_next held_before held_now reading next_reading pending gain line number next_number s next later within good gains counts =
     record {
+      within = within;
       given = s.given ++ next.more;
       lines = s.lines ++ line ∷ [];
       sent = s.sent;
@@ -148,9 +152,9 @@ next_line_good piece left_before left_now left_next faults_before faults_now fau
       good = All-append (λ (each : List ℕ). is_bad_line each ≡ false) s.lines (line ∷ []) s.good (All-cons (λ (each : List ℕ). is_bad_line each ≡ false) line [] good (All-nil (λ (each : List ℕ). is_bad_line each ≡ false)));
       gained = s.gained;
       wrote =
-        sym (append_assoc s.sent pending gain)
-        ∙ ap₂ (λ (bs cs : List ℕ). bs ++ cs) s.wrote gains
-        ∙ sym (pieces-append piece s.lines (line ∷ []) s.good);
+          sym (append_assoc s.sent pending gain)
+          ∙ ap₂ (λ (bs cs : List ℕ). bs ++ cs) s.wrote gains
+          ∙ sym (pieces-append piece s.lines (line ∷ []) s.good);
       numbered = let e = length-append s.lines (line ∷ []) in let before = s.numbered in counts ∙ (let after : number + 1 ≡ length (s.lines ++ line ∷ []) = omega arith in after);
     }
 
@@ -296,3 +300,65 @@ ended_limit piece left_before left_now left_next faults_before faults_now faults
       gained = s.gained;
       wrote = s.wrote ∙ ap (written_for piece) (sym end.0);
     }
+
+-- memory was wanting for the next line, of which some bytes were taken
+pub part_of_taken : (piece : Doc → List ℕ) (left_before left_now left_next : Option (List ℕ)) (faults_before faults_now faults_next : ℕ) (held_before held_now : Option (List ℕ)) (ready : List ℕ) (taken : ℕ) (last : Option Step) (pending : List ℕ) (number : ℕ)
+    → Stands piece (source_ends left_before left_now faults_before faults_now) held_before held_now (record { ready = ready; taken = taken; last = last }) pending number
+    → last ≡ None
+    → Took left_now left_next
+    → InPart piece (source_ends left_before left_next faults_before faults_next) held_before held_now
+part_of_taken piece left_before left_now left_next faults_before faults_now faults_next held_before held_now ready taken None pending number s going took =
+    let all : lines_of false (s.given ++ took.more) ≡ s.lines ++ lines_of false (ready ++ took.more) =
+        ap (lines_of false) (ap (λ (bs : List ℕ). bs ++ took.more) s.read.0 ∙ append_assoc (joined s.lines) ready took.more)
+        ∙ lines_of-joined false s.lines (ready ++ took.more) s.read.1 in
+    record {
+      given = s.given ++ took.more;
+      how = left_off;
+      sent = s.sent;
+      rest = pending ++ written_for piece (lines_of false (ready ++ took.more));
+      taken = record {
+        taken = consumes_more left_before left_now left_next s.given took.more s.taken took.consumed;
+        ended = λ e. absurd (cc);
+        broken = λ e. absurd (cc);
+        full = λ e. absurd (cc);
+      };
+      gained = s.gained;
+      prefix = prefix_of piece s.sent pending s.lines (lines_of false (ready ++ took.more)) (lines_of false (s.given ++ took.more)) s.good s.wrote all;
+    }
+part_of_taken piece left_before left_now left_next faults_before faults_now faults_next held_before held_now ready taken (Some last) pending number s going took = absurd (cc)
+
+-- a call that was refused for want of memory was no call of a reader that stands still
+pub going_at_err : {E : Type 0} (P : Type 0) (o : Option Step) (e : E) → IfSome o (λ last. (Err e ≡ Ok last) × P) → o ≡ None
+going_at_err P None e lasting = refl
+going_at_err P (Some last) e lasting = let other = lasting.0 in absurd (cc)
+
+-- nothing is written for a bad line
+pub pending_for_bad : (piece : Doc → List ℕ) (pending after line : List ℕ) → is_bad_line line ≡ true → after ≡ pending ++ written_for piece (line ∷ []) → after ≡ pending
+pending_for_bad piece pending after line bad gains =
+    gains ∙ ap (λ (bs : List ℕ). pending ++ bs) (ap (flat_map piece) (documents_from_bad line [] bad)) ∙ append-nil pending
+
+-- a line that was given is no longer than a line may be
+pub line_is_short : (left_now left_next : Option (List ℕ)) (faults_now faults_next : ℕ) (ready : List ℕ) (taken : ℕ) (last : Option Step) (next_reading : Reading) (line : List ℕ)
+    → IfSome last (λ step. step ≡ End)
+    → NextLine left_now left_next faults_now faults_next (record { ready = ready; taken = taken; last = last }) next_reading line Line
+    → length line ≤ LINE_LIMIT
+line_is_short left_now left_next faults_now faults_next ready taken None next_reading line going next = next.answer.0.short
+line_is_short left_now left_next faults_now faults_next ready taken (Some last) next_reading line going next =
+    let other : Line ≡ End = next.answer.0 ∙ going in absurd (cc)
+
+-- after a line the reader goes on, or the source is at its end
+pub goes_on : (left_now left_next : Option (List ℕ)) (faults_now faults_next : ℕ) (ready : List ℕ) (taken : ℕ) (last : Option Step) (next_reading : Reading) (line : List ℕ)
+    → IfSome last (λ step. step ≡ End)
+    → NextLine left_now left_next faults_now faults_next (record { ready = ready; taken = taken; last = last }) next_reading line Line
+    → IfSome next_reading.last (λ step. step ≡ End)
+goes_on left_now left_next faults_now faults_next ready taken None next_reading line going next =
+    elim next.answer.1 [
+    | inl ends ↦ rw ends.going tt
+    | inr ends ↦ rw (ap (λ (r : Reading). r.last) ends.ended) refl
+    ]
+goes_on left_now left_next faults_now faults_next ready taken (Some last) next_reading line going next =
+    let other : Line ≡ End = next.answer.0 ∙ going in absurd (cc)
+
+-- a line that is short is bad just where it is neither blank nor a document
+pub short_is : (line : List ℕ) → length line ≤ LINE_LIMIT → is_too_long line ≡ false
+short_is line short = le-ltb LINE_LIMIT (length line) short

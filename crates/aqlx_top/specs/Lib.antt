@@ -12,4 +12,5 @@ pub mod Taken
 pub mod Progress
 -- what a program means, and what the top call promises
 pub mod Run
+pub mod Turns
 pub mod Outcome

@@ -6,10 +6,12 @@
 //! and documents, and on `aql_regex_extract` for patterns.
 #![tactic(auto)]
 
+mod answer;
 mod extraction;
 mod first_form;
 mod program_file;
 mod put;
+mod run;
 mod status;
 mod status_line;
 mod words;

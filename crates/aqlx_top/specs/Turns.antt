@@ -1,0 +1,15 @@
+-- What one turn of a run comes to.
+use Rattle.std.specs.Prelude.{ℕ, List, Option, Result, Ok, Err}
+use Rattle.span_token.specs.Documents.{Doc}
+use Rattle.span_token.specs.declared.refusal.OutOfMemory.{OutOfMemory}
+use Rattle.corpus_json.specs.Reading.{Reading}
+use Rattle.aqlx_top.specs.declared.run.Turn.{Turn}
+use Rattle.aqlx_top.specs.declared.run.Turn.TheVariants.{Next, Ended}
+use Rattle.aqlx_top.specs.Devices.{SourceEnds}
+use Rattle.aqlx_top.specs.Progress.{Stands, Finished, InPart}
+
+-- the run stands one line further, or it is finished; where memory is wanting a prefix is sent
+abbrev pub Turned : (Doc → List ℕ) → SourceEnds → Option (List ℕ) → Option (List ℕ) → Reading → List ℕ → ℕ → Result Turn OutOfMemory → Type 0
+Turned piece corpus before now reading pending number (Ok Next) = Stands piece corpus before now reading pending number
+Turned piece corpus before now reading pending number (Ok (Ended status)) = Finished piece corpus before now pending status
+Turned piece corpus before now reading pending number (Err _) = InPart piece corpus before now
