@@ -1,7 +1,7 @@
 -- What several writes in a row do to the bytes that a sink holds.
 use Rattle.std.proofs.Common.{◌≡◌, ℕ, ◌+◌, ◌-◌, ◌≤◌, List, [], ◌++◌, length, take, drop, ap, append_assoc, ◌∙◌, sym, refl, None, Some, Option, Result, Ok, Err, arith}
 use Rattle.std.proofs.Math.Seq.{take-add}
-use Rattle.std.proofs.lemmas.List.{take_rest, take_all}
+use Rattle.std.proofs.lemmas.List.{take_rest, take_all, append-nil}
 use Rattle.std.specs.Io.KnownBytes.{Appends, Keeps}
 use Rattle.aqlx_top.specs.Prefixes.{AppendsFront}
 
@@ -26,3 +26,8 @@ appends_next a b c piece n k h j =
 pub front_of_whole : {T E : Type 0} (a b : Option (List ℕ)) (r : Result T E) (xs : List ℕ) → Appends a b xs → AppendsFront a b r xs
 front_of_whole a b (Ok x) xs h = h
 front_of_whole a b (Err e) xs h = let same : length xs ≤ length xs = omega arith in (length xs, rw (take_all (length xs) xs same) h)
+
+-- a sink that nothing was written to
+pub appends_nothing : (a : Option (List ℕ)) → Appends a a []
+appends_nothing None = tt
+appends_nothing (Some xs) = sym (append-nil xs)

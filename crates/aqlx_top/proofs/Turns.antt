@@ -1,28 +1,32 @@
 -- One turn of a run: a line is looked at, or the run ends.
-use Rattle.std.proofs.Common.{◌≡◌, ◌≢◌, ℕ, ◌+◌, ◌<◌, ◌≤◌, ◌^◌, ◌-◌, min, Bool, true, false, not, List, [], ◌∷◌, ◌++◌, length, take, drop, All, ap, ap₂, sym, subst, ◌∙◌, refl, append_assoc, arith, length-append, Option, Some, None, is_some, take-append-drop, Result, Ok, Err, IfSome, inl, inr}
+use Rattle.std.proofs.Common.{◌≡◌, ◌≢◌, ℕ, ◌+◌, ◌<◌, ◌≤◌, ◌^◌, ◌-◌, min, Bool, true, false, not, List, [], ◌∷◌, ◌++◌, length, take, drop, All, ap, ap₂, sym, subst, ◌∙◌, refl, append_assoc, arith, length-append, Option, Some, None, is_some, take-append-drop, Result, Ok, Err, IfSome, OnErr, inl, inr}
 use Rattle.std.proofs.lemmas.List.{append-nil}
 use Rattle.std.proofs.lemmas.List.Elements.{All-append, All-cons, All-nil}
 use Rattle.std.specs.List.{flat_map}
 use Rattle.std.proofs.lemmas.Bool.{lt-ltb, le-ltb}
 use Rattle.std.specs.Io.KnownBytes.{Appends, Consumes, IsAtEnd}
+use Rattle.std.proofs.KnownBytes.{Consumes-nil}
 use Rattle.aql_io.specs.Causes.{Rose}
 use Rattle.span_token.specs.Documents.{Doc}
 use Rattle.corpus_json.specs.declared.limits.TheConstants.{LINE_LIMIT, CORPUS_LIMIT}
 use Rattle.corpus_json.specs.declared.step.Step.{Step}
 use Rattle.corpus_json.specs.declared.step.Step.TheVariants.{Line, End, Long, Failed, Limit}
 use Rattle.corpus_json.specs.Documents.{documents, is_bad_line, is_too_long}
-use Rattle.corpus_json.specs.Lines.{lines_of, joined, HasNoLf}
+use Rattle.corpus_json.specs.Lines.{lines_of, joined, cut, last_line, HasNoLf}
 use Rattle.corpus_json.specs.Reading.{Reading, NextLine, Took}
-use Rattle.corpus_json.proofs.LineCuts.{lines_of-joined}
+use Rattle.corpus_json.proofs.LineCuts.{lines_of-joined, joined-cut}
+use Rattle.aqlx_top.specs.declared.run.Turn.{Turn}
+use Rattle.aqlx_top.specs.Turns.{Turned}
+use Rattle.span_token.specs.declared.refusal.OutOfMemory.{OutOfMemory}
 use Rattle.aqlx_top.specs.declared.status.Status.{Status}
-use Rattle.aqlx_top.specs.declared.status.Status.TheVariants.{Done, Corpus, ReadFault}
+use Rattle.aqlx_top.specs.declared.status.Status.TheVariants.{Done, Program, Usage, Corpus, ReadFault, WriteFault}
 use Rattle.aqlx_top.specs.declared.status.CorpusFault.TheVariants.{BadLine, LineLong, CorpusLarge}
-use Rattle.aqlx_top.specs.Devices.{SourceEnds, source_ends}
-use Rattle.aqlx_top.specs.Progress.{Stands, Finished, InPart, IsReadTo, written_for}
+use Rattle.aqlx_top.specs.Devices.{SourceEnds, SinkEnds, source_ends, IsFlushed}
+use Rattle.aqlx_top.specs.Progress.{Stands, Finished, InPart, Came, IsRunTo, IsReadTo, written_for}
 use Rattle.aqlx_top.specs.Taken.{How, at_end, failed, at_limit, left_off, is_at_end, IsTaken, HasNoBadLine, IsFirstBad}
 use Rattle.aqlx_top.proofs.Documents.{pieces-append, documents_from_bad}
 use Rattle.aqlx_top.proofs.Readings.{IsLeftOff, lines_so_far, line_read, end_read, failed_read, limit_read, long_read}
-use Rattle.aqlx_top.proofs.Sinks.{appends_more}
+use Rattle.aqlx_top.proofs.Sinks.{appends_more, appends_nothing}
 
 -- two reads in a row
 pub consumes_more : (a b c : Option (List ℕ)) (xs ys : List ℕ) → Consumes a b xs → Consumes b c ys → Consumes a c (xs ++ ys)
@@ -98,24 +102,62 @@ sent_whole piece corpus held_before held_now held_next reading pending number s 
       numbered = s.numbered;
     }
 
+-- a front of what is pending is sent, and the rest isn't
+cut_pending : (sent pending whole : List ℕ) (count : ℕ) → sent ++ pending ≡ whole → (sent ++ take count pending) ++ drop count pending ≡ whole
+cut_pending sent pending whole count wrote =
+    append_assoc sent (take count pending) (drop count pending) ∙ ap (λ (bs : List ℕ). sent ++ bs) (take-append-drop count pending) ∙ wrote
+
 -- what is pending is sent in part
-pub sent_in_part : (piece : Doc → List ℕ) (corpus : SourceEnds) (held_before held_now held_next : Option (List ℕ)) (count : ℕ) (pending : List ℕ)
-    → (part : InPart piece corpus held_before held_now) (whole : List ℕ) → part.rest ≡ pending ++ whole
+pub sent_in_part : (piece : Doc → List ℕ) (left_before left_now : Option (List ℕ)) (faults_before faults_now : ℕ) (held_before held_now held_next : Option (List ℕ)) (reading : Reading) (pending : List ℕ) (number count : ℕ)
+    → Stands piece (source_ends left_before left_now faults_before faults_now) held_before held_now reading pending number
+    → Appends held_now held_next (take count pending)
+    → InPart piece (source_ends left_before left_now faults_before faults_now) held_before held_next
+sent_in_part piece left_before left_now faults_before faults_now held_before held_now held_next reading pending number count s h =
+    part_at piece left_before left_now faults_before faults_now held_before held_next s.given s.lines [] reading (s.sent ++ take count pending) (drop count pending) s.taken
+    (rw (append-nil s.lines) s.read) s.good (appends_more held_before held_now held_next s.sent (take count pending) s.gained h)
+    (cut_pending s.sent pending (written_for piece s.lines) count s.wrote)
+
+-- a finished run of which what is pending is sent in part
+pub finished_in_part : (piece : Doc → List ℕ) (corpus : SourceEnds) (held_before held_now held_next : Option (List ℕ)) (pending : List ℕ) (status : Status) (count : ℕ)
+    → Finished piece corpus held_before held_now pending status
     → Appends held_now held_next (take count pending)
     → InPart piece corpus held_before held_next
-sent_in_part piece corpus held_before held_now held_next count pending part whole begins h =
+finished_in_part piece corpus held_before held_now held_next pending status count f h =
     record {
-      given = part.given;
-      how = part.how;
-      sent = part.sent ++ take count pending;
-      rest = drop count pending ++ whole;
-      taken = part.taken;
-      gained = appends_more held_before held_now held_next part.sent (take count pending) part.gained h;
-      prefix =
-          append_assoc part.sent (take count pending) (drop count pending ++ whole)
-          ∙ ap (λ (bs : List ℕ). part.sent ++ bs) (sym (append_assoc (take count pending) (drop count pending) whole) ∙ ap (λ (bs : List ℕ). bs ++ whole) (take-append-drop count pending) ∙ sym begins)
-          ∙ part.prefix;
+      given = f.given;
+      how = f.how;
+      sent = f.sent ++ take count pending;
+      rest = drop count pending;
+      taken = f.taken;
+      gained = appends_more held_before held_now held_next f.sent (take count pending) f.gained h;
+      prefix = cut_pending f.sent pending (written_for piece (lines_of (is_at_end f.how) f.given)) count f.wrote;
     }
+
+-- a finished run of which what is pending is sent whole and flushed
+came_of : (piece : Doc → List ℕ) (corpus : SourceEnds) (out : SinkEnds) (held_now : Option (List ℕ)) (pending : List ℕ) (status : Status)
+    → Finished piece corpus out.held_before held_now pending status
+    → Appends held_now out.held_after pending → IsFlushed out
+    → Came piece corpus out status
+came_of piece corpus out held_now pending status f h flushed =
+    record {
+      given = f.given;
+      how = f.how;
+      taken = f.taken;
+      status_is = f.status_is;
+      wrote = subst (λ (bs : List ℕ). Appends out.held_before out.held_after bs) f.wrote (appends_more out.held_before held_now out.held_after f.sent pending f.gained h);
+      flushed = flushed;
+    }
+
+pub run_to : (piece : Doc → List ℕ) (corpus : SourceEnds) (out : SinkEnds) (held_now : Option (List ℕ)) (pending : List ℕ) (status : Status)
+    → Finished piece corpus out.held_before held_now pending status
+    → Appends held_now out.held_after pending → IsFlushed out
+    → IsRunTo piece corpus out status
+run_to piece corpus out held_now pending Done f h flushed = came_of piece corpus out held_now pending Done f h flushed
+run_to piece corpus out held_now pending (Program fault) f h flushed = came_of piece corpus out held_now pending (Program fault) f h flushed
+run_to piece corpus out held_now pending Usage f h flushed = came_of piece corpus out held_now pending Usage f h flushed
+run_to piece corpus out held_now pending (Corpus fault) f h flushed = came_of piece corpus out held_now pending (Corpus fault) f h flushed
+run_to piece corpus out held_now pending ReadFault f h flushed = came_of piece corpus out held_now pending ReadFault f h flushed
+run_to piece corpus out held_now pending WriteFault f h flushed = absurd f.status_is
 
 -- nothing is meant by what stands from a bad line on
 ended_before : (piece : Doc → List ℕ) (sent pending : List ℕ) (lines : List (List ℕ)) (line : List ℕ) (after all : List (List ℕ)) → HasNoBadLine lines
@@ -309,8 +351,8 @@ pub part_of_taken : (piece : Doc → List ℕ) (left_before left_now left_next :
     → InPart piece (source_ends left_before left_next faults_before faults_next) held_before held_now
 part_of_taken piece left_before left_now left_next faults_before faults_now faults_next held_before held_now ready taken None pending number s going took =
     let all : lines_of false (s.given ++ took.more) ≡ s.lines ++ lines_of false (ready ++ took.more) =
-        ap (lines_of false) (ap (λ (bs : List ℕ). bs ++ took.more) s.read.0 ∙ append_assoc (joined s.lines) ready took.more)
-        ∙ lines_of-joined false s.lines (ready ++ took.more) s.read.1 in
+    ap (lines_of false) (ap (λ (bs : List ℕ). bs ++ took.more) s.read.0 ∙ append_assoc (joined s.lines) ready took.more)
+    ∙ lines_of-joined false s.lines (ready ++ took.more) s.read.1 in
     record {
       given = s.given ++ took.more;
       how = left_off;
@@ -353,8 +395,8 @@ pub goes_on : (left_now left_next : Option (List ℕ)) (faults_now faults_next :
     → IfSome next_reading.last (λ step. step ≡ End)
 goes_on left_now left_next faults_now faults_next ready taken None next_reading line going next =
     elim next.answer.1 [
-    | inl ends ↦ rw ends.going tt
-    | inr ends ↦ rw (ap (λ (r : Reading). r.last) ends.ended) refl
+      | inl ends ↦ rw ends.going tt
+      | inr ends ↦ rw (ap (λ (r : Reading). r.last) ends.ended) refl
     ]
 goes_on left_now left_next faults_now faults_next ready taken (Some last) next_reading line going next =
     let other : Line ≡ End = next.answer.0 ∙ going in absurd (cc)
@@ -362,3 +404,81 @@ goes_on left_now left_next faults_now faults_next ready taken (Some last) next_r
 -- a line that is short is bad just where it is neither blank nor a document
 pub short_is : (line : List ℕ) → length line ≤ LINE_LIMIT → is_too_long line ≡ false
 short_is line short = le-ltb LINE_LIMIT (length line) short
+
+-- at the beginning nothing was taken, looked at, sent or pending
+pub begins : (piece : Doc → List ℕ) (left held : Option (List ℕ)) (faults : ℕ) → Stands piece (source_ends left left faults faults) held held (record { ready = []; taken = 0; last = None }) [] 0
+begins piece left held faults =
+    record {
+      given = [];
+      lines = [];
+      sent = [];
+      taken = Consumes-nil left;
+      later = omega arith;
+      counted = refl;
+      within = omega arith;
+      read = (refl, All-nil HasNoLf);
+      good = All-nil (λ (line : List ℕ). is_bad_line line ≡ false);
+      gained = appends_nothing held;
+      wrote = refl;
+      numbered = refl;
+    }
+
+-- each line that was looked at has a byte at least
+joined_long : (lines : List (List ℕ)) → length lines ≤ length (joined lines)
+joined_long [] = omega arith
+joined_long (line ∷ lines) =
+    let more = joined_long lines in
+    let e = length-append (line ++ 10 ∷ []) (joined lines) in
+    let f = length-append line (10 ∷ []) in
+    omega arith
+
+last_line_long : (rest : List ℕ) → length (last_line true rest) ≤ length rest
+last_line_long [] = omega arith
+last_line_long (byte ∷ rest) = omega arith
+
+lines_long : (bytes : List ℕ) → length (lines_of true bytes) ≤ length bytes
+lines_long bytes =
+    let a = joined_long (cut bytes).lines in
+    let b = last_line_long (cut bytes).rest in
+    let e = length-append (cut bytes).lines (last_line true (cut bytes).rest) in
+    let f = length-append (joined (cut bytes).lines) (cut bytes).rest in
+    let g = ap length (joined-cut bytes) in
+    omega arith
+
+count_read : (left : Option (List ℕ)) (given : List ℕ) (lines : List (List ℕ)) (ready : List ℕ) (taken : ℕ) (last : Option Step)
+    → IsReadTo left given lines (record { ready = ready; taken = taken; last = last }) → length lines ≤ length given
+count_read left given lines ready taken None read =
+    let a = joined_long lines in
+    let e = length-append (joined lines) ready in
+    let f = ap length read.0 in
+    omega arith
+count_read left given lines ready taken (Some last) read =
+    let a = lines_long given in
+    let e = ap (λ (ls : List (List ℕ)). length ls) read.1 in
+    omega arith
+
+-- no more lines were looked at than bytes may be taken
+pub number_within : (piece : Doc → List ℕ) (left_before left_now : Option (List ℕ)) (faults_before faults_now : ℕ) (held_before held_now : Option (List ℕ)) (reading : Reading) (pending : List ℕ) (number : ℕ)
+    → Stands piece (source_ends left_before left_now faults_before faults_now) held_before held_now reading pending number
+    → number ≤ CORPUS_LIMIT
+number_within piece left_before left_now faults_before faults_now held_before held_now reading pending number s =
+    let a = count_read left_now s.given s.lines reading.ready reading.taken reading.last s.read in
+    let b = s.counted in
+    let d = s.within in
+    let e = s.numbered in
+    omega arith
+
+-- a fact holds at an error too
+pub at_err : {T E : Type 0} (P : Type 0) (r : Result T E) → P → OnErr r P
+at_err P (Ok x) p = tt
+at_err P (Err e) p = p
+
+-- what a turn comes to, for a piece that is written alike
+pub turned_alike : (piece other : Doc → List ℕ) (corpus next : SourceEnds) (before now : Option (List ℕ)) (reading next_reading : Reading) (pending next_pending : List ℕ) (number next_number : ℕ) (came : Result Turn OutOfMemory)
+    → other ≡ piece
+    → Stands piece corpus before now reading pending number
+    → (Stands other corpus before now reading pending number → Turned other next before now next_reading next_pending next_number came)
+    → Turned piece next before now next_reading next_pending next_number came
+turned_alike piece other corpus next before now reading next_reading pending next_pending number next_number came same stands turned =
+    subst (λ (p : Doc → List ℕ). Turned p next before now next_reading next_pending next_number came) same
+    (turned (subst (λ (p : Doc → List ℕ). Stands p corpus before now reading pending number) (sym same) stands))

@@ -1,8 +1,10 @@
 -- What one turn of a run comes to.
-use Rattle.std.specs.Prelude.{ℕ, List, Option, Result, Ok, Err}
+use Rattle.std.specs.Prelude.{◌≡◌, ℕ, List, [], Option, None, Result, Ok, Err}
 use Rattle.span_token.specs.Documents.{Doc}
 use Rattle.span_token.specs.declared.refusal.OutOfMemory.{OutOfMemory}
 use Rattle.corpus_json.specs.Reading.{Reading}
+use Rattle.row_values.specs.Outputs.{OutputNames}
+use Rattle.aqlx_top.specs.declared.run.Work.{Work}
 use Rattle.aqlx_top.specs.declared.run.Turn.{Turn}
 use Rattle.aqlx_top.specs.declared.run.Turn.TheVariants.{Next, Ended}
 use Rattle.aqlx_top.specs.Devices.{SourceEnds}
@@ -13,3 +15,18 @@ abbrev pub Turned : (Doc → List ℕ) → SourceEnds → Option (List ℕ) → 
 Turned piece corpus before now reading pending number (Ok Next) = Stands piece corpus before now reading pending number
 Turned piece corpus before now reading pending number (Ok (Ended status)) = Finished piece corpus before now pending status
 Turned piece corpus before now reading pending number (Err _) = InPart piece corpus before now
+
+-- a run at its beginning: nothing is read, looked at or pending
+pub record Begins (work : Work) (outputs : List OutputNames) (pattern : List ℕ) : Type 0 where
+  pub outputs_are : work.outputs.now ≡ outputs
+  pub searches : work.searcher ≡ pattern
+  pub reader : work.reader ≡ record { ready = []; taken = 0; last = None }
+  pub pending : work.pending.items ≡ []
+  pub number : work.number ≡ 0
+
+-- what sending leaves alone
+pub record IsKept (before now : Work) : Type 0 where
+  pub outputs : now.outputs ≡ before.outputs
+  pub searcher : now.searcher ≡ before.searcher
+  pub reader : now.reader ≡ before.reader
+  pub number : now.number ≡ before.number

@@ -1,9 +1,11 @@
-ghost use Rattle.std.specs.Prelude.{◌≡◌, ℕ, ◌+◌, ◌≤◌, [], ◌++◌, not, IfOk, OnOk, OnErr, Option, List, is_some, length, Result, ◌<◌, ◌^◌};
-ghost use Rattle.aqlx_top.specs.Devices.{source_ends, sink_ends};
+ghost use Rattle.std.specs.Prelude.{◌≡◌, ℕ, ◌+◌, ◌≤◌, [], ◌++◌, not, IfOk, OnOk, OnErr, Option, List, is_some, length, MatchResult, ◌<◌, ◌^◌};
+ghost use Rattle.aql_io.specs.Causes.{Rose};
+ghost use Rattle.span_token.specs.Documents.{Doc};
+ghost use Rattle.aqlx_top.specs.Devices.{SourceEnds, source_ends, sink_ends};
 ghost use Rattle.aqlx_top.specs.Prefixes.{AppendsFront};
-ghost use Rattle.aqlx_top.specs.Progress.{Stands, InPart, IsGoing, IsRunTo};
+ghost use Rattle.aqlx_top.specs.Progress.{Stands, Finished, InPart, IsGoing, IsRunTo};
 ghost use Rattle.aqlx_top.specs.Run.{line_for, IsOneColumn};
-ghost use Rattle.aqlx_top.specs.Turns.{Turned};
+ghost use Rattle.aqlx_top.specs.Turns.{Turned, Begins, IsKept};
 
 use crate::answer::answer;
 use crate::put::{put, put_and_flush};
@@ -19,6 +21,7 @@ use std::alloc::Global;
 const PIECE: usize = 65_536;
 
 /// What a run keeps from line to line.
+#[derive(Drop)]
 pub(crate) struct Work<'p> {
     pub outputs: &'p [Output],
     pub reader: LineBuffer,
@@ -36,7 +39,11 @@ pub(crate) enum Turn {
 }
 
 /// Looks at the next line, and puts what is written for it after what is pending.
-fn take_turn<S: Source>(alloc: Global, work: &mut Work<'_>, corpus: &mut S) -> Result<Turn, OutOfMemory>
+fn take_turn<S: Source>(
+    alloc: Global,
+    work: &mut Work<'_>,
+    corpus: &mut S,
+) -> Result<Turn, OutOfMemory>
     requires one { IsOneColumn work.old.outputs.now }
     requires room { work.old.number < 2 ^ 63 }
     requires going { IsGoing work.old.reader }
@@ -68,5 +75,84 @@ fn take_turn<S: Source>(alloc: Global, work: &mut Work<'_>, corpus: &mut S) -> R
         Step::Long => Ok(Turn::Ended(Status::Corpus(CorpusFault::LineLong(work.number + 1)))),
         Step::Failed => Ok(Turn::Ended(Status::ReadFault)),
         Step::Limit => Ok(Turn::Ended(Status::Corpus(CorpusFault::CorpusLarge))),
+    }
+}
+
+/// Runs a pattern over a corpus: writes the line of each document, until a line is bad, the corpus
+/// ends, or it can't be read or written any more. What is written is flushed at the end.
+pub(crate) fn run<S: Source, O: Sink>(
+    alloc: Global,
+    outputs: &[Output],
+    pattern: &Pattern,
+    corpus: &mut S,
+    out: &mut O,
+) -> Result<Status, OutOfMemory>
+    requires one { IsOneColumn outputs.now }
+    ensures ran { IfOk result (IsRunTo (line_for outputs.now pattern.now)
+        (source_ends (S.left corpus.old) (S.left corpus.new) (S.faults corpus.old) (S.faults corpus.new))
+        (sink_ends (O.held out.old) (O.held out.new) (O.flushed out.old) (O.flushed out.new) (O.faults out.old) (O.faults out.new))) }
+    ensures part { OnErr result (InPart (line_for outputs.now pattern.now)
+        (source_ends (S.left corpus.old) (S.left corpus.new) (S.faults corpus.old) (S.faults corpus.new))
+        (O.held out.old) (O.held out.new)) }
+{
+    let mut work = begin(alloc, outputs, pattern)?;
+    'lines: loop {
+        match send_in_time(out, &mut work) {
+            Ok(()) => {}
+            Err(Failed) => return Ok(Status::WriteFault),
+        }
+        match take_turn(alloc, &mut work, corpus)? {
+            Turn::Next => {}
+            Turn::Ended(status) => return Ok(finish(out, &work.pending, status)),
+        }
+    }
+}
+
+fn begin<'p>(
+    alloc: Global,
+    outputs: &'p [Output],
+    pattern: &'p Pattern,
+) -> Result<Work<'p>, OutOfMemory>
+    ensures { IfOk result (λ work. Begins work outputs.now pattern.now) }
+{
+    Ok(Work {
+        outputs,
+        reader: LineBuffer::new(alloc)?,
+        line: Vec::new(alloc),
+        number: 0,
+        searcher: Searcher::new(alloc, pattern)?,
+        found: Vec::new(alloc),
+        pending: Vec::new(alloc),
+    })
+}
+
+/// Writes what is pending, where it is a piece or where no input is waiting.
+fn send_in_time<O: Sink>(out: &mut O, work: &mut Work<'_>) -> Result<(), Failed>
+    ensures sent { (piece : Doc → List ℕ) (left_before left_now : Option (List ℕ)) (faults_before faults_now : ℕ) (before : Option (List ℕ)) →
+        Stands piece (source_ends left_before left_now faults_before faults_now) before (O.held out.old) work.old.reader work.old.pending.items work.old.number →
+        MatchResult result
+        (λ _. Stands piece (source_ends left_before left_now faults_before faults_now) before (O.held out.new) work.new.reader work.new.pending.items work.new.number)
+        (λ _. InPart piece (source_ends left_before left_now faults_before faults_now) before (O.held out.new)) }
+    ensures same { IsKept work.old work.new }
+    ensures later { O.faults out.old ≤ O.faults out.new }
+    ensures cause { OnErr result (Rose (O.faults out.old) (O.faults out.new)) }
+{
+    if work.pending.len() >= PIECE || work.reader.is_empty() {
+        put(out, &work.pending)?;
+        work.pending.clear();
+    }
+    Ok(())
+}
+
+/// Writes what is pending and flushes it.
+fn finish<O: Sink>(out: &mut O, pending: &[u8], status: Status) -> Status
+    ensures { (piece : Doc → List ℕ) (corpus : SourceEnds) (before : Option (List ℕ)) (flushed faults : ℕ) →
+        faults ≤ O.faults out.old →
+        Finished piece corpus before (O.held out.old) pending.now status →
+        IsRunTo piece corpus (sink_ends before (O.held out.new) flushed (O.flushed out.new) faults (O.faults out.new)) result }
+{
+    match put_and_flush(out, pending) {
+        Ok(()) => status,
+        Err(Failed) => Status::WriteFault,
     }
 }

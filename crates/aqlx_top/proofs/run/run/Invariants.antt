@@ -1,0 +1,20 @@
+use Rattle.std.proofs.Common.{◌≡◌, ◌-◌, ◌≤◌}
+use Rattle.corpus_json.specs.declared.limits.TheConstants.{CORPUS_LIMIT}
+use Rattle.aqlx_top.specs.Devices.{source_ends}
+use Rattle.aqlx_top.specs.Progress.{Stands, IsGoing}
+use Rattle.aqlx_top.specs.Run.{line_for}
+use Rattle.aqlx_top.proofs.run.run.Given as goal
+
+abbrev pub invariant-lines : goal.invariant-lines
+invariant-lines g l = record {
+  stands : Stands (line_for l.fn.outputs l.fn.pattern)
+      (source_ends (g.S.Source.left l.initial.corpus) (g.S.Source.left l.corpus) (g.S.Source.faults l.initial.corpus) (g.S.Source.faults l.corpus))
+      (g.O.Sink.held l.initial.out) (g.O.Sink.held l.out) l.work.reader l.work.pending.items l.work.number;
+  outputs : l.work.outputs.now ≡ l.fn.outputs;
+  searches : l.work.searcher ≡ l.fn.pattern;
+  going : IsGoing l.work.reader;
+  later : g.O.Sink.faults l.initial.out ≤ g.O.Sink.faults l.out;
+}
+
+abbrev pub decreases-lines : goal.decreases-lines
+decreases-lines g l = CORPUS_LIMIT - l.work.number
