@@ -4,3 +4,4 @@ pub mod FileLemmas
 pub mod Documents
 pub mod Readings
 pub mod Turns
+pub mod Answers

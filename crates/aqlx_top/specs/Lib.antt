@@ -14,3 +14,4 @@ pub mod Progress
 pub mod Run
 pub mod Turns
 pub mod Outcome
+pub mod Programs

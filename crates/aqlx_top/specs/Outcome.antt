@@ -1,5 +1,5 @@
 -- The promise of the top call: what each answer says of the words, the files, the corpus and what was written.
-use Rattle.std.specs.Prelude.{◌≡◌, ◌≢◌, ℕ, ◌<◌, ◌⊎◌, true, List, [], length, take, Option, Some, Result, Ok, Err, IfSome, IsSomeAnd, IsErr}
+use Rattle.std.specs.Prelude.{◌≡◌, ◌≢◌, ℕ, ◌<◌, ◌≤◌, ◌⊎◌, true, List, [], length, take, Option, Some, Result, Ok, Err, IfSome, IsSomeAnd, IsErr}
 use Rattle.span_token.specs.declared.refusal.OutOfMemory.{OutOfMemory}
 use Rattle.corpus_json.specs.declared.limits.TheConstants.{CORPUS_LIMIT}
 use Rattle.corpus_json.specs.Lines.{lines_of}
@@ -10,22 +10,26 @@ use Rattle.aqlx_top.specs.declared.status.ProgramFault.TheVariants.{Syntax}
 use Rattle.aqlx_top.specs.declared.status.CorpusFault.{CorpusFault}
 use Rattle.aqlx_top.specs.Devices.{FilesEnds, SourceEnds, SinkEnds, FilesFailed, SourceFailed, SinkFailed, Gained, IsUntouched}
 use Rattle.aqlx_top.specs.FirstForm.{Form, IsFirstForm}
-use Rattle.aqlx_top.specs.Run.{Program, Ran, RanInPart}
+use Rattle.aqlx_top.specs.Progress.{IsRunTo}
+use Rattle.aqlx_top.specs.Run.{Program, Ran, RanInPart, line_of}
 use Rattle.aqlx_top.specs.Taken.{HasNoBadLine}
 use Rattle.aqlx_top.specs.Statuses.{HasLine, HasLinePart}
 use Rattle.aqlx_top.specs.Words.{IsRun, IsNoRun}
 
--- what a call is given, and what it did
+-- what a call is given, and what it did, standard error apart
 pub record Call : Type 0 where
   pub words : List (List ℕ)
   pub files : FilesEnds
   pub corpus : SourceEnds
   pub out : SinkEnds
-  pub err : SinkEnds
 
 -- the program that a form stands for
 abbrev pub program_of : Form → Program
 program_of form = record { view = form.view; pattern = form.pattern; column = form.column }
+
+-- the call of these words over these objects
+abbrev pub call_of : List (List ℕ) → FilesEnds → SourceEnds → SinkEnds → Call
+call_of words files corpus out = record { words = words; files = files; corpus = corpus; out = out }
 
 -- the words name a program file that holds this program
 pub record IsCalledFor (call : Call) (program : Program) : Type 0 where
@@ -49,6 +53,52 @@ pub record RanTowards (call : Call) : Type 0 where
   pub called : IsCalledFor call program
   pub ran : RanInPart program call.corpus call.out
 
+-- the one refusal of a program: its first statement, on its first line
+abbrev pub IsRefusal : Status → Type 0
+IsRefusal status = status ≡ Refused (Syntax (record { statement = 1; line = 1 }))
+
+-- the text is a program of the one form, and it ran
+pub record RanForm (text : List ℕ) (corpus : SourceEnds) (out : SinkEnds) (status : Status) : Type 0 where
+  pub form : Form
+  pub reads : IsFirstForm text form
+  pub few : length text ≤ 2000
+  pub ran : IsRunTo (line_of (program_of form)) corpus out status
+
+-- the text is a program of the one form, and it ran in part
+pub record RanFormInPart (text : List ℕ) (corpus : SourceEnds) (out : SinkEnds) : Type 0 where
+  pub form : Form
+  pub reads : IsFirstForm text form
+  pub few : length text ≤ 2000
+  pub ran : RanInPart (program_of form) corpus out
+
+-- what a program text comes to: it is refused and nothing is done, or it ran
+abbrev pub IsTextRunTo : List ℕ → SourceEnds → SinkEnds → Status → Type 0
+IsTextRunTo text corpus out status = (IsRefusal status × IsUntouched out) ⊎ RanForm text corpus out status
+
+abbrev pub IsTextInPart : List ℕ → SourceEnds → SinkEnds → Type 0
+IsTextInPart text corpus out = Gained out [] ⊎ RanFormInPart text corpus out
+
+-- the file holds a text that ran
+pub record RanFile (name : List ℕ) (files : FilesEnds) (corpus : SourceEnds) (out : SinkEnds) (status : Status) : Type 0 where
+  pub text : List ℕ
+  pub file : IfSome files.told (λ names. names name ≡ Some text)
+  pub ran : RanForm text corpus out status
+
+-- the file holds a text that ran in part
+pub record RanFileInPart (name : List ℕ) (files : FilesEnds) (corpus : SourceEnds) (out : SinkEnds) : Type 0 where
+  pub text : List ℕ
+  pub file : IfSome files.told (λ names. names name ≡ Some text)
+  pub ran : RanFormInPart text corpus out
+
+-- what a program file comes to: it can't be read, or its program is refused, or it ran
+abbrev pub IsFileRunTo : List ℕ → FilesEnds → SourceEnds → SinkEnds → Status → Type 0
+IsFileRunTo name files corpus out status =
+    ((status ≡ ReadFault) × FilesFailed files × IsUntouched out)
+    ⊎ ((IsRefusal status × IsUntouched out) ⊎ RanFile name files corpus out status)
+
+abbrev pub IsFileInPart : List ℕ → FilesEnds → SourceEnds → SinkEnds → Type 0
+IsFileInPart name files corpus out = Gained out [] ⊎ RanFileInPart name files corpus out
+
 -- whatever a call answers: what it wrote is nothing, or a prefix of what the called program means
 abbrev pub WroteFront : Call → Type 0
 WroteFront call = Gained call.out [] ⊎ RanTowards call
@@ -69,28 +119,28 @@ HasCauseOf call ReadFault = (FilesFailed call.files × StoppedBefore call) ⊎ R
 HasCauseOf call WriteFault = SinkFailed call.out × RanTowards call
 
 -- a status in whose place a failed write of its line is answered
-pub record LineFailed (call : Call) : Type 0 where
+pub record LineFailed (call : Call) (err : SinkEnds) : Type 0 where
   pub replaced : Status
   pub cause : HasCauseOf call replaced
-  pub failed : SinkFailed call.err
-  pub part : HasLinePart call.err replaced
+  pub failed : SinkFailed err
+  pub part : HasLinePart err replaced
 
 -- what an answer says: each status has its cause and its line; a failed write is one of the output or of that line
-abbrev pub IsAnswered : Call → Result Status OutOfMemory → Type 0
-IsAnswered call (Ok WriteFault) = (HasCauseOf call WriteFault × IsUntouched call.err) ⊎ LineFailed call
-IsAnswered call (Ok status) = HasCauseOf call status × HasLine call.err status
-IsAnswered call (Err _) = WroteFront call × IsUntouched call.err
+abbrev pub IsAnswered : Call → SinkEnds → Result Status OutOfMemory → Type 0
+IsAnswered call err (Ok WriteFault) = (HasCauseOf call WriteFault × IsUntouched err) ⊎ LineFailed call err
+IsAnswered call err (Ok status) = HasCauseOf call status × HasLine err status
+IsAnswered call err (Err _) = WroteFront call × IsUntouched err
 
 -- every line of a corpus below the limit is blank or a document
 abbrev pub IsOfDocuments : SourceEnds → Type 0
 IsOfDocuments corpus = IsSomeAnd corpus.left_before (λ bytes. (length bytes < CORPUS_LIMIT) × HasNoBadLine (lines_of true bytes))
 
 -- no call of any object failed
-pub record HasNoFault (call : Call) : Type 0 where
+pub record HasNoFault (call : Call) (err : SinkEnds) : Type 0 where
   pub files : ¬ FilesFailed call.files
   pub corpus : ¬ SourceFailed call.corpus
   pub out : ¬ SinkFailed call.out
-  pub err : ¬ SinkFailed call.err
+  pub line : ¬ SinkFailed err
 
 -- the program that the words name is not refused
 abbrev pub IsAccepted : Result Status OutOfMemory → Type 0
@@ -101,12 +151,12 @@ abbrev pub IsDoneOrWanting : Result Status OutOfMemory → Type 0
 IsDoneOrWanting result = (result ≡ Ok Done) ⊎ IsErr result
 
 -- the promise of the top call
-pub record Outcome (call : Call) (result : Result Status OutOfMemory) : Type 0 where
+pub record Outcome (call : Call) (err : SinkEnds) (result : Result Status OutOfMemory) : Type 0 where
   -- each answer has its cause, its line on standard error, and its bytes on the output
-  pub answered : IsAnswered call result
+  pub answered : IsAnswered call err result
   -- whatever the answer is
   pub front : WroteFront call
   -- words that ask for no run have the status of usage, or memory or the line's writing failed
-  pub usage : IsNoRun call.words → (result ≡ Ok Usage) ⊎ ((result ≡ Ok WriteFault) × SinkFailed call.err) ⊎ IsErr result
+  pub usage : IsNoRun call.words → (result ≡ Ok Usage) ⊎ ((result ≡ Ok WriteFault) × SinkFailed err) ⊎ IsErr result
   -- with right words, a program that is read, a corpus of documents and no fault, all is done or memory is wanting
-  pub complete : (name : List ℕ) → IsRun call.words name → IsAccepted result → IsOfDocuments call.corpus → HasNoFault call → IsDoneOrWanting result
+  pub complete : (name : List ℕ) → IsRun call.words name → IsAccepted result → IsOfDocuments call.corpus → HasNoFault call err → IsDoneOrWanting result

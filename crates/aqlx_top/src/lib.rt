@@ -9,11 +9,14 @@
 mod answer;
 mod extraction;
 mod first_form;
+mod program;
 mod program_file;
 mod put;
 mod run;
 mod status;
 mod status_line;
+mod top;
 mod words;
 
 pub use status::{CorpusFault, ProgramFault, Status, SyntaxFault};
+pub use top::aqlx;

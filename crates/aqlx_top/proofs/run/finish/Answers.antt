@@ -8,6 +8,7 @@ returns-in-Ok g c = λ piece corpus before flushed faults low finished.
     (g.O.Sink.held c.args.out.now) c.args.pending.now c.args.status finished c.in-Ok.ensures.bytes c.in-Ok.ensures.flushed
 
 pub returns-in-Err : goal.returns-in-Err
-returns-in-Err g c = λ piece corpus before flushed faults low finished.
-    (law.rose_later faults (g.O.Sink.faults c.args.out.now) (g.O.Sink.faults c.put_and_flush.new.out) low c.in-Err.ensures.cause,
-    law.finished_in_part piece corpus before (g.O.Sink.held c.args.out.now) (g.O.Sink.held c.put_and_flush.new.out) c.args.pending.now c.args.status c.in-Err.ensures.bytes.0 finished c.in-Err.ensures.bytes.1)
+returns-in-Err g c = λ piece corpus before flushed faults low finished. (
+  law.rose_later faults (g.O.Sink.faults c.args.out.now) (g.O.Sink.faults c.put_and_flush.new.out) low c.in-Err.ensures.cause,
+  law.finished_in_part piece corpus before (g.O.Sink.held c.args.out.now) (g.O.Sink.held c.put_and_flush.new.out) c.args.pending.now c.args.status c.in-Err.ensures.bytes.0 finished c.in-Err.ensures.bytes.1,
+)

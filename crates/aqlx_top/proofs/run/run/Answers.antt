@@ -27,9 +27,10 @@ lines-init g c =
     }
 
 pub returns-in-Err-clause-ran : goal.returns-in-Err-clause-ran
-returns-in-Err-clause-ran g c =
-    (law.rose_later (g.O.Sink.faults c.args.out.now) (g.O.Sink.faults c.lines.out) (g.O.Sink.faults c.send_in_time.new.out) c.lines.invariant.later c.in-Err.ensures.cause,
-    c.in-Err.ensures.sent (line_for c.args.outputs.now c.args.pattern.now) (g.S.Source.left c.args.corpus.now) (g.S.Source.left c.lines.corpus) (g.S.Source.faults c.args.corpus.now) (g.S.Source.faults c.lines.corpus) (g.O.Sink.held c.args.out.now) c.lines.invariant.stands)
+returns-in-Err-clause-ran g c = (
+  law.rose_later (g.O.Sink.faults c.args.out.now) (g.O.Sink.faults c.lines.out) (g.O.Sink.faults c.send_in_time.new.out) c.lines.invariant.later c.in-Err.ensures.cause,
+  c.in-Err.ensures.sent (line_for c.args.outputs.now c.args.pattern.now) (g.S.Source.left c.args.corpus.now) (g.S.Source.left c.lines.corpus) (g.S.Source.faults c.args.corpus.now) (g.S.Source.faults c.lines.corpus) (g.O.Sink.held c.args.out.now) c.lines.invariant.stands,
+)
 
 pub take_turn-requires-clause-room : goal.take_turn-requires-clause-room
 take_turn-requires-clause-room g c =

@@ -1,0 +1,113 @@
+ghost use Rattle.std.specs.Prelude.{◌≡◌, map, string_bytes, IfOk, OnErr};
+ghost use Rattle.aqlx_top.specs.Devices.{files_ends, source_ends, sink_ends};
+ghost use Rattle.aqlx_top.specs.Outcome.{Outcome, call_of, HasCauseOf, WroteFront, IsFileRunTo, IsFileInPart, IsTextRunTo, IsTextInPart};
+
+use crate::first_form::MOST;
+use crate::program::compile;
+use crate::program_file::read_file;
+use crate::run::run;
+use crate::status_line::report;
+use crate::words::run_of;
+use crate::{ProgramFault, Status, SyntaxFault};
+use aql_io::{Files, Sink, Source};
+use span_token::OutOfMemory;
+use std::alloc::Global;
+
+/// The refusal of a program that isn't of the one form.
+const NOT_THE_FORM: Status = Status::Program(ProgramFault::Syntax(SyntaxFault {
+    statement: 1,
+    line: 1,
+}));
+
+/// Runs what `words` ask for: `run PROGRAM` reads the program file PROGRAM of `files`, reads the corpus
+/// to its end and writes to `out` the line of each document, in the corpus's order.
+///
+/// The words match where they are `run` and one more word. A status of 1 to 4 has its one line on
+/// `err`. With the statuses 1 and 2 nothing is written to `out`; with 0, 3 and 4 all lines of the
+/// documents before the bad line, or before the end, are written and flushed; with 5 and after
+/// want of memory a prefix of them. It holds one line of the corpus, and one piece of output beyond
+/// the lines of one document.
+///
+/// Meaning: `Outcome`, `specs/Outcome.antt`; docs/FORMATS.md, "Exit status and standard error".
+pub fn aqlx<F: Files, S: Source, O: Sink, E: Sink>(
+    alloc: Global,
+    words: &Vec<String>,
+    files: &mut F,
+    corpus: &mut S,
+    out: &mut O,
+    err: &mut E,
+) -> Result<Status, OutOfMemory>
+    ensures { Outcome
+        (call_of (map string_bytes words.now.items) (files_ends (F.told files.old) (F.faults files.old) (F.faults files.new))
+        (source_ends (S.left corpus.old) (S.left corpus.new) (S.faults corpus.old) (S.faults corpus.new))
+        (sink_ends (O.held out.old) (O.held out.new) (O.flushed out.old) (O.flushed out.new) (O.faults out.old) (O.faults out.new)))
+        (sink_ends (E.held err.old) (E.held err.new) (E.flushed err.old) (E.flushed err.new) (E.faults err.old) (E.faults err.new))
+        result }
+{
+    let status = carry_out(alloc, words, files, corpus, out)?;
+    report(alloc, err, status)
+}
+
+/// Does what the words ask for, and tells how it ended.
+fn carry_out<F: Files, S: Source, O: Sink>(
+    alloc: Global,
+    words: &Vec<String>,
+    files: &mut F,
+    corpus: &mut S,
+    out: &mut O,
+) -> Result<Status, OutOfMemory>
+    ensures cause { IfOk result (HasCauseOf
+        (call_of (map string_bytes words.now.items) (files_ends (F.told files.old) (F.faults files.old) (F.faults files.new))
+        (source_ends (S.left corpus.old) (S.left corpus.new) (S.faults corpus.old) (S.faults corpus.new))
+        (sink_ends (O.held out.old) (O.held out.new) (O.flushed out.old) (O.flushed out.new) (O.faults out.old) (O.faults out.new)))) }
+    ensures front { OnErr result (WroteFront
+        (call_of (map string_bytes words.now.items) (files_ends (F.told files.old) (F.faults files.old) (F.faults files.new))
+        (source_ends (S.left corpus.old) (S.left corpus.new) (S.faults corpus.old) (S.faults corpus.new))
+        (sink_ends (O.held out.old) (O.held out.new) (O.flushed out.old) (O.flushed out.new) (O.faults out.old) (O.faults out.new)))) }
+{
+    match run_of(words) {
+        Some(name) => run_file(alloc, name, files, corpus, out),
+        None => Ok(Status::Usage),
+    }
+}
+
+/// Reads a program file and runs its program.
+fn run_file<F: Files, S: Source, O: Sink>(
+    alloc: Global,
+    name: &str,
+    files: &mut F,
+    corpus: &mut S,
+    out: &mut O,
+) -> Result<Status, OutOfMemory>
+    ensures ran { IfOk result (IsFileRunTo name.now (files_ends (F.told files.old) (F.faults files.old) (F.faults files.new))
+        (source_ends (S.left corpus.old) (S.left corpus.new) (S.faults corpus.old) (S.faults corpus.new))
+        (sink_ends (O.held out.old) (O.held out.new) (O.flushed out.old) (O.flushed out.new) (O.faults out.old) (O.faults out.new))) }
+    ensures part { OnErr result (IsFileInPart name.now (files_ends (F.told files.old) (F.faults files.old) (F.faults files.new))
+        (source_ends (S.left corpus.old) (S.left corpus.new) (S.faults corpus.old) (S.faults corpus.new))
+        (sink_ends (O.held out.old) (O.held out.new) (O.flushed out.old) (O.flushed out.new) (O.faults out.old) (O.faults out.new))) }
+{
+    match read_file(alloc, files, name, MOST + 1)? {
+        Some(bytes) => run_text(alloc, &bytes, corpus, out),
+        None => Ok(Status::ReadFault),
+    }
+}
+
+/// Runs the program that a file's bytes hold.
+fn run_text<S: Source, O: Sink>(
+    alloc: Global,
+    bytes: &[u8],
+    corpus: &mut S,
+    out: &mut O,
+) -> Result<Status, OutOfMemory>
+    ensures ran { IfOk result (IsTextRunTo bytes.now
+        (source_ends (S.left corpus.old) (S.left corpus.new) (S.faults corpus.old) (S.faults corpus.new))
+        (sink_ends (O.held out.old) (O.held out.new) (O.flushed out.old) (O.flushed out.new) (O.faults out.old) (O.faults out.new))) }
+    ensures part { OnErr result (IsTextInPart bytes.now
+        (source_ends (S.left corpus.old) (S.left corpus.new) (S.faults corpus.old) (S.faults corpus.new))
+        (sink_ends (O.held out.old) (O.held out.new) (O.flushed out.old) (O.flushed out.new) (O.faults out.old) (O.faults out.new))) }
+{
+    match compile(alloc, bytes)? {
+        Some(program) => run(alloc, &program.outputs, &program.pattern, corpus, out),
+        None => Ok(NOT_THE_FORM),
+    }
+}
