@@ -41,7 +41,8 @@ impl<'d> Rows<'d> {
 
     /// The number of columns of each row.
     pub fn width(&self) -> u32
-        ensures { result ≡ self.now.width }
+        ensures width { result ≡ self.now.width }
+        ensures each_row { All (λ row. length row ≡ self.now.width) self.now.rows }
     {
         self.width
     }
