@@ -6,3 +6,5 @@ pub mod RowLaws
 pub mod Counts
 pub mod Chains
 pub mod Products
+pub mod TokenRunLemmas
+pub mod TokenRunLaws

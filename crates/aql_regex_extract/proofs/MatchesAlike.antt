@@ -12,10 +12,10 @@ use Rattle.aql_regex_extract.specs.Views.{Finds}
 use Rattle.aql_regex_extract.proofs.CapturedRows.{row_by-alike}
 
 -- what a caller sees of a match: its span, and the last position of each slot
-abbrev Seen : Type 0
+abbrev pub Seen : Type 0
 Seen = ℕ × ℕ × (ℕ → Option ℕ)
 
-seen_group : Seen → ℕ → Option (ℕ × ℕ)
+pub seen_group : Seen → ℕ → Option (ℕ × ℕ)
 seen_group s zero = Some (s.0, s.1)
 seen_group s (suc n) = both (s.2 (2 * suc n)) (s.2 (2 * suc n + 1))
 
@@ -24,7 +24,7 @@ unfolding seen_group
 group_in-seen m zero = refl
 group_in-seen m (suc n) = refl
 
-row_of-seen : (d : Doc) (source : Extent) (groups : List ℕ) (m : Match) → row_of d source groups m ≡ row_by d source groups (seen_group (spans m))
+pub row_of-seen : (d : Doc) (source : Extent) (groups : List ℕ) (m : Match) → row_of d source groups m ≡ row_by d source groups (seen_group (spans m))
 row_of-seen d source groups m = row_by-alike d source (group_in m) (seen_group (spans m)) (group_in-seen m) groups
 
 rows-seen : (d : Doc) (source : Extent) (groups : List ℕ) (ms : List Match) →

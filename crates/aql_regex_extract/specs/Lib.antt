@@ -11,3 +11,5 @@ pub mod Weight
 pub mod Capped
 -- why a text is refused
 pub mod Faults
+-- token-bounded patterns
+pub mod TokenRuns

@@ -23,7 +23,7 @@ unfoldable pub group_count_of : List ℕ → ℕ
 group_count_of text = groups_within (read default_config (chars text))
 
 -- the whole-text form: the pattern, and nothing before or after it
-abbrev pub whole_form : List ℕ → List ℕ
+unfoldable pub whole_form : List ℕ → List ℕ
 whole_form text = codes "\\A(?:" ++ text ++ codes ")\\z"
 
 -- the text, or its whole-text form, stands for no tree

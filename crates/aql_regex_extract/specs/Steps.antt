@@ -1,5 +1,5 @@
 -- One step of a search through the text of an extent: what it finds, and what it puts after the rows so far.
-use Rattle.std.specs.Prelude.{◌≡◌, ℕ, ◌++◌, List, [], Option, Some, None, MatchOption, nat_le, if◌then◌else◌}
+use Rattle.std.specs.Prelude.{◌≡◌, ℕ, ◌++◌, List, [], Option, Some, None, Bool, is_some, unwrap_or, MatchOption, nat_le, if◌then◌else◌}
 use Rattle.regex.specs.Patterns.{Match}
 use Rattle.span_token.specs.Documents.{Doc}
 use Rattle.span_token.specs.Extents.{Extent}
@@ -20,3 +20,7 @@ pub record PushesMatch (least : ℕ) (d : Doc) (source : Extent) (groups : List 
 abbrev pub Pushes : ℕ → Doc → Extent → List ℕ → Option Match → List (Option Extent) → List (Option Extent) → Option ℕ → Type 0
 Pushes least d source groups found old new answer =
     MatchOption answer ((found ≡ None) × (new ≡ old)) (PushesMatch least d source groups found old new)
+
+-- a row, if there is one, is put after the others, and the answer says whether there is
+abbrev pub PutsRow : Option (List (Option Extent)) → List (Option Extent) → List (Option Extent) → Bool → Type 0
+PutsRow row old new answer = (answer ≡ is_some row) × (new ≡ old ++ unwrap_or row [])

@@ -3,6 +3,7 @@ ghost use Rattle.span_token.specs.Documents.{LiesIn, text_in};
 ghost use Rattle.span_token.specs.Extents.{extent_of};
 ghost use Rattle.aql_regex_extract.specs.Matches.{has_match, match_rows, extents_of_rows, IsInside};
 ghost use Rattle.aql_regex_extract.specs.Patterns.{whole_form};
+ghost use Rattle.aql_regex_extract.specs.TokenRuns.{run_rows, AreRunRows};
 
 use crate::pattern::Pattern;
 use crate::searcher::Searcher;
@@ -32,6 +33,36 @@ pub fn find_all(
 {
     let mut searcher = Searcher::new(alloc, p)?;
     searcher.find_rows(alloc, doc, source, groups)
+}
+
+/// The token-bounded matches of `p` in `source`, at most one from each token.
+///
+/// From each token wholly in `source`, takes the longest run of `low` to `high` tokens there in whose
+/// text the whole-text form of `p` has a match; a token without such a run gives nothing, and runs may
+/// overlap. A run is one entry for each number in `groups`, in that order, as its first match has them,
+/// None for a group that takes no part. Spans count characters of `doc`.
+///
+/// Meaning: `AreRunRows`, and `run_rows` as a function, `specs/TokenRuns.antt`.
+pub fn find_token_runs(
+    alloc: Global,
+    p: &Pattern,
+    doc: &Document<'_>,
+    source: Span,
+    low: u32,
+    high: u32,
+    groups: &[u32],
+) -> Result<Vec<Vec<Option<Span>>>, OutOfMemory>
+    requires in_document { LiesIn (extent_of source) doc.now }
+    requires at_least_one { 1 ≤ low }
+    ensures longest { IfOk result (λ rows. AreRunRows p.now doc.now (extent_of source) low high groups.now
+        (extents_of_rows rows.items)) }
+    ensures runs { IfOk result (λ rows. extents_of_rows rows.items
+        ≡ run_rows p.now doc.now (extent_of source) low high groups.now) }
+    ensures within { IfOk result (λ rows. All (λ row. All (IsInside (extent_of source)) row.items) rows.items) }
+{
+    let mut searcher = WholeSearcher::new(alloc, p)?;
+    let rows = searcher.find_run_rows(alloc, doc, source, low, high, groups)?;
+    Ok(rows)
 }
 
 /// Whether `p` matches somewhere in `text`.

@@ -10,12 +10,13 @@ mod find;
 mod list;
 mod pattern;
 mod rows;
+mod runs;
 mod search;
 mod searcher;
 mod weight;
 mod whole;
 
-pub use find::{find_all, has_match, matches_whole};
+pub use find::{find_all, find_token_runs, has_match, matches_whole};
 pub use pattern::{Pattern, PatternFault, compile_pattern};
 pub use searcher::Searcher;
 pub use whole::WholeSearcher;

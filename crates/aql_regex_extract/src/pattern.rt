@@ -80,6 +80,7 @@ fn build(alloc: Global, text: &str) -> Result<Regex, Failure<PatternFault>>
 }
 
 /// The whole-text form of a pattern, which matches where the pattern matches a text from end to end.
+#[tactic(auto, unfolding(crate::specs::Patterns::whole_form))]
 fn whole_text_form(alloc: Global, text: &str) -> Result<String, OutOfMemory>
     ensures { IfOk result (λ form. string_bytes form ≡ whole_form text.now) }
 {

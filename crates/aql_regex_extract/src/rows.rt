@@ -1,7 +1,8 @@
 ghost use Rattle.std.specs.Prelude.{◌≡◌, ◌++◌, ◌≤◌, option_map, OnOk, All};
 ghost use Rattle.regex.specs.Strings.{captures_span, captures_haystack};
 ghost use Rattle.span_token.specs.Documents.{LiesIn, text_in, moved};
-ghost use Rattle.span_token.specs.Extents.{extent_of};
+ghost use Rattle.span_token.specs.Extents.{Extent, extent_of};
+ghost use Rattle.span_token.specs.Relations.{ContainsExtent};
 ghost use Rattle.aql_regex_extract.specs.Matches.{placed, row_by, extents_of, IsInside};
 
 use regex::Captures;
@@ -36,8 +37,8 @@ pub(crate) fn push_groups(
     requires in_source { captures_haystack captures.now ≡ text_in doc.now (extent_of source) }
     ensures row { OnOk result (extents_of into.new.items ≡ extents_of into.old.items
         ++ row_by doc.now (extent_of source) groups.now (captures_span captures.now)) }
-    ensures within { All (IsInside (extent_of source)) into.old.items
-        → OnOk result (All (IsInside (extent_of source)) into.new.items) }
+    ensures within { (wide : Extent) → ContainsExtent wide (extent_of source)
+        → All (IsInside wide) into.old.items → OnOk result (All (IsInside wide) into.new.items) }
 {
     for group in groups {
         into.push(group_span(captures, doc, source, *group))?;

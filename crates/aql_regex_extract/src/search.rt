@@ -4,7 +4,8 @@ ghost use Rattle.regex.specs.Patterns.{find_str, find_all_str};
 ghost use Rattle.regex.specs.Search.{next_match};
 ghost use Rattle.regex.specs.Strings.{matcher_pattern};
 ghost use Rattle.span_token.specs.Documents.{LiesIn, text_in};
-ghost use Rattle.span_token.specs.Extents.{extent_of};
+ghost use Rattle.span_token.specs.Extents.{Extent, extent_of};
+ghost use Rattle.span_token.specs.Relations.{ContainsExtent};
 ghost use Rattle.aql_regex_extract.specs.Matches.{row_of, matches_of, has_match, extents_of, IsInside};
 ghost use Rattle.aql_regex_extract.specs.Steps.{Pushes};
 ghost use Rattle.aql_regex_extract.specs.Views.{Finds};
@@ -38,8 +39,8 @@ fn push_span_from(
     ensures found { IfOk result (Pushes least doc.now (extent_of source) groups.now
         (find_str (matcher_pattern matcher.old) text.now start)
         (extents_of into.old.items) (extents_of into.new.items)) }
-    ensures within { All (IsInside (extent_of source)) into.old.items
-        → OnOk result (All (IsInside (extent_of source)) into.new.items) }
+    ensures within { (wide : Extent) → ContainsExtent wide (extent_of source)
+        → All (IsInside wide) into.old.items → OnOk result (All (IsInside wide) into.new.items) }
     ensures same { matcher_pattern matcher.new ≡ matcher_pattern matcher.old }
 {
     let Some(found) = matcher.find_at(text, start) else {
@@ -68,8 +69,8 @@ fn push_groups_from(
     ensures found { IfOk result (Pushes least doc.now (extent_of source) groups.now
         (find_str (matcher_pattern matcher.old) text.now start)
         (extents_of into.old.items) (extents_of into.new.items)) }
-    ensures within { All (IsInside (extent_of source)) into.old.items
-        → OnOk result (All (IsInside (extent_of source)) into.new.items) }
+    ensures within { (wide : Extent) → ContainsExtent wide (extent_of source)
+        → All (IsInside wide) into.old.items → OnOk result (All (IsInside wide) into.new.items) }
     ensures same { matcher_pattern matcher.new ≡ matcher_pattern matcher.old }
 {
     let Some(captures) = matcher.captures_at(text, start) else {
@@ -84,7 +85,7 @@ fn push_groups_from(
 
 /// The end of the match that the text has from `start` on. Where it is `least` or later, its row is
 /// put after the others.
-fn push_from(
+pub(crate) fn push_from(
     matcher: &mut Matcher<'_>,
     doc: &Document<'_>,
     source: Span,
@@ -99,8 +100,8 @@ fn push_from(
     ensures found { IfOk result (Pushes least doc.now (extent_of source) groups.now
         (find_str (matcher_pattern matcher.old) text.now start)
         (extents_of into.old.items) (extents_of into.new.items)) }
-    ensures within { All (IsInside (extent_of source)) into.old.items
-        → OnOk result (All (IsInside (extent_of source)) into.new.items) }
+    ensures within { (wide : Extent) → ContainsExtent wide (extent_of source)
+        → All (IsInside wide) into.old.items → OnOk result (All (IsInside wide) into.new.items) }
     ensures same { matcher_pattern matcher.new ≡ matcher_pattern matcher.old }
 {
     if asks_whole_matches(groups) {

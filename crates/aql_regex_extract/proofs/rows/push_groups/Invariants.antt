@@ -1,11 +1,12 @@
 use Rattle.std.proofs.Common.{◌≡◌, ◌++◌, take, All}
 use Rattle.regex.specs.Strings.{captures_span}
-use Rattle.span_token.specs.Extents.{extent_of}
+use Rattle.span_token.specs.Extents.{Extent, extent_of}
+use Rattle.span_token.specs.Relations.{ContainsExtent}
 use Rattle.aql_regex_extract.specs.Matches.{row_by, extents_of, IsInside}
 use Rattle.aql_regex_extract.proofs.rows.push_groups.Given as goal
 
 abbrev pub invariant-loop-group : goal.invariant-loop-group
 invariant-loop-group l = record {
   rows : extents_of l.into.items ≡ extents_of l.initial.into.items ++ row_by l.doc (extent_of l.source) (take l.group-index l.groups) (captures_span l.captures);
-  within : All (IsInside (extent_of l.source)) l.initial.into.items → All (IsInside (extent_of l.source)) l.into.items;
+  within : (wide : Extent) → ContainsExtent wide (extent_of l.source) → All (IsInside wide) l.initial.into.items → All (IsInside wide) l.into.items;
 }
