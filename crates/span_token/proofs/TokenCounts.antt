@@ -86,3 +86,9 @@ count_by-map f p (x ∷ xs) =
 pub listed_token : (cs : List ℕ) (i : ℕ) (t : Extent) → slice_get (tokens_of cs) i ≡ Some t → IsToken cs t
 listed_token cs i t e =
     subst (IsToken cs) (get_or_from_slice_get (tokens_of cs) i t t e) (token_in_list cs i t (slice_get_within (tokens_of cs) i t e))
+
+pub listed_apart : (cs : List ℕ) (i j : ℕ) (t u : Extent) → i < j → slice_get (tokens_of cs) i ≡ Some t → slice_get (tokens_of cs) j ≡ Some u → t.end ≤ u.begin
+listed_apart cs i j t u h e f =
+    let here : get_or (tokens_of cs) i t ≡ t = get_or_from_slice_get (tokens_of cs) i t t e in
+    let there : get_or (tokens_of cs) j t ≡ u = get_or_from_slice_get (tokens_of cs) j u t f in
+    omega (arith, apart cs i j t h (slice_get_within (tokens_of cs) j u f), ap (λ (x : Extent). x.end) here, ap (λ (x : Extent). x.begin) there)

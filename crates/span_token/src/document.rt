@@ -1,5 +1,5 @@
-ghost use Rattle.std.specs.Prelude.{◌≡◌, ◌≤◌, ◌<◌, ◌+◌, length, slice_get, count_by, nat_lt, nat_le, take, slice_range, chars, IfOk, IsUtf8, IsCharBoundary, option_map};
-ghost use Rattle.span_token.specs.Extents.{extent_of};
+ghost use Rattle.std.specs.Prelude.{ℕ, ◌≡◌, ◌≤◌, ◌<◌, ◌+◌, length, slice_get, count_by, nat_lt, nat_le, take, slice_range, chars, IfOk, IsUtf8, IsCharBoundary, option_map};
+ghost use Rattle.span_token.specs.Extents.{Extent, extent_of};
 ghost use Rattle.span_token.specs.Tokens.{tokens_of, AreTokens};
 ghost use Rattle.span_token.specs.Contexts.{AreWithin};
 ghost use Rattle.span_token.specs.Places.{FitsTokens};
@@ -12,7 +12,12 @@ use crate::{OutOfMemory, Span};
 use std::alloc::Global;
 use std::marker::Model;
 
-/// A text, borrowed, with its label, and what is needed to tell its characters from its bytes.
+/// A text, borrowed, with its label, its tokens, and what tells its characters from its bytes.
+///
+/// Contracts see the bytes of the text and of the label alone. A document may be shared among
+/// threads. No call but `new` and `plain` takes memory.
+///
+/// Meaning: `Doc`, `specs/Documents.antt`.
 #[derive(Drop)]
 pub struct Document<'d> {
     text: &'d str,
@@ -38,7 +43,7 @@ impl<'d> Document<'d> {
     /// The document of `text`, which has at most 16,777,216 bytes, with its label.
     ///
     /// Finds the tokens and keeps them, 8 bytes each. Where the text isn't ASCII, a table of 4 bytes
-    /// for each 64 bytes of text tells its characters from its bytes. No other call takes memory.
+    /// for each 64 bytes of text tells its characters from its bytes.
     pub fn new(
         alloc: Global,
         text: &'d str,
@@ -51,8 +56,10 @@ impl<'d> Document<'d> {
         Document::with_tokens(alloc, text, label, tokens)
     }
 
-    /// The same document, for a caller that asks for no tokens or for few: none are kept, and each
-    /// call that speaks of tokens goes through the text anew.
+    /// The same document, for a caller that asks for no tokens.
+    ///
+    /// None are kept: each call that speaks of tokens gives the same answer, and goes through the
+    /// whole text to find it.
     pub fn plain(
         alloc: Global,
         text: &'d str,
@@ -86,7 +93,7 @@ impl<'d> Document<'d> {
         })
     }
 
-    /// The number of characters.
+    /// The number of characters, which are Unicode scalar values.
     pub fn len(&self) -> u32
         ensures len { result ≡ len_of self.now }
         ensures short { result ≤ 16777216 }
@@ -94,7 +101,7 @@ impl<'d> Document<'d> {
         self.characters
     }
 
-    /// The span of all characters.
+    /// The span of all characters: empty at 0 where there is none.
     pub fn whole(&self) -> Span
         ensures whole { extent_of result ≡ whole_of self.now }
         ensures in_document { LiesIn (extent_of result) self.now }
@@ -105,14 +112,14 @@ impl<'d> Document<'d> {
         }
     }
 
-    /// The label.
+    /// The label that the document was made with.
     pub fn label(&self) -> Option<&'d str>
         ensures { option_map (λ l. l.now) result ≡ self.now.label }
     {
         self.label
     }
 
-    /// The text.
+    /// The text that the document was made of.
     pub fn text(&self) -> &'d str
         ensures text { result.now ≡ self.now.text }
         ensures short { length result.now ≤ 16777216 }
@@ -120,7 +127,9 @@ impl<'d> Document<'d> {
         self.text
     }
 
-    /// The text of `span`.
+    /// The text of `span`, borrowed from the document's: empty for an empty span.
+    ///
+    /// Meaning: `text_in`, `specs/Documents.antt`.
     pub fn text_of(&self, span: Span) -> &'d str
         requires in_document { LiesIn (extent_of span) self.now }
         ensures text { result.now ≡ text_in self.now (extent_of span) }
@@ -131,7 +140,9 @@ impl<'d> Document<'d> {
         &self.text[begin..end]
     }
 
-    /// The number of characters before byte `byte` of the text, at which a character begins or the text ends.
+    /// The number of characters before byte `byte` of the text, counted from 0.
+    ///
+    /// A character begins at that byte, or the text ends there.
     pub fn char_at(&self, byte: u32) -> u32
         requires boundary { IsCharBoundary self.now.text byte }
         ensures char { result ≡ chars_before self.now.text byte }
@@ -140,7 +151,12 @@ impl<'d> Document<'d> {
         self.leads_before(byte as usize)
     }
 
-    /// The span of the bytes `from` to `to` of the text of `source`.
+    /// The bytes `from` to `to` of the text of `source`, as a span of the document.
+    ///
+    /// Bytes count from 0 at the begin of `source`, half-open, and each end stands where a character
+    /// begins or the text of `source` ends. The span lies in `source`, and its text is those bytes.
+    ///
+    /// Meaning: `moved`, `specs/Documents.antt`.
     pub fn span_in(&self, source: Span, from: usize, to: usize) -> Span
         requires in_document { LiesIn (extent_of source) self.now }
         requires from { IsCharBoundary (text_in self.now (extent_of source)) from }
@@ -159,6 +175,12 @@ impl<'d> Document<'d> {
     }
 
     /// The number of tokens.
+    ///
+    /// A token is a longest run of word characters, or a single character that is neither a word
+    /// character nor White_Space. A word character is Alphabetic or of general category Nd, Nl, No,
+    /// Mn or Mc.
+    ///
+    /// Meaning: `AreTokens`, `specs/Tokens.antt`.
     pub fn token_count(&self) -> u32
         ensures count { result ≡ length (tokens_of (characters self.now)) }
         ensures meaning { AreTokens (characters self.now) (tokens_of (characters self.now)) }
@@ -167,17 +189,24 @@ impl<'d> Document<'d> {
     }
 
     /// Token `i`, counted from 0 in the order of the text.
+    ///
+    /// Tokens are not empty, and each ends at or before the begin of the next one.
     pub fn token(&self, i: u32) -> Span
         requires exists { i < length (tokens_of (characters self.now)) }
         ensures token { slice_get (tokens_of (characters self.now)) i ≡ Some (extent_of result) }
         ensures not_empty { result.begin < result.end }
+        ensures apart { (j : ℕ) (u : Extent) → i < j → slice_get (tokens_of (characters self.now)) j ≡ Some u → result.end ≤ u.begin }
         ensures in_document { LiesIn (extent_of result) self.now }
     {
         self.tokens.get(self.text, i)
     }
 
-    /// The numbers of the tokens wholly in `span`: the first, and one past the last. Two equal
-    /// numbers where there is none.
+    /// The numbers of the tokens wholly in `span`: the first, and one past the last.
+    ///
+    /// A token that sticks out of the span on either side isn't among them. Where there is none, both
+    /// numbers are how many tokens begin before the span.
+    ///
+    /// Meaning: `AreWithin`, `specs/Contexts.antt`.
     pub fn tokens_in(&self, span: Span) -> (u32, u32)
         requires in_document { LiesIn (extent_of span) self.now }
         ensures tokens { AreWithin (tokens_of (characters self.now)) (extent_of span) result.0 result.1 }

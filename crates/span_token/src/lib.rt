@@ -1,9 +1,12 @@
-//! Documents, spans and the refusal types that all crates share.
+//! Documents, spans and tokens, and the refusal types that all crates share.
 //!
-//! A `Span` is a half-open range of a document's characters, and a `Document` is borrowed text that
-//! tells spans from bytes. A call that lacks memory answers `OutOfMemory`, and a call with causes of
-//! its own answers a `Failure`. `OwnedText` and `OwnedList` are a `String` and a `Vec` that contracts
-//! see as their bytes and their elements alone. Stands on std.
+//! A `Span` is a half-open range of a document's characters; a `Document` is borrowed text that tells
+//! spans from bytes and has its tokens, and functions of spans relate and extend them. Contracts say
+//! the exact spans and tokens: the tokens of a text are the one list of its longest runs of word
+//! characters and its other characters that aren't white space. A call that lacks memory answers
+//! `OutOfMemory`, a call with causes of its own a `Failure`; `OwnedText` and `OwnedList` are a `String`
+//! and a `Vec` that contracts see as their bytes and their elements alone. Stands on `unicode` for the
+//! properties of characters.
 #![tactic(auto)]
 
 mod ascii;
@@ -18,6 +21,8 @@ mod refusal;
 mod relations;
 mod scan;
 mod span;
+#[cfg(test)]
+mod tests;
 mod tokens;
 
 pub use contexts::{left_context, left_context_tok, right_context, right_context_tok};
