@@ -7,3 +7,9 @@ pub mod Windows
 pub mod UnderWay
 -- what a run of a reader's calls gave, after one more answer
 pub mod Givens
+-- the members of an output line, as serde_json has them and as they are written
+mod Objects
+mod PlacesLemmas
+mod RowSpans
+mod Sections
+mod Views

@@ -13,3 +13,9 @@ pub mod Window
 -- documents
 pub mod Documents
 pub mod Inputs
+-- output lines
+pub mod Outputs
+-- how an output line is written
+pub mod Places
+pub mod Sections
+pub mod Writing

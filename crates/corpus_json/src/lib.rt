@@ -1,14 +1,23 @@
 //! The corpus and the output as JSON lines.
 //!
-//! `read_document` tells what a line is, and gives its text and label.
+//! `LineReader` gives the lines of a source one by one, `read_document` tells what a line is and gives
+//! its text and label, and `write_document` gives the output line of a document. Their contracts give
+//! the crates above exact lines, exact documents by serde_json's own reading, and exact bytes by its
+//! compact text. Stands on `aql_io` for sources, on `span_token` for documents, on `row_values` for
+//! outputs and rows, and on `serde_json` and `json`.
 #![tactic(auto)]
 
 mod input;
 mod limits;
 mod line_buffer;
 mod line_reader;
+#[cfg(test)]
+mod line_tests;
 mod read;
 mod step;
+#[cfg(test)]
+mod tests;
+mod write;
 
 pub use input::{Input, NotDocument};
 pub use limits::{CORPUS_LIMIT, LINE_LIMIT};
@@ -16,6 +25,4 @@ pub use line_buffer::LineBuffer;
 pub use line_reader::{LineReader, Next};
 pub use read::read_document;
 pub use step::Step;
-
-#[cfg(test)]
-mod line_tests;
+pub use write::{Layout, append_document, write_document};

@@ -1,0 +1,144 @@
+-- The views as serde_json has them, with the members as they stand in a line.
+use Rattle.std.proofs.Common.{◌≡◌, ℕ, suc, ◌<◌, List, [], ◌∷◌, ◌++◌, codes, Option, None, Some, length, map, get_or, All, refl, sym, ap, subst, ◌∙◌, arith, append_assoc}
+use Rattle.std.proofs.Math.ListN.{get_or-map}
+use Rattle.std.proofs.lemmas.List.{length-map}
+use Rattle.std.proofs.lemmas.Simd.{map-map}
+use Rattle.std.proofs.lemmas.List as lists
+use Rattle.std.proofs.lemmas.List.Elements.{All-map, All-head, All-tail, All-weaker}
+use Rattle.std.proofs.lemmas.List.Sorted.{All-permutation}
+use Rattle.std.proofs.lemmas.Slice.Zip.{get_or-zip, length-zip}
+use Rattle.std.specs.List.{zip}
+use Rattle.serde_json.specs.Data.{Data, object}
+use Rattle.serde_json.specs.Data as serde
+use Rattle.span_token.specs.Documents.{Doc}
+use Rattle.row_values.specs.Datums.{Datum, null}
+use Rattle.row_values.specs.Outputs.{OutputNames}
+use Rattle.row_values.specs.Rows.{RowList, sorted}
+use Rattle.row_values.proofs.Sorted.{SameBag-sorted}
+use Rattle.corpus_json.specs.Outputs.{value_data, object_of, array_of, row_data, rows_data, views_data, label_pair, line_data}
+use Rattle.json.specs.Token.{Token, begin_array, begin_object, end_object, key}
+use Rattle.json.specs.Tree.{json_tokens}
+use Rattle.serde_json.specs.Written.{outline}
+use Rattle.corpus_json.specs.declared.write.order.Named.{Named}
+use Rattle.corpus_json.specs.Places.{Place, place_of, places_of}
+use Rattle.corpus_json.specs.Writing.{listed, placed, row_listed, array_tokens, section_pair, views_listed, views_tokens, label_tokens}
+use Rattle.corpus_json.specs.Sections.{Section, section_of, output_at, section_at, output_names, sections_of, HasRows}
+use Rattle.corpus_json.specs.declared.write.member.Member.{Member}
+use Rattle.corpus_json.proofs.Objects.{with_value, object_of-zip, places_within}
+use Rattle.corpus_json.proofs.Sections.{All-unmap}
+
+-- two functions that agree where P holds
+map_where : {X Y : Type 0} (P : X → Type 0) (f g : X → Y) → ((x : X) → P x → f x ≡ g x) → (xs : List X) → All P xs → map f xs ≡ map g xs
+map_where P f g same [] all = refl
+map_where P f g same (x ∷ xs) all = λ i. same x (All-head P x xs all) i ∷ map_where P f g same xs (All-tail P x xs all) i
+
+value_placed : (document : Doc) (row : List Datum) (place : Place) → with_value (map (value_data document) row) place ≡ placed document row place
+value_placed document row place = λ i. (place.0, get_or-map (value_data document) row place.1 null i)
+
+-- a row with a value for each column
+row_placed : (document : Doc) (columns : List (List ℕ)) (row : List Datum) → length row ≡ length columns → row_data document columns row ≡ row_listed document (places_of columns) row
+unfolding row_data
+row_placed document columns row fits =
+    object_of-zip columns (map (value_data document) row) (sym fits ∙ sym (length-map row (value_data document)))
+    ∙ λ i. object (listed (map (λ place. value_placed document row place i) (places_of columns)))
+
+-- an output's rows
+pub rows_placed : (document : Doc) (output : OutputNames) (rows : List (List Datum)) → All (λ row. length row ≡ length output.columns) rows
+    → rows_data document output rows ≡ array_of (map (row_listed document (places_of output.columns)) (sorted rows))
+unfolding rows_data
+rows_placed document output rows fit =
+    ap array_of (map_where (λ row. length row ≡ length output.columns) (row_data document output.columns) (row_listed document (places_of output.columns)) (row_placed document output.columns) (sorted rows)
+    (All-permutation (λ row. length row ≡ length output.columns) rows (sorted rows) (SameBag-sorted rows) fit))
+
+-- their tokens, from the columns that stand by their names
+pub list_tokens : (document : Doc) (output : OutputNames) (columns : List Named) (rows : List (List Datum)) → map place_of columns ≡ places_of output.columns → All (λ row. length row ≡ length output.columns) rows
+    → json_tokens (outline (rows_data document output rows)) ≡ begin_array ∷ array_tokens (map (row_listed document (map place_of columns)) (sorted rows))
+unfolding array_tokens
+list_tokens document output columns rows are fit =
+    ap (λ d. json_tokens (outline d)) (rows_placed document output rows fit) ∙ ap (λ (places : List Place). begin_array ∷ array_tokens (map (row_listed document places) (sorted rows))) (sym are)
+
+-- ---- the outputs by their names
+
+abbrev pair_of : Doc → OutputNames × List (List Datum) → List ℕ × Data
+pair_of document (output, list) = (output.name, rows_data document output list)
+
+abbrev list_of : Doc → OutputNames × List (List Datum) → Data
+list_of document (output, list) = rows_data document output list
+
+pairs_of : (document : Doc) (outputs : List OutputNames) (rows : List (List (List Datum))) → length rows ≡ length outputs
+    → map (pair_of document) (zip outputs rows) ≡ zip (output_names outputs) (map (list_of document) (zip outputs rows))
+pairs_of document [] rows same = refl
+pairs_of document (output ∷ outputs) [] same = absurd (omega arith)
+pairs_of document (output ∷ outputs) (list ∷ rows) same = ap (λ pairs. (output.name, rows_data document output list) ∷ pairs) (pairs_of document outputs rows (omega arith))
+
+lists_length : (document : Doc) (outputs : List OutputNames) (rows : List (List (List Datum))) → length rows ≡ length outputs → length (output_names outputs) ≡ length (map (list_of document) (zip outputs rows))
+lists_length document [] rows same = refl
+lists_length document (output ∷ outputs) [] same = absurd (omega arith)
+lists_length document (output ∷ outputs) (list ∷ rows) same = ap suc (lists_length document outputs rows (omega arith))
+
+section_placed : (document : Doc) (outputs : List OutputNames) (rows : List (List (List Datum))) → length rows ≡ length outputs → (place : Place) → place.1 < length outputs
+    → with_value (map (list_of document) (zip outputs rows)) place ≡ section_pair document rows (section_at outputs place)
+section_placed document outputs rows same place within =
+    let none : OutputNames × List (List Datum) = (record { name = []; columns = [] }, []) in
+    let there : place.1 < length (zip outputs rows) = rw (length-zip outputs rows) (omega arith) in
+    let found : get_or (map (list_of document) (zip outputs rows)) place.1 serde.null ≡ rows_data document (output_at outputs place.1) (get_or rows place.1 []) =
+    lists.get_or-map (list_of document) (zip outputs rows) place.1 none serde.null there ∙ ap (list_of document) (get_or-zip outputs rows place.1 none within (omega arith)) in
+    λ i. (place.0, found i)
+
+-- the views as their members stand
+pub views_placed : (document : Doc) (outputs : List OutputNames) (rows : List (List (List Datum))) → length rows ≡ length outputs → views_data document outputs rows ≡ object (views_listed document rows (sections_of outputs))
+unfolding views_data sections_of
+views_placed document outputs rows same =
+    let names = output_names outputs in
+    let lists = map (list_of document) (zip outputs rows) in
+    let all : All (λ (place : Place). place.1 < length outputs) (places_of names) =
+    All-unmap (λ place. place < length outputs) (λ (place : Place). place.1) (places_of names) (subst (λ n. All (λ place. place < n) (map (λ (p : Place). p.1) (places_of names))) (length-map outputs (λ output. output.name)) (places_within names)) in
+    ap object_of (pairs_of document outputs rows same) ∙ object_of-zip names lists (lists_length document outputs rows same)
+    ∙ ap (λ pairs. object (listed pairs))
+    (map_where (λ (place : Place). place.1 < length outputs) (with_value lists) (λ place. section_pair document rows (section_at outputs place)) (section_placed document outputs rows same) (places_of names) all
+    ∙ sym (map-map (section_pair document rows) (section_at outputs) (places_of names)))
+
+-- ---- each output has its rows
+
+abbrev HasRowsAt : List RowList → Section → Type 0
+HasRowsAt rows section = (section.place < length rows) × ((get_or rows section.place (record { width = 0; rows = [] })).width ≡ length section.output.columns)
+
+-- as many lists of rows as outputs
+pub lists_same : (outputs : List OutputNames) (rows : List RowList) → map (λ list. list.width) rows ≡ map (λ output. length output.columns) outputs → length rows ≡ length outputs
+lists_same outputs rows widths = sym (length-map rows (λ list. list.width)) ∙ ap length widths ∙ length-map outputs (λ output. length output.columns)
+
+rows_at : (outputs : List OutputNames) (rows : List RowList) → map (λ list. list.width) rows ≡ map (λ output. length output.columns) outputs → (place : Place) → place.1 < length outputs → HasRowsAt rows (section_at outputs place)
+rows_at outputs rows widths place within = (
+  subst (λ n. place.1 < n) (sym (lists_same outputs rows widths)) within,
+  sym (get_or-map (λ (list : RowList). list.width) rows place.1 (record { width = 0; rows = [] })) ∙ ap (λ ns. get_or ns place.1 0) widths
+      ∙ get_or-map (λ (output : OutputNames). length output.columns) outputs place.1 (record { name = []; columns = [] }),
+)
+
+pub has_rows : (outputs : List OutputNames) (rows : List RowList) (members : List Member) → map (λ list. list.width) rows ≡ map (λ output. length output.columns) outputs → map section_of members ≡ sections_of outputs → All (HasRows rows) members
+unfolding sections_of
+has_rows outputs rows members widths are =
+    let names = output_names outputs in
+    let all : All (λ (place : Place). place.1 < length outputs) (places_of names) =
+    All-unmap (λ place. place < length outputs) (λ (place : Place). place.1) (places_of names) (subst (λ n. All (λ place. place < n) (map (λ (p : Place). p.1) (places_of names))) (length-map outputs (λ output. output.name)) (places_within names)) in
+    let each = All-unmap (HasRowsAt rows) section_of members (subst (All (HasRowsAt rows)) (sym are)
+    (All-map (HasRowsAt rows) (section_at outputs) (places_of names) (All-weaker (λ (place : Place). place.1 < length outputs) (λ place. HasRowsAt rows (section_at outputs place)) (rows_at outputs rows widths) (places_of names) all))) in
+    λ k d within. let one = each k d within in record { place = one.0; width = one.1 }
+
+-- ---- the line
+
+with_label : (label : Option (List ℕ)) (views : Data) → json_tokens (outline (object_of (label_pair label ++ (codes "views", views) ∷ []))) ≡ begin_object ∷ (label_tokens label ++ (key (codes "views") ∷ (json_tokens (outline views) ++ end_object ∷ [])))
+with_label None views = refl
+with_label (Some label) views = refl
+
+-- the tokens of the line's object
+pub line_tokens : (document : Doc) (outputs : List OutputNames) (rows : List (List (List Datum))) → length rows ≡ length outputs
+    → json_tokens (outline (line_data document outputs rows)) ≡ begin_object ∷ (label_tokens document.label ++ (key (codes "views") ∷ begin_object ∷ (views_tokens document rows (sections_of outputs) ++ end_object ∷ [])))
+unfolding line_data views_tokens
+line_tokens document outputs rows same =
+    with_label document.label (views_data document outputs rows)
+    ∙ ap (λ (views : Data). begin_object ∷ (label_tokens document.label ++ (key (codes "views") ∷ (json_tokens (outline views) ++ end_object ∷ [])))) (views_placed document outputs rows same)
+
+-- what six pieces one after another add
+pub six_pieces : (old one two three four five six label views : List Token) (first second third last : Token) → one ≡ old ++ first ∷ [] → two ≡ one ++ label → three ≡ two ++ second ∷ [] → four ≡ three ++ third ∷ [] → five ≡ four ++ views → six ≡ five ++ last ∷ []
+    → six ≡ old ++ first ∷ (label ++ (second ∷ third ∷ (views ++ last ∷ [])))
+six_pieces old one two three four five six label views first second third last a b c d e f = rw (f, e, d, c, b, a) (simp append_assoc)

@@ -1,0 +1,38 @@
+-- The outputs as they stand in a line. Only private clauses cite this.
+use Rattle.std.specs.Prelude.{◌≡◌, ◌<◌, ℕ, List, [], All, length, map, slice_index_or}
+use Rattle.row_values.specs.Outputs.{OutputNames}
+use Rattle.row_values.specs.Rows.{RowList}
+use Rattle.corpus_json.specs.Places.{Place, places_of}
+use Rattle.corpus_json.specs.declared.write.member.Member.{Member}
+use Rattle.corpus_json.specs.declared.write.order.Named.{Named}
+
+-- an output in a line: its name, its place among the outputs, and its names
+pub record Section : Type 0 where
+  pub name : List ℕ
+  pub place : ℕ
+  pub output : OutputNames
+
+abbrev pub section_of : Member → Section
+section_of member = record { name = member.name.now; place = member.place; output = member.output.now }
+
+abbrev pub output_at : List OutputNames → ℕ → OutputNames
+output_at outputs place = slice_index_or outputs place (record { name = []; columns = [] })
+
+abbrev pub section_at : List OutputNames → Place → Section
+section_at outputs place = record { name = place.0; place = place.1; output = output_at outputs place.1 }
+
+abbrev pub output_names : List OutputNames → List (List ℕ)
+output_names outputs = map (λ output. output.name) outputs
+
+-- the outputs by their names
+unfoldable pub sections_of : List OutputNames → List Section
+sections_of outputs = map (section_at outputs) (places_of (output_names outputs))
+
+-- each column is one of so many
+abbrev pub HasColumns : List Named → ℕ → Type 0
+HasColumns columns width = All (λ column. column.place < width) columns
+
+-- there is a list of rows at the output's place, and it has the output's columns
+pub record HasRows (rows : List RowList) (member : Member) : Type 0 where
+  pub place : member.place < length rows
+  pub width : (slice_index_or rows member.place (record { width = 0; rows = [] })).width ≡ length member.output.now.columns

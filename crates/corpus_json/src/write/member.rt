@@ -1,0 +1,48 @@
+ghost use Rattle.std.specs.Prelude.{◌≡◌, IfOk, map};
+ghost use Rattle.corpus_json.specs.Places.{place_of, places_of};
+
+use super::order::{Named, in_order};
+use row_values::Output;
+use span_token::OutOfMemory;
+use std::alloc::Global;
+
+/// An output in a line: its name, its place among the outputs, and its columns by their names.
+#[derive(Drop)]
+pub(crate) struct Member<'p> {
+    pub(crate) name: &'p str,
+    pub(crate) place: usize,
+    pub(crate) output: &'p Output,
+    pub(crate) columns: Vec<Named<'p>>,
+    ghost in_order: { map place_of columns.items ≡ places_of output.now.columns },
+}
+
+/// The output at the place of `named`.
+pub(crate) fn member_at<'p>(
+    alloc: Global,
+    named: Named<'p>,
+    output: &'p Output,
+) -> Result<Member<'p>, OutOfMemory>
+    ensures name { IfOk result (λ member. member.name.now ≡ named.entry.name.now) }
+    ensures place { IfOk result (λ member. member.place ≡ named.entry.place) }
+    ensures output { IfOk result (λ member. member.output.now ≡ output.now) }
+{
+    let names = column_names(alloc, output)?;
+    let columns = in_order(alloc, names.as_slice())?;
+    Ok(Member {
+        name: named.name,
+        place: named.place,
+        output,
+        columns,
+    })
+}
+
+/// The names of an output's columns.
+fn column_names<'p>(alloc: Global, output: &'p Output) -> Result<Vec<&'p str>, OutOfMemory>
+    ensures { IfOk result (λ names. map (λ name. name.now) names.items ≡ output.now.columns) }
+{
+    let mut names = Vec::new(alloc);
+    'columns: for column in 0..output.width() {
+        names.push(output.column(column))?;
+    }
+    Ok(names)
+}
