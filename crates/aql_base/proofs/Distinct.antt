@@ -1,10 +1,12 @@
 -- Lists in which no value occurs twice.
-use Rattle.std.proofs.Common.{◌≡◌, ◌≢◌, ℕ, zero, suc, ◌<◌, ◌≤◌, Bool, true, false, List, [], ◌∷◌, length, get_or, refl, sym, ap, subst, ◌∙◌, arith, All, AllPairs, count_by, true≢false}
+use Rattle.std.proofs.Common.{Contains, ◌≡◌, ◌≢◌, ℕ, zero, suc, ◌<◌, ◌≤◌, Bool, true, false, List, [], ◌∷◌, length, get_or, refl, sym, ap, subst, ◌∙◌, arith, All, AllPairs, count_by, true≢false}
 use Rattle.std.specs.Cmp.{IsTotalOrder}
 use Rattle.std.specs.List.Sorted.{IsSorted, IsStrictlySortedBy}
 use Rattle.std.specs.Ordering.{is_lt, is_eq, eq_by_cmp, ordering_reverse}
 use Rattle.std.specs.declared.cmp.Ordering.{Ordering}
 use Rattle.std.specs.declared.cmp.Ordering.TheVariants.{Less, Equal, Greater}
+use Rattle.std.proofs.lemmas.List.{get_or_default}
+use Rattle.std.proofs.lemmas.List.Kept.{AllPairs-cons}
 use Rattle.std.proofs.lemmas.List.Elements.{recursion_from_All}
 use Rattle.std.proofs.lemmas.List.Sums.{sum_by-cons}
 use Rattle.aql_base.specs.Bags.{SameBag}
@@ -12,11 +14,18 @@ use Rattle.aql_base.proofs.Counts.{number_of, count_by-SameBag, one_at, told}
 use Rattle.aql_base.proofs.Sorting.{IsSorted-tail, IsSorted-head}
 
 module _ {X : Type 0} where
-  AllPairs-tail : (x : X) (xs : List X) → AllPairs (λ a b. a ≢ b) (x ∷ xs) → AllPairs (λ a b. a ≢ b) xs
+  pub AllPairs-tail : (x : X) (xs : List X) → AllPairs (λ a b. a ≢ b) (x ∷ xs) → AllPairs (λ a b. a ≢ b) xs
   AllPairs-tail x xs h i j d below high = h (suc i) (suc j) d (omega arith) (omega arith)
 
-  AllPairs-head : (x : X) (xs : List X) → AllPairs (λ a b. a ≢ b) (x ∷ xs) → All (λ y. x ≢ y) xs
+  pub AllPairs-head : (x : X) (xs : List X) → AllPairs (λ a b. a ≢ b) (x ∷ xs) → All (λ y. x ≢ y) xs
   AllPairs-head x xs h k d below = h zero (suc k) d (omega arith) (omega arith)
+
+  -- a value that isn't among distinct ones is put in front of them, and no other is
+  pub AllPairs-distinct_cons : (x : X) (xs : List X) → (Contains xs x → ⊥) → AllPairs (λ a b. a ≢ b) xs → AllPairs (λ a b. a ≢ b) (x ∷ xs)
+  AllPairs-distinct_cons x xs new h = AllPairs-cons (λ a b. a ≢ b) x xs (λ k d below e. new (k, below, get_or_default xs k x d below ∙ sym e)) h
+
+  pub AllPairs-not_among : (x : X) (xs : List X) → AllPairs (λ a b. a ≢ b) (x ∷ xs) → Contains xs x → ⊥
+  AllPairs-not_among x xs h at = AllPairs-head x xs h at.0 x at.1 (sym at.2)
 
   -- what no element passes is counted 0 times
   none_counted : (p : X → Bool) (xs : List X) → ((k : ℕ) (d : X) → k < length xs → p (get_or xs k d) ≡ false) → count_by p xs ≡ 0

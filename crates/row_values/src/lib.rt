@@ -11,10 +11,12 @@ mod order;
 mod output;
 mod row;
 mod rows;
+#[cfg(test)]
+mod tests;
 mod value;
 
 pub use order::{compare_rows, compare_values, is_in_order, same_value, sort_rows};
-pub use output::Output;
+pub use output::{Output, has_distinct_names};
 pub use row::Row;
 pub use rows::Rows;
 pub use value::Value;

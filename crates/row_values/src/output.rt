@@ -1,4 +1,4 @@
-ghost use Rattle.std.specs.Prelude.{◌≡◌, ◌<◌, ◌^◌, length, map, IfOk};
+ghost use Rattle.std.specs.Prelude.{◌≡◌, ◌↔◌, ◌<◌, ◌^◌, length, map, Contains, IfOk, IsTrue};
 ghost use Rattle.std.specs.List.{range_with_len};
 ghost use Rattle.row_values.specs.Outputs.{HasDistinctNames, IsColumnOrder, OutputNames, name_of};
 
@@ -77,6 +77,28 @@ impl Output {
     {
         self.order.as_slice()
     }
+}
+
+/// Whether no two of the names are equal. It takes no memory, and time that grows as the square of
+/// their number.
+pub fn has_distinct_names(columns: &[OwnedText]) -> bool
+    ensures { IsTrue result ↔ HasDistinctNames columns.now }
+{
+    let mut rest = columns;
+    while let Some((first, later)) = rest.split_first() {
+        if is_among(first.as_str(), later) {
+            return false;
+        }
+        rest = later;
+    }
+    true
+}
+
+/// Whether one of the names is `name`.
+fn is_among(name: &str, columns: &[OwnedText]) -> bool
+    ensures { IsTrue result ↔ Contains columns.now name.now }
+{
+    columns.iter().any(|column| column.as_str() == name)
 }
 
 /// The columns' numbers, by the bytes of their names.

@@ -1,0 +1,228 @@
+ghost use Rattle.std.specs.Prelude.{◌≡◌, ◌≤◌, length};
+
+use super::*;
+use span_token::{OwnedList, OwnedText, Span};
+use std::alloc::Global;
+use std::cmp::Ordering;
+use std::test::Fail;
+use std::thread;
+
+fn span(begin: u32, length: u8) -> Value<'static>
+    requires { begin ≤ 1000 }
+{
+    Value::Span(Span {
+        begin,
+        end: begin + u32::from(length),
+    })
+}
+
+#[test]
+fn values_are_in_order_by_kind_and_then_by_what_they_show(rt: HostRuntime) {
+    let rising = [
+        Value::Null,
+        Value::Int(i64::MIN),
+        Value::Int(-1),
+        Value::Int(0),
+        Value::Int(9),
+        Value::Int(10),
+        Value::Bool(false),
+        Value::Bool(true),
+        Value::Text(""),
+        Value::Text("Z"),
+        Value::Text("a"),
+        Value::Text("a\0"),
+        Value::Text("aa"),
+        Value::Text("b"),
+        Value::Text("\u{e9}"),
+        span(0, 0),
+        span(0, 9),
+        span(1, 0),
+        span(1, 2),
+        span(3, 0),
+    ];
+    for (i, a) in rising.iter().enumerate() {
+        for (j, b) in rising.iter().enumerate() {
+            assert_eq!(rt; compare_values(*a, *b), i.cmp(&j), "{a:?} and {b:?}");
+            assert_eq!(rt; same_value(*a, *b), i == j, "{a:?} and {b:?}");
+        }
+    }
+}
+
+/// The row of the given values.
+fn row<'d>(alloc: Global, values: &[Value<'d>]) -> Result<Row<'d>, Fail> {
+    Ok(Row::copied(alloc, values)?)
+}
+
+#[test]
+fn rows_are_in_order_by_columns_and_a_prefix_comes_first(rt: HostRuntime) -> Result<(), Fail> {
+    let alloc = rt.alloc();
+    let rising: [&[Value<'static>]; 7] = [
+        &[],
+        &[Value::Null],
+        &[Value::Null, Value::Int(7)],
+        &[span(0, 1)],
+        &[span(0, 1), Value::Null],
+        &[
+            span(0, 1),
+            Value::Null,
+            Value::Null,
+            Value::Null,
+            Value::Int(1),
+        ],
+        &[span(0, 2)],
+    ];
+    for (i, a) in rising.iter().enumerate() {
+        for (j, b) in rising.iter().enumerate() {
+            let order = compare_rows(&row(alloc, a)?, &row(alloc, b)?);
+            assert_eq!(rt; order, i.cmp(&j), "{i} and {j}");
+        }
+    }
+    Ok(())
+}
+
+/// The row of `front` and `back`, made by following a row with values.
+fn followed<'d>(alloc: Global, front: &[Value<'d>], back: &[Value<'d>]) -> Result<Row<'d>, Fail> {
+    Ok(row(alloc, front)?.followed_by(alloc, back)?)
+}
+
+/// The same, made by joining two rows.
+fn joined<'d>(alloc: Global, front: &[Value<'d>], back: &[Value<'d>]) -> Result<Row<'d>, Fail> {
+    Ok(row(alloc, front)?.joined(alloc, &row(alloc, back)?)?)
+}
+
+/// The same, made by filling an empty row.
+fn filled<'d>(alloc: Global, front: &[Value<'d>], back: &[Value<'d>]) -> Result<Row<'d>, Fail> {
+    let mut row = Row::empty(alloc);
+    for value in front {
+        row.push(*value)?;
+    }
+    row.extend(back)?;
+    Ok(row)
+}
+
+#[test]
+fn a_row_is_made_from_a_vec_from_values_and_from_rows(rt: HostRuntime) -> Result<(), Fail> {
+    let alloc = rt.alloc();
+    let five = [
+        Value::Int(1),
+        Value::Text("two"),
+        Value::Bool(true),
+        span(4, 1),
+        Value::Null,
+    ];
+    for at in 0..6 {
+        let (front, back) = five.split_at(at);
+        assert_eq!(rt; followed(alloc, front, back)?.values(), five.as_slice());
+        assert_eq!(rt; joined(alloc, front, back)?.values(), five.as_slice());
+        assert_eq!(rt; filled(alloc, front, back)?.values(), five.as_slice());
+    }
+    Ok(())
+}
+
+#[test]
+fn a_row_of_a_vec_has_its_values(rt: HostRuntime) -> Result<(), Fail> {
+    let alloc = rt.alloc();
+    let row = Row::new([Value::Null, Value::Text("two")].to_vec(alloc)?);
+    assert_eq!(rt; (row.len(), row.get(1)), (2, Value::Text("two")));
+    assert!(rt; row.copy(alloc)? == row);
+    Ok(())
+}
+
+/// The list of one-column rows of the given values.
+fn column<'d>(alloc: Global, values: &[Value<'d>]) -> Result<Rows<'d>, Fail> {
+    let mut rows = Rows::new(alloc, 1);
+    for value in values {
+        rows.push(Row::single(alloc, *value))?;
+    }
+    Ok(rows)
+}
+
+#[test]
+fn a_sort_keeps_equal_rows_and_puts_null_first(rt: HostRuntime) -> Result<(), Fail> {
+    let alloc = rt.alloc();
+    let mixed = [span(3, 1), Value::Null, span(0, 5), span(3, 1), Value::Null];
+    let in_order = [Value::Null, Value::Null, span(0, 5), span(3, 1), span(3, 1)];
+    let mut rows = column(alloc, &mixed)?;
+    let want = column(alloc, &in_order)?;
+    assert!(rt; !is_in_order(&rows));
+    for (got, wanted) in rows.sorted(alloc)?.iter().zip(want.as_slice()) {
+        assert_eq!(rt; compare_rows(got, wanted), Ordering::Equal);
+    }
+    sort_rows(&mut rows)?;
+    assert!(rt; is_in_order(&rows));
+    assert!(rt; rows.as_slice() == want.as_slice());
+    sort_rows(&mut rows)?;
+    assert!(rt; rows.as_slice() == want.as_slice());
+    Ok(())
+}
+
+#[test]
+fn a_list_of_rows_keeps_its_width_and_is_copied_whole(rt: HostRuntime) -> Result<(), Fail> {
+    let alloc = rt.alloc();
+    let mut rows = column(alloc, &[Value::Int(2), Value::Int(1), Value::Int(2)])?;
+    assert_eq!(rt; (rows.len(), rows.width()), (3, 1));
+    assert!(rt; *rows.get(1) == Row::single(alloc, Value::Int(1)));
+    let copy = rows.copy(alloc)?;
+    rows.clear();
+    assert_eq!(rt; (rows.len(), rows.width()), (0, 1));
+    assert_eq!(rt; copy.len(), 3);
+    assert!(rt; *copy.get(2) == Row::single(alloc, Value::Int(2)));
+    Ok(())
+}
+
+/// The texts, as a list of names.
+fn names(alloc: Global, texts: &[&str]) -> Result<OwnedList<OwnedText>, Fail> {
+    let mut names = OwnedList::new(alloc);
+    for text in texts {
+        names.push(OwnedText::copied(alloc, text)?)?;
+    }
+    Ok(names)
+}
+
+#[test]
+fn columns_are_ordered_by_the_bytes_of_their_names(rt: HostRuntime) -> Result<(), Fail> {
+    let alloc = rt.alloc();
+    let columns = names(alloc, &["b", "", "\u{e9}"])?;
+    assert!(rt; has_distinct_names(columns.as_slice()));
+    let output = Output::new(alloc, OwnedText::copied(alloc, "V")?, columns)?;
+    assert_eq!(rt; (output.name(), output.width()), ("V", 3));
+    assert!(rt; output.column_order() == [1, 0, 2].as_slice());
+    Ok(())
+}
+
+#[test]
+fn names_are_distinct_where_no_two_are_equal(rt: HostRuntime) -> Result<(), Fail> {
+    let alloc = rt.alloc();
+    let table: [(&[&str], bool); 5] = [
+        (&[], true),
+        (&["a"], true),
+        (&["a", "A", "", "aa"], true),
+        (&["a", "b", "a"], false),
+        (&["", "b", "b"], false),
+    ];
+    for (texts, want) in table {
+        let names = names(alloc, texts)?;
+        assert_eq!(rt; has_distinct_names(names.as_slice()), want, "{texts:?}");
+    }
+    Ok(())
+}
+
+#[test]
+fn rows_are_shared_by_threads(rt: HostRuntime) -> Result<(), Fail> {
+    let alloc = rt.alloc();
+    let rows = column(alloc, &[Value::Text("a"), Value::Null, Value::Text("b")])?;
+    let lengths = thread::map_indices(
+        &rt,
+        alloc,
+        3,
+        &|i| {
+            if (i as u32) < rows.len() {
+                rows.get(i as u32).len()
+            } else {
+                0
+            }
+        },
+    )?;
+    assert_eq!(rt; lengths.as_slice(), &[1u32, 1, 1][..]);
+    Ok(())
+}
