@@ -18,7 +18,7 @@ Turned piece corpus before now reading pending number (Err _) = InPart piece cor
 
 -- a run at its beginning: nothing is read, looked at or pending
 pub record Begins (work : Work) (outputs : List OutputNames) (pattern : List ℕ) : Type 0 where
-  pub outputs_are : work.outputs.now ≡ outputs
+  pub outputs_are : work.layout ≡ outputs
   pub searches : work.searcher ≡ pattern
   pub reader : work.reader ≡ record { ready = []; taken = 0; last = None }
   pub pending : work.pending.items ≡ []
@@ -26,7 +26,7 @@ pub record Begins (work : Work) (outputs : List OutputNames) (pattern : List ℕ
 
 -- what sending leaves alone
 pub record IsKept (before now : Work) : Type 0 where
-  pub outputs : now.outputs ≡ before.outputs
+  pub layout : now.layout ≡ before.layout
   pub searcher : now.searcher ≡ before.searcher
   pub reader : now.reader ≡ before.reader
   pub number : now.number ≡ before.number

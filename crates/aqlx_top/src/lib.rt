@@ -18,5 +18,8 @@ mod status_line;
 mod top;
 mod words;
 
+#[cfg(test)]
+mod tests;
+
 pub use status::{CorpusFault, ProgramFault, Status, SyntaxFault};
 pub use top::aqlx;

@@ -12,7 +12,7 @@ use crate::put::{put, put_and_flush};
 use crate::{CorpusFault, Status};
 use aql_io::{Failed, Sink, Source};
 use aql_regex_extract::{Pattern, Searcher};
-use corpus_json::{LineBuffer, Step};
+use corpus_json::{Layout, LineBuffer, Step};
 use row_values::Output;
 use span_token::{OutOfMemory, Span};
 use std::alloc::Global;
@@ -23,7 +23,7 @@ const PIECE: usize = 65_536;
 /// What a run keeps from line to line.
 #[derive(Drop)]
 pub(crate) struct Work<'p> {
-    pub outputs: &'p [Output],
+    pub layout: Layout<'p>,
     pub reader: LineBuffer,
     pub line: Vec<u8>,
     pub number: u64,
@@ -44,15 +44,15 @@ fn take_turn<S: Source>(
     work: &mut Work<'_>,
     corpus: &mut S,
 ) -> Result<Turn, OutOfMemory>
-    requires one { IsOneColumn work.old.outputs.now }
+    requires one { IsOneColumn work.old.layout }
     requires room { work.old.number < 2 ^ 63 }
     requires going { IsGoing work.old.reader }
     ensures turned { (left : Option (List ℕ)) (faults : ℕ) (before now : Option (List ℕ)) →
-        Stands (line_for work.old.outputs.now work.old.searcher) (source_ends left (S.left corpus.old) faults (S.faults corpus.old)) before now work.old.reader work.old.pending.items work.old.number →
-        Turned (line_for work.old.outputs.now work.old.searcher) (source_ends left (S.left corpus.new) faults (S.faults corpus.new)) before now work.new.reader work.new.pending.items work.new.number result }
+        Stands (line_for work.old.layout work.old.searcher) (source_ends left (S.left corpus.old) faults (S.faults corpus.old)) before now work.old.reader work.old.pending.items work.old.number →
+        Turned (line_for work.old.layout work.old.searcher) (source_ends left (S.left corpus.new) faults (S.faults corpus.new)) before now work.new.reader work.new.pending.items work.new.number result }
     ensures counts { IfOk result (λ came. came ≡ Turn.Next → work.new.number ≡ work.old.number + 1) }
     ensures going { IfOk result (λ came. came ≡ Turn.Next → IsGoing work.new.reader) }
-    ensures same { (work.new.outputs ≡ work.old.outputs) × (work.new.searcher ≡ work.old.searcher) }
+    ensures same { (work.new.layout ≡ work.old.layout) × (work.new.searcher ≡ work.old.searcher) }
 {
     match work.reader.next_line(corpus, &mut work.line)? {
         Step::Line => {
@@ -60,7 +60,7 @@ fn take_turn<S: Source>(
             let _taken = work.reader.taken();
             if answer(
                 alloc,
-                work.outputs,
+                &work.layout,
                 &mut work.searcher,
                 &mut work.found,
                 &work.line,
@@ -116,7 +116,7 @@ fn begin<'p>(
     ensures { IfOk result (λ work. Begins work outputs.now pattern.now) }
 {
     Ok(Work {
-        outputs,
+        layout: Layout::new(alloc, outputs)?,
         reader: LineBuffer::new(alloc)?,
         line: Vec::new(alloc),
         number: 0,

@@ -20,7 +20,7 @@ lines-init g c =
     let b = c.in_ok-work.ensures in
     record {
       stands = rw (b.reader, b.pending, b.number) (law.begins (line_for c.args.outputs.now c.args.pattern.now) (g.S.Source.left c.args.corpus.now) (g.O.Sink.held c.args.out.now) (g.S.Source.faults c.args.corpus.now));
-      outputs = b.outputs_are;
+      layout = b.outputs_are;
       searches = b.searches;
       going = rw b.reader tt;
       later = omega arith;
@@ -42,10 +42,10 @@ pub lines-smaller : goal.lines-smaller
 lines-smaller g c =
     let same = c.in-Ok.ensures.same in
     let invariant = c.lines.invariant in
-    let outs : c.send_in_time.new.work.outputs.now ≡ c.args.outputs.now = ap (λ (b : Bor (List OutputNames)). b.now) same.outputs ∙ invariant.outputs in
+    let outs : c.send_in_time.new.work.layout ≡ c.args.outputs.now = same.layout ∙ invariant.layout in
     let searches : c.send_in_time.new.work.searcher ≡ c.args.pattern.now = same.searcher ∙ invariant.searches in
     let stands = c.in-Ok.ensures.sent (line_for c.args.outputs.now c.args.pattern.now) (g.S.Source.left c.args.corpus.now) (g.S.Source.left c.lines.corpus) (g.S.Source.faults c.args.corpus.now) (g.S.Source.faults c.lines.corpus) (g.O.Sink.held c.args.out.now) invariant.stands in
-    let turned = law.turned_alike (line_for c.args.outputs.now c.args.pattern.now) (line_for c.send_in_time.new.work.outputs.now c.send_in_time.new.work.searcher) (source_ends (g.S.Source.left c.args.corpus.now) (g.S.Source.left c.lines.corpus) (g.S.Source.faults c.args.corpus.now) (g.S.Source.faults c.lines.corpus)) (source_ends (g.S.Source.left c.args.corpus.now) (g.S.Source.left c.take_turn.new.corpus) (g.S.Source.faults c.args.corpus.now) (g.S.Source.faults c.take_turn.new.corpus)) (g.O.Sink.held c.args.out.now) (g.O.Sink.held c.send_in_time.new.out)
+    let turned = law.turned_alike (line_for c.args.outputs.now c.args.pattern.now) (line_for c.send_in_time.new.work.layout c.send_in_time.new.work.searcher) (source_ends (g.S.Source.left c.args.corpus.now) (g.S.Source.left c.lines.corpus) (g.S.Source.faults c.args.corpus.now) (g.S.Source.faults c.lines.corpus)) (source_ends (g.S.Source.left c.args.corpus.now) (g.S.Source.left c.take_turn.new.corpus) (g.S.Source.faults c.args.corpus.now) (g.S.Source.faults c.take_turn.new.corpus)) (g.O.Sink.held c.args.out.now) (g.O.Sink.held c.send_in_time.new.out)
     c.send_in_time.new.work.reader c.take_turn.new.work.reader c.send_in_time.new.work.pending.items c.take_turn.new.work.pending.items c.send_in_time.new.work.number c.take_turn.new.work.number (Ok c.in_ok-take_turn.field-0)
     (ap₂ line_for outs searches) stands (c.in_ok-take_turn.ensures.turned (g.S.Source.left c.args.corpus.now) (g.S.Source.faults c.args.corpus.now) (g.O.Sink.held c.args.out.now) (g.O.Sink.held c.send_in_time.new.out)) in
     let next = rw c.in-Next.is at turned in
@@ -57,16 +57,16 @@ pub lines-preserved : goal.lines-preserved
 lines-preserved g c =
     let same = c.in-Ok.ensures.same in
     let invariant = c.lines.invariant in
-    let outs : c.send_in_time.new.work.outputs.now ≡ c.args.outputs.now = ap (λ (b : Bor (List OutputNames)). b.now) same.outputs ∙ invariant.outputs in
+    let outs : c.send_in_time.new.work.layout ≡ c.args.outputs.now = same.layout ∙ invariant.layout in
     let searches : c.send_in_time.new.work.searcher ≡ c.args.pattern.now = same.searcher ∙ invariant.searches in
     let stands = c.in-Ok.ensures.sent (line_for c.args.outputs.now c.args.pattern.now) (g.S.Source.left c.args.corpus.now) (g.S.Source.left c.lines.corpus) (g.S.Source.faults c.args.corpus.now) (g.S.Source.faults c.lines.corpus) (g.O.Sink.held c.args.out.now) invariant.stands in
-    let turned = law.turned_alike (line_for c.args.outputs.now c.args.pattern.now) (line_for c.send_in_time.new.work.outputs.now c.send_in_time.new.work.searcher) (source_ends (g.S.Source.left c.args.corpus.now) (g.S.Source.left c.lines.corpus) (g.S.Source.faults c.args.corpus.now) (g.S.Source.faults c.lines.corpus)) (source_ends (g.S.Source.left c.args.corpus.now) (g.S.Source.left c.take_turn.new.corpus) (g.S.Source.faults c.args.corpus.now) (g.S.Source.faults c.take_turn.new.corpus)) (g.O.Sink.held c.args.out.now) (g.O.Sink.held c.send_in_time.new.out)
+    let turned = law.turned_alike (line_for c.args.outputs.now c.args.pattern.now) (line_for c.send_in_time.new.work.layout c.send_in_time.new.work.searcher) (source_ends (g.S.Source.left c.args.corpus.now) (g.S.Source.left c.lines.corpus) (g.S.Source.faults c.args.corpus.now) (g.S.Source.faults c.lines.corpus)) (source_ends (g.S.Source.left c.args.corpus.now) (g.S.Source.left c.take_turn.new.corpus) (g.S.Source.faults c.args.corpus.now) (g.S.Source.faults c.take_turn.new.corpus)) (g.O.Sink.held c.args.out.now) (g.O.Sink.held c.send_in_time.new.out)
     c.send_in_time.new.work.reader c.take_turn.new.work.reader c.send_in_time.new.work.pending.items c.take_turn.new.work.pending.items c.send_in_time.new.work.number c.take_turn.new.work.number (Ok c.in_ok-take_turn.field-0)
     (ap₂ line_for outs searches) stands (c.in_ok-take_turn.ensures.turned (g.S.Source.left c.args.corpus.now) (g.S.Source.faults c.args.corpus.now) (g.O.Sink.held c.args.out.now) (g.O.Sink.held c.send_in_time.new.out)) in
     let next = rw c.in-Next.is at turned in
     record {
       stands = next;
-      outputs = ap (λ (b : Bor (List OutputNames)). b.now) c.in_ok-take_turn.ensures.same.0 ∙ outs;
+      layout = c.in_ok-take_turn.ensures.same.0 ∙ outs;
       searches = c.in_ok-take_turn.ensures.same.1 ∙ searches;
       going = c.in_ok-take_turn.ensures.going c.in-Next.is;
       later = let a = invariant.later in let b = c.in-Ok.ensures.later in omega arith;
@@ -76,10 +76,10 @@ pub returns-in_err-take_turn-clause-part : goal.returns-in_err-take_turn-clause-
 returns-in_err-take_turn-clause-part g c =
     let same = c.in-Ok.ensures.same in
     let invariant = c.lines.invariant in
-    let outs : c.send_in_time.new.work.outputs.now ≡ c.args.outputs.now = ap (λ (b : Bor (List OutputNames)). b.now) same.outputs ∙ invariant.outputs in
+    let outs : c.send_in_time.new.work.layout ≡ c.args.outputs.now = same.layout ∙ invariant.layout in
     let searches : c.send_in_time.new.work.searcher ≡ c.args.pattern.now = same.searcher ∙ invariant.searches in
     let stands = c.in-Ok.ensures.sent (line_for c.args.outputs.now c.args.pattern.now) (g.S.Source.left c.args.corpus.now) (g.S.Source.left c.lines.corpus) (g.S.Source.faults c.args.corpus.now) (g.S.Source.faults c.lines.corpus) (g.O.Sink.held c.args.out.now) invariant.stands in
-    let turned = law.turned_alike (line_for c.args.outputs.now c.args.pattern.now) (line_for c.send_in_time.new.work.outputs.now c.send_in_time.new.work.searcher) (source_ends (g.S.Source.left c.args.corpus.now) (g.S.Source.left c.lines.corpus) (g.S.Source.faults c.args.corpus.now) (g.S.Source.faults c.lines.corpus)) (source_ends (g.S.Source.left c.args.corpus.now) (g.S.Source.left c.take_turn.new.corpus) (g.S.Source.faults c.args.corpus.now) (g.S.Source.faults c.take_turn.new.corpus)) (g.O.Sink.held c.args.out.now) (g.O.Sink.held c.send_in_time.new.out)
+    let turned = law.turned_alike (line_for c.args.outputs.now c.args.pattern.now) (line_for c.send_in_time.new.work.layout c.send_in_time.new.work.searcher) (source_ends (g.S.Source.left c.args.corpus.now) (g.S.Source.left c.lines.corpus) (g.S.Source.faults c.args.corpus.now) (g.S.Source.faults c.lines.corpus)) (source_ends (g.S.Source.left c.args.corpus.now) (g.S.Source.left c.take_turn.new.corpus) (g.S.Source.faults c.args.corpus.now) (g.S.Source.faults c.take_turn.new.corpus)) (g.O.Sink.held c.args.out.now) (g.O.Sink.held c.send_in_time.new.out)
     c.send_in_time.new.work.reader c.take_turn.new.work.reader c.send_in_time.new.work.pending.items c.take_turn.new.work.pending.items c.send_in_time.new.work.number c.take_turn.new.work.number (Err c.in_err-take_turn.field-0.0)
     (ap₂ line_for outs searches) stands (c.in_err-take_turn.ensures.turned (g.S.Source.left c.args.corpus.now) (g.S.Source.faults c.args.corpus.now) (g.O.Sink.held c.args.out.now) (g.O.Sink.held c.send_in_time.new.out)) in
     law.at_err _ c.from_residual-in_err-take_turn.result turned
@@ -88,10 +88,10 @@ pub returns-in-Ended-clause-ran : goal.returns-in-Ended-clause-ran
 returns-in-Ended-clause-ran g c =
     let same = c.in-Ok.ensures.same in
     let invariant = c.lines.invariant in
-    let outs : c.send_in_time.new.work.outputs.now ≡ c.args.outputs.now = ap (λ (b : Bor (List OutputNames)). b.now) same.outputs ∙ invariant.outputs in
+    let outs : c.send_in_time.new.work.layout ≡ c.args.outputs.now = same.layout ∙ invariant.layout in
     let searches : c.send_in_time.new.work.searcher ≡ c.args.pattern.now = same.searcher ∙ invariant.searches in
     let stands = c.in-Ok.ensures.sent (line_for c.args.outputs.now c.args.pattern.now) (g.S.Source.left c.args.corpus.now) (g.S.Source.left c.lines.corpus) (g.S.Source.faults c.args.corpus.now) (g.S.Source.faults c.lines.corpus) (g.O.Sink.held c.args.out.now) invariant.stands in
-    let turned = law.turned_alike (line_for c.args.outputs.now c.args.pattern.now) (line_for c.send_in_time.new.work.outputs.now c.send_in_time.new.work.searcher) (source_ends (g.S.Source.left c.args.corpus.now) (g.S.Source.left c.lines.corpus) (g.S.Source.faults c.args.corpus.now) (g.S.Source.faults c.lines.corpus)) (source_ends (g.S.Source.left c.args.corpus.now) (g.S.Source.left c.take_turn.new.corpus) (g.S.Source.faults c.args.corpus.now) (g.S.Source.faults c.take_turn.new.corpus)) (g.O.Sink.held c.args.out.now) (g.O.Sink.held c.send_in_time.new.out)
+    let turned = law.turned_alike (line_for c.args.outputs.now c.args.pattern.now) (line_for c.send_in_time.new.work.layout c.send_in_time.new.work.searcher) (source_ends (g.S.Source.left c.args.corpus.now) (g.S.Source.left c.lines.corpus) (g.S.Source.faults c.args.corpus.now) (g.S.Source.faults c.lines.corpus)) (source_ends (g.S.Source.left c.args.corpus.now) (g.S.Source.left c.take_turn.new.corpus) (g.S.Source.faults c.args.corpus.now) (g.S.Source.faults c.take_turn.new.corpus)) (g.O.Sink.held c.args.out.now) (g.O.Sink.held c.send_in_time.new.out)
     c.send_in_time.new.work.reader c.take_turn.new.work.reader c.send_in_time.new.work.pending.items c.take_turn.new.work.pending.items c.send_in_time.new.work.number c.take_turn.new.work.number (Ok c.in_ok-take_turn.field-0)
     (ap₂ line_for outs searches) stands (c.in_ok-take_turn.ensures.turned (g.S.Source.left c.args.corpus.now) (g.S.Source.faults c.args.corpus.now) (g.O.Sink.held c.args.out.now) (g.O.Sink.held c.send_in_time.new.out)) in
     let ended = rw c.in-Ended.is at turned in

@@ -10,7 +10,7 @@ invariant-lines g l = record {
   stands : Stands (line_for l.fn.outputs l.fn.pattern)
       (source_ends (g.S.Source.left l.initial.corpus) (g.S.Source.left l.corpus) (g.S.Source.faults l.initial.corpus) (g.S.Source.faults l.corpus))
       (g.O.Sink.held l.initial.out) (g.O.Sink.held l.out) l.work.reader l.work.pending.items l.work.number;
-  outputs : l.work.outputs.now ≡ l.fn.outputs;
+  layout : l.work.layout ≡ l.fn.outputs;
   searches : l.work.searcher ≡ l.fn.pattern;
   going : IsGoing l.work.reader;
   later : g.O.Sink.faults l.initial.out ≤ g.O.Sink.faults l.out;
