@@ -149,9 +149,9 @@ no_bad_in_part : (given rest : List ℕ) → HasNoBadLine (lines_of true (given 
 no_bad_in_part given rest good =
     let parts = cut-no_lf given in
     let split : lines_of true (given ++ rest) ≡ (cut given).lines ++ lines_of true ((cut given).rest ++ rest) =
-        ap (λ (bs : List ℕ). lines_of true (bs ++ rest)) (sym (joined-cut given))
-        ∙ ap (lines_of true) (append_assoc (joined (cut given).lines) (cut given).rest rest)
-        ∙ lines_of-joined true (cut given).lines ((cut given).rest ++ rest) parts.0 in
+    ap (λ (bs : List ℕ). lines_of true (bs ++ rest)) (sym (joined-cut given))
+    ∙ ap (lines_of true) (append_assoc (joined (cut given).lines) (cut given).rest rest)
+    ∙ lines_of-joined true (cut given).lines ((cut given).rest ++ rest) parts.0 in
     let all : All IsGood ((cut given).lines ++ lines_of true ((cut given).rest ++ rest)) = subst (λ (ls : List (List ℕ)). All IsGood ls) split good in
     All-append IsGood (cut given).lines (last_line false (cut given).rest)
     (front_good (cut given).lines (lines_of true ((cut given).rest ++ rest)) all)
@@ -203,8 +203,8 @@ complete_of call err (Ok (Corpus fault)) a name words accepted of_documents no_f
     absurd (no_corpus_fault (line_of a.0.program) call.corpus call.out fault a.0.ran of_documents)
 complete_of call err (Ok ReadFault) a name words accepted of_documents no_fault =
     elim a.0 [
-    | inl stopped ↦ absurd (no_fault.files stopped.0)
-    | inr run ↦ absurd (no_fault.corpus (run.ran.taken.broken run.ran.status_is.0).0)
+      | inl stopped ↦ absurd (no_fault.files stopped.0)
+      | inr run ↦ absurd (no_fault.corpus (run.ran.taken.broken run.ran.status_is.0).0)
     ]
 complete_of call err (Ok WriteFault) a name words accepted of_documents no_fault =
     elim a [ inl itself ↦ absurd (no_fault.out itself.0.0) | inr line ↦ absurd (no_fault.line line.failed) ]
@@ -229,7 +229,6 @@ pub file_of_front : (told : Option Names) (name : List ℕ) (most : ℕ) (bytes 
 file_of_front None name most bytes few front = tt
 file_of_front (Some names) name most bytes few front = whole_front (names name) most bytes few front
 
-
 -- a program text that ran
 pub text_run : (outputs : List OutputNames) (pattern text : List ℕ) (form : Form) (corpus : SourceEnds) (out : SinkEnds) (r : Result Status OutOfMemory)
     → IsFirstForm text form → length text ≤ 2000 → outputs ≡ output_of (program_of form) ∷ [] → pattern ≡ form.pattern
@@ -251,10 +250,10 @@ pub file_run : (name bytes : List ℕ) (files : FilesEnds) (corpus : SourceEnds)
     → IfOk r (IsTextRunTo bytes corpus out) → IfOk r (IsFileRunTo name files corpus out)
 file_run name bytes files corpus out (Ok status) front ran =
     elim ran [
-    | inl refused ↦ inr (inl refused)
-    | inr form ↦
-      let few : length bytes < 2001 = let f = form.few in omega arith in
-      inr (inr (record { text = bytes; file = file_of_front files.told name 2001 bytes few front; ran = form }))
+      | inl refused ↦ inr (inl refused)
+      | inr form ↦
+          let few : length bytes < 2001 = let f = form.few in omega arith in
+          inr (inr (record { text = bytes; file = file_of_front files.told name 2001 bytes few front; ran = form }))
     ]
 file_run name bytes files corpus out (Err e) front ran = tt
 
@@ -264,10 +263,10 @@ pub file_part : (name bytes : List ℕ) (files : FilesEnds) (corpus : SourceEnds
 file_part name bytes files corpus out (Ok status) front part = tt
 file_part name bytes files corpus out (Err e) front part =
     elim part [
-    | inl nothing ↦ inl nothing
-    | inr form ↦
-      let few : length bytes < 2001 = let f = form.few in omega arith in
-      inr (record { text = bytes; file = file_of_front files.told name 2001 bytes few front; ran = form })
+      | inl nothing ↦ inl nothing
+      | inr form ↦
+          let few : length bytes < 2001 = let f = form.few in omega arith in
+          inr (record { text = bytes; file = file_of_front files.told name 2001 bytes few front; ran = form })
     ]
 
 called_by : (words : List (List ℕ)) (name : List ℕ) (files : FilesEnds) (corpus : SourceEnds) (out : SinkEnds) (text : List ℕ) (form : Form)
@@ -293,10 +292,10 @@ cause_of_file : (words : List (List ℕ)) (name : List ℕ) (files : FilesEnds) 
     → IsRun words name → IsFileRunTo name files corpus out status → HasCauseOf (call_of words files corpus out) status
 cause_of_file words name files corpus out status run came =
     elim came [
-    | inl unread ↦ rw unread.0 (inl (unread.1, record { name = name; words = run; untouched = unread.2 }))
-    | inr read ↦ elim read [
-      | inl refused ↦ rw refused.0 (refl, refl, record { name = name; words = run; untouched = refused.1 })
-      | inr f ↦ cause_of_run words name files corpus out status run f
+      | inl unread ↦ rw unread.0 (inl (unread.1, record { name = name; words = run; untouched = unread.2 }))
+      | inr read ↦ elim read [
+        | inl refused ↦ rw refused.0 (refl, refl, record { name = name; words = run; untouched = refused.1 })
+        | inr f ↦ cause_of_run words name files corpus out status run f
       ]
     ]
 
@@ -310,8 +309,8 @@ pub carried_out_in_part : (words : List (List ℕ)) (name : List ℕ) (files : F
 carried_out_in_part words name files corpus out (Ok status) run part = tt
 carried_out_in_part words name files corpus out (Err e) run part =
     elim part [
-    | inl nothing ↦ inl nothing
-    | inr f ↦ inr (record { program = program_of f.ran.form; called = called_by words name files corpus out f.text f.ran.form run f.file f.ran.reads; ran = f.ran.ran })
+      | inl nothing ↦ inl nothing
+      | inr f ↦ inr (record { program = program_of f.ran.form; called = called_by words name files corpus out f.text f.ran.form run f.file f.ran.reads; ran = f.ran.ran })
     ]
 
 -- what was carried out, and what was told of it

@@ -5,3 +5,4 @@ pub mod Documents
 pub mod Readings
 pub mod Turns
 pub mod Answers
+pub mod FoundRows

@@ -15,11 +15,10 @@ mod put;
 mod run;
 mod status;
 mod status_line;
-mod top;
-mod words;
-
 #[cfg(test)]
 mod tests;
+mod top;
+mod words;
 
 pub use status::{CorpusFault, ProgramFault, Status, SyntaxFault};
 pub use top::aqlx;
