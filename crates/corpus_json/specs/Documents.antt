@@ -1,12 +1,12 @@
 -- What a line of the corpus is: blank, a document, or neither.
-use Rattle.std.specs.Prelude.{ℕ, List, length, Bool, not, nat_lt, codes, ◌==◌, ◌||◌, Option, None, Some, option_map, option_and_then, take_while, position, if◌then◌else◌, true, false}
+use Rattle.std.specs.Prelude.{ℕ, List, Bool, not, codes, ◌==◌, ◌||◌, Option, None, Some, option_map, option_and_then, take_while, position, if◌then◌else◌, true, false}
 use Rattle.std.specs.List.{list_all, filter_map}
 use Rattle.std.specs.Str.{is_utf8}
 use Rattle.serde_json.specs.Data.{Data}
 use Rattle.serde_json.specs.Find.{get, as_str}
 use Rattle.serde_json.specs.Read.{read}
 use Rattle.span_token.specs.Documents.{Doc}
-use Rattle.corpus_json.specs.declared.limits.TheConstants.{LINE_LIMIT}
+pub use Rattle.corpus_json.specs.Lines.{is_too_long}
 
 -- a space, a tab or a CR
 abbrev pub is_blank_byte : ℕ → Bool
@@ -54,10 +54,6 @@ abbrev pub good_of : Entry → Option Doc
 good_of blank = None
 good_of (good document) = Some document
 good_of bad = None
-
--- the line has more bytes than a line may have
-abbrev pub is_too_long : List ℕ → Bool
-is_too_long line = nat_lt LINE_LIMIT (length line)
 
 -- a bad line: too long, or neither blank nor a document
 abbrev pub is_bad_line : List ℕ → Bool
