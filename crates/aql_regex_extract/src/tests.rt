@@ -3,6 +3,7 @@ use crate::weight::weigh;
 use span_token::{Document, Failure, Span};
 use std::alloc::Global;
 use std::test::Fail;
+use std::thread::{self, Threads};
 
 /// A place of a span, or None where a group takes no part.
 type Place = Option<(u32, u32)>;
@@ -219,5 +220,45 @@ fn the_weight_is_the_product_over_depths_of_the_greatest_chain(
     ] {
         assert_eq!(rt; weigh(rt.alloc(), pattern.as_bytes())?, weight, "{pattern}");
     }
+    Ok(())
+}
+
+/// A text, and whether the pattern was found in it.
+#[derive(Drop)]
+struct Trial<'t> {
+    text: &'t str,
+    found: bool,
+}
+
+fn try_in_threads<R: Threads + Sync>(
+    rt: &R,
+    alloc: Global,
+    pattern: &Pattern,
+    trials: &mut [Trial<'_>],
+) {
+    thread::for_each_mut(
+        rt,
+        trials,
+        4,
+        &|_, trial: &mut Trial<'_>| {
+            trial.found = matches!(has_match(alloc, pattern, trial.text), Ok(true));
+        },
+    );
+}
+
+#[test]
+fn several_threads_search_with_one_pattern(rt: HostRuntime) -> Result<(), Fail> {
+    let alloc = rt.alloc();
+    let pattern = compile_pattern(alloc, "[0-9]{3}")?;
+    let mut trials = Vec::new(alloc);
+    for text in ["call 555", "no digits", "12 345", "12"] {
+        trials.push(Trial { text, found: false })?;
+    }
+    try_in_threads(&rt, alloc, &pattern, &mut trials);
+    let mut found = Vec::new(alloc);
+    for trial in &trials {
+        found.push(trial.found)?;
+    }
+    assert_eq!(rt; found.as_slice(), [true, false, true, false].as_slice());
     Ok(())
 }
