@@ -1,4 +1,5 @@
 pub mod Trees
+pub mod Crosses
 pub mod CapturedRows
 pub mod SearchSteps
 pub mod MatchesAlike

@@ -1,0 +1,264 @@
+use super::*;
+use crate::weight::weigh;
+use span_token::{Document, Failure, Span};
+use std::alloc::Global;
+use std::test::Fail;
+use std::thread::{self, Threads};
+
+/// A place of a span, or None where a group takes no part.
+type Place = Option<(u32, u32)>;
+
+fn is_row(row: &[Option<Span>], want: &[Place]) -> bool {
+    if row.len() != want.len() {
+        return false;
+    }
+    for (found, place) in row.iter().zip(want) {
+        if found.map(|span| (span.begin, span.end)) != *place {
+            return false;
+        }
+    }
+    true
+}
+
+fn are_rows(rows: &[Vec<Option<Span>>], want: &[&[Place]]) -> bool {
+    if rows.len() != want.len() {
+        return false;
+    }
+    for (row, places) in rows.iter().zip(want) {
+        if !is_row(row, places) {
+            return false;
+        }
+    }
+    true
+}
+
+/// Whether these are the rows of all matches in the text, and a kept searcher puts the same ones.
+fn finds(
+    alloc: Global,
+    pattern: &str,
+    text: &str,
+    groups: &[u32],
+    want: &[&[Place]],
+) -> Result<bool, Fail> {
+    if text.len() > 16_777_216 {
+        return Ok(false);
+    }
+    let pattern = compile_pattern(alloc, pattern)?;
+    let doc = Document::new(alloc, text, None)?;
+    let rows = find_all(alloc, &pattern, &doc, doc.whole(), groups)?;
+    let mut searcher = Searcher::new(alloc, &pattern)?;
+    let mut flat = Vec::new(alloc);
+    searcher.find_all(&doc, doc.whole(), groups, &mut flat)?;
+    let mut wanted = Vec::new(alloc);
+    for places in want {
+        wanted.extend_from_slice(places)?;
+    }
+    Ok(are_rows(&rows, want) && is_row(&flat, &wanted))
+}
+
+/// The same of the token runs.
+fn finds_runs(
+    alloc: Global,
+    pattern: &str,
+    text: &str,
+    low: u32,
+    high: u32,
+    want: &[&[Place]],
+) -> Result<bool, Fail> {
+    if text.len() > 16_777_216 || low == 0 {
+        return Ok(false);
+    }
+    let pattern = compile_pattern(alloc, pattern)?;
+    let doc = Document::new(alloc, text, None)?;
+    let rows = find_token_runs(alloc, &pattern, &doc, doc.whole(), low, high, &[0])?;
+    let mut searcher = WholeSearcher::new(alloc, &pattern)?;
+    let mut flat = Vec::new(alloc);
+    searcher.find_token_runs(&doc, doc.whole(), low, high, &[0], &mut flat)?;
+    let mut wanted = Vec::new(alloc);
+    for places in want {
+        wanted.extend_from_slice(places)?;
+    }
+    Ok(are_rows(&rows, want) && is_row(&flat, &wanted))
+}
+
+fn fault_of(alloc: Global, pattern: &str) -> Option<PatternFault> {
+    match compile_pattern(alloc, pattern) {
+        Err(Failure::Fault(fault)) => Some(fault),
+        _ => None,
+    }
+}
+
+#[test]
+fn all_matches_are_found_in_characters(rt: HostRuntime) -> Result<(), Fail> {
+    let alloc = rt.alloc();
+    assert!(rt;
+        finds(
+            alloc,
+            "[0-9]+",
+            "x 12 345",
+            &[0],
+            &[&[Some((2, 4))], &[Some((5, 8))]]
+        )?
+    );
+    assert!(rt; finds(alloc, "[0-9]+", "", &[0], &[])?);
+    assert!(rt; finds(alloc, "x*", "", &[0], &[&[Some((0, 0))]])?);
+    assert!(rt; finds(alloc, "[0-9]+", "é 7", &[0], &[&[Some((2, 3))]])?);
+    assert!(rt;
+        finds(
+            alloc,
+            "aa",
+            "aaaa",
+            &[0],
+            &[&[Some((0, 2))], &[Some((2, 4))]]
+        )?
+    );
+    assert!(rt; finds(alloc, "^a", "aaaa", &[0], &[&[Some((0, 1))]])?);
+    Ok(())
+}
+
+#[test]
+fn an_empty_match_right_after_a_match_is_passed_over(rt: HostRuntime) -> Result<(), Fail> {
+    let alloc = rt.alloc();
+    let want: &[&[Place]] = &[&[Some((0, 0))], &[Some((1, 3))], &[Some((4, 4))]];
+    assert!(rt; finds(alloc, "a*", "baab", &[0], want)?);
+    Ok(())
+}
+
+#[test]
+fn a_group_that_takes_no_part_is_none_and_loses_no_match(rt: HostRuntime) -> Result<(), Fail> {
+    let alloc = rt.alloc();
+    let optional: &[&[Place]] = &[&[Some((0, 2)), Some((1, 2))], &[Some((3, 4)), None]];
+    assert!(rt; finds(alloc, "(a)(b)?", "ab a", &[0, 2], optional)?);
+    let either: &[&[Place]] = &[&[Some((0, 1)), None], &[None, Some((1, 2))]];
+    assert!(rt; finds(alloc, "(a)|(b)", "ab", &[1, 2], either)?);
+    assert!(rt; finds(alloc, "(a)|(b)", "ab", &[], &[&[], &[]])?);
+    assert_eq!(rt; compile_pattern(alloc, "(a)|(b)")?.group_count(), 2);
+    Ok(())
+}
+
+#[test]
+fn a_match_sees_its_source_alone(rt: HostRuntime) -> Result<(), Fail> {
+    let alloc = rt.alloc();
+    let pattern = compile_pattern(alloc, "^b|c$|d")?;
+    let doc = Document::new(alloc, "abcd", None)?;
+    let source = Span { begin: 1, end: 3 };
+    assert!(rt; doc.len() == 4);
+    let rows = find_all(alloc, &pattern, &doc, source, &[0])?;
+    assert!(rt; are_rows(&rows, &[&[Some((1, 2))], &[Some((2, 3))]]));
+    Ok(())
+}
+
+#[test]
+fn each_token_gives_its_longest_run(rt: HostRuntime) -> Result<(), Fail> {
+    let alloc = rt.alloc();
+    let words: &[&[Place]] = &[&[Some((0, 3))], &[Some((2, 5))], &[Some((4, 5))]];
+    assert!(rt; finds_runs(alloc, r"\w+( \w+)?", "a b c", 1, 2, words)?);
+    let caps: &[&[Place]] = &[&[Some((0, 4))], &[Some((5, 9))], &[Some((20, 23))]];
+    assert!(rt; finds_runs(alloc, "[A-Z][a-z]+", "Call John at 555 or Ann", 1, 1, caps)?);
+    assert!(rt; finds_runs(alloc, "a", "a a", 2, 3, &[])?);
+    Ok(())
+}
+
+#[test]
+fn the_predicates_ask_for_a_match_and_for_the_whole_text(rt: HostRuntime) -> Result<(), Fail> {
+    let alloc = rt.alloc();
+    let pattern = compile_pattern(alloc, "b")?;
+    assert!(rt; has_match(alloc, &pattern, "abc")?);
+    assert!(rt; !matches_whole(alloc, &pattern, "abc")?);
+    assert!(rt; matches_whole(alloc, &pattern, "b")?);
+    Ok(())
+}
+
+#[test]
+fn what_is_not_read_is_bad_and_what_is_large_is_so_first(rt: HostRuntime) -> Result<(), Fail> {
+    let alloc = rt.alloc();
+    for pattern in ["(", "a)|(?:b", "(?x)a # c", r"\"] {
+        assert_eq!(rt;
+            fault_of(alloc, pattern),
+            Some(PatternFault::Bad),
+            "{pattern}"
+        );
+    }
+    for (pattern, bytes, weight) in [
+        ("a{99}{99}", 9, 9_801),
+        ("a{1000}{1000}", 13, 1_000_000),
+        ("({9999}{9", 9, 9_999),
+    ] {
+        let large = Some(PatternFault::Large { bytes, weight });
+        assert_eq!(rt; fault_of(alloc, pattern), large, "{pattern}");
+    }
+    assert!(rt; fault_of(alloc, "a{50}{50}").is_none());
+    Ok(())
+}
+
+#[test]
+fn the_weight_is_the_product_over_depths_of_the_greatest_chain(
+    rt: HostRuntime,
+) -> Result<(), Fail> {
+    for (pattern, weight) in [
+        ("", 1),
+        ("a", 1),
+        ("a{3}", 3),
+        ("a{2,}", 2),
+        ("a{2,5}", 5),
+        ("a{5,2}", 5),
+        ("a{0}", 1),
+        ("a{3}{4}", 12),
+        ("a{3}?{4}?", 12),
+        ("a{3}??{4}", 4),
+        ("a{3}b{4}", 4),
+        ("(a{3}){4}", 12),
+        ("(a{3})(b{5}){2}", 10),
+        (r"\{3}", 1),
+        (r"\({3}b{2}", 3),
+        (r"\x{41}", 41),
+        ("[({3})]{2}", 6),
+        (")a{3}", 3),
+        ("a{ 3}", 1),
+        ("a{3,4,5}", 1),
+        ("a{99999999999999999999}", 1_000_000),
+    ] {
+        assert_eq!(rt; weigh(rt.alloc(), pattern.as_bytes())?, weight, "{pattern}");
+    }
+    Ok(())
+}
+
+/// A text, and whether the pattern was found in it.
+#[derive(Drop)]
+struct Trial<'t> {
+    text: &'t str,
+    found: bool,
+}
+
+fn try_in_threads<R: Threads + Sync>(
+    rt: &R,
+    alloc: Global,
+    pattern: &Pattern,
+    trials: &mut [Trial<'_>],
+) {
+    thread::for_each_mut(
+        rt,
+        trials,
+        4,
+        &|_, trial: &mut Trial<'_>| {
+            trial.found = matches!(has_match(alloc, pattern, trial.text), Ok(true));
+        },
+    );
+}
+
+#[test]
+fn several_threads_search_with_one_pattern(rt: HostRuntime) -> Result<(), Fail> {
+    let alloc = rt.alloc();
+    let pattern = compile_pattern(alloc, "[0-9]{3}")?;
+    let mut trials = Vec::new(alloc);
+    for text in ["call 555", "no digits", "12 345", "12"] {
+        trials.push(Trial { text, found: false })?;
+    }
+    try_in_threads(&rt, alloc, &pattern, &mut trials);
+    let mut found = Vec::new(alloc);
+    for trial in &trials {
+        found.push(trial.found)?;
+    }
+    assert_eq!(rt; found.as_slice(), [true, false, true, false].as_slice());
+    Ok(())
+}
