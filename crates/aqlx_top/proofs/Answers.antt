@@ -8,7 +8,8 @@ use Rattle.aql_io.specs.Bytes.{Names}
 use Rattle.span_token.specs.Documents.{Doc}
 use Rattle.span_token.specs.declared.refusal.OutOfMemory.{OutOfMemory}
 use Rattle.corpus_json.specs.declared.limits.TheConstants.{LINE_LIMIT, CORPUS_LIMIT}
-use Rattle.corpus_json.specs.Documents.{is_bad_line, is_too_long}
+use Rattle.corpus_json.specs.Documents.{is_bad_line}
+use Rattle.corpus_json.specs.Lines.{is_too_long}
 use Rattle.corpus_json.specs.Lines.{lines_of, last_line, joined, cut, HasNoLf, BeginsTooLong}
 use Rattle.corpus_json.proofs.LineCuts.{joined-cut, cut-no_lf, lines_of-joined, lines_of-rest, lines_of-too_long}
 use Rattle.aqlx_top.specs.declared.status.Status.{Status}

@@ -11,7 +11,8 @@ use Rattle.span_token.specs.Documents.{Doc}
 use Rattle.corpus_json.specs.declared.limits.TheConstants.{LINE_LIMIT, CORPUS_LIMIT}
 use Rattle.corpus_json.specs.declared.step.Step.{Step}
 use Rattle.corpus_json.specs.declared.step.Step.TheVariants.{Line, End, Long, Failed, Limit}
-use Rattle.corpus_json.specs.Documents.{documents, is_bad_line, is_too_long}
+use Rattle.corpus_json.specs.Documents.{documents, is_bad_line}
+use Rattle.corpus_json.specs.Lines.{is_too_long}
 use Rattle.corpus_json.specs.Lines.{lines_of, joined, cut, last_line, HasNoLf}
 use Rattle.corpus_json.specs.Reading.{Reading, NextLine, Took}
 use Rattle.corpus_json.proofs.LineCuts.{lines_of-joined, joined-cut}

@@ -2,7 +2,8 @@
 use Rattle.std.specs.Prelude.{◌≡◌, ℕ, ◌+◌, ◌<◌, Bool, true, false, List, ◌∷◌, ◌++◌, length, All}
 use Rattle.std.specs.Io.KnownBytes.{Consumes, IsAtEnd}
 use Rattle.corpus_json.specs.declared.limits.TheConstants.{CORPUS_LIMIT}
-use Rattle.corpus_json.specs.Documents.{is_bad_line, is_too_long}
+use Rattle.corpus_json.specs.Documents.{is_bad_line}
+use Rattle.corpus_json.specs.Lines.{is_too_long}
 use Rattle.aqlx_top.specs.declared.status.Status.{Status}
 use Rattle.aqlx_top.specs.declared.status.Status.TheVariants.{Done, Corpus, ReadFault}
 use Rattle.aqlx_top.specs.declared.status.CorpusFault.{CorpusFault}
