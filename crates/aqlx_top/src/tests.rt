@@ -20,6 +20,7 @@ struct Ran {
 }
 
 /// How a run is set up: its words, program and corpus, the corpus's pieces, and the calls that fail.
+#[derive(Drop)]
 struct Setup<'a> {
     words: &'a [&'a str],
     program: &'a str,
