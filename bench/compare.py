@@ -10,17 +10,17 @@ import time
 PATTERNS = ["[0-9]+", "[0-9]{3}-[0-9]{4}", "[A-Za-z0-9.]+@[A-Za-z0-9.]+"]
 
 
-def run(words, corpus, output):
+def run(words, corpus, output, memory):
     """The seconds that a command takes from `corpus` to `output`, and its peak memory in MB."""
+    timed = ["/usr/bin/time", "-f", "%M", "-o", memory, *words]
     with open(corpus, "rb") as given, open(output, "wb") as taken:
         began = time.perf_counter()
-        child = subprocess.Popen(words, stdin=given, stdout=taken)
-        _, status, usage = os.wait4(child.pid, 0)
+        status = subprocess.run(timed, stdin=given, stdout=taken).returncode
         seconds = time.perf_counter() - began
-    child.returncode = os.waitstatus_to_exitcode(status)
-    if child.returncode not in (0, 1):
-        sys.exit(f"{words[0]} ended with status {child.returncode}")
-    return seconds, usage.ru_maxrss / 1024
+    if status not in (0, 1):
+        sys.exit(f"{words[0]} ended with status {status}")
+    with open(memory) as written:
+        return seconds, int(written.read().split()[-1]) / 1024
 
 
 def main():
@@ -40,7 +40,7 @@ def main():
         best, peak = {}, {}
         for _ in range(int(rounds)):
             for name, words in commands.items():
-                seconds, memory = run(words, corpus, f"{work}/{name}.out")
+                seconds, memory = run(words, corpus, f"{work}/{name}.out", f"{work}/memory")
                 best[name] = min(best.get(name, seconds), seconds)
                 peak[name] = max(peak.get(name, 0), memory)
         same = open(f"{work}/aqlx.out", "rb").read() == open(f"{work}/rust.out", "rb").read()
