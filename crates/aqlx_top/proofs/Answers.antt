@@ -1,5 +1,5 @@
 -- From what was carried out and reported to the promise of the top call.
-use Rattle.std.proofs.Common.{◌≡◌, ◌≢◌, ℕ, ◌+◌, ◌<◌, ◌≤◌, true, false, Bool, List, [], ◌∷◌, ◌++◌, length, take, ap, ap₂, sym, subst, ◌∙◌, refl, arith, length-append, append_assoc, Option, Some, None, Result, Ok, Err, IsErr, IfSome, IfOk, OnErr, IsSomeAnd, if◌then◌else◌, ◌||◌, All, inl, inr, ◌⊎◌}
+use Rattle.std.proofs.Common.{◌≡◌, ◌≢◌, ℕ, ◌+◌, ◌<◌, ◌≤◌, true, false, Bool, List, [], ◌∷◌, ◌++◌, length, take, ap, ap₂, sym, subst, ◌∙◌, refl, arith, length-append, append_assoc, Option, Some, None, Result, Ok, Err, IsErr, IfSome, IsSome, IfOk, OnErr, IsSomeAnd, if◌then◌else◌, ◌||◌, All, inl, inr, ◌⊎◌}
 use Rattle.std.proofs.lemmas.List.{append-nil, take_all, length-take}
 use Rattle.std.proofs.lemmas.List.Elements.{All-append, All-head, All-tail, All-nil, All-cons}
 use Rattle.std.proofs.lemmas.Bool.{lt-ltb, le-ltb, ltb-true}
@@ -12,6 +12,7 @@ use Rattle.corpus_json.specs.Documents.{is_bad_line}
 use Rattle.corpus_json.specs.Lines.{is_too_long}
 use Rattle.corpus_json.specs.Lines.{lines_of, last_line, joined, cut, HasNoLf, BeginsTooLong}
 use Rattle.corpus_json.proofs.LineCuts.{joined-cut, cut-no_lf, lines_of-joined, lines_of-rest, lines_of-too_long}
+use Rattle.aql_regex_extract.specs.Faults.{IsPattern}
 use Rattle.aqlx_top.specs.declared.status.Status.{Status}
 use Rattle.aqlx_top.specs.declared.status.Status.TheVariants.{Done, Program as Refused, Usage, Corpus, ReadFault, WriteFault}
 use Rattle.aqlx_top.specs.declared.status.ProgramFault.TheVariants.{Syntax}
@@ -53,10 +54,10 @@ front_of_run call status run =
 -- whatever the cause of a status is, a prefix is written
 pub front_of_cause : (call : Call) (status : Status) → HasCauseOf call status → WroteFront call
 front_of_cause call Done cause = front_of_run call Done cause
-front_of_cause call (Refused (Syntax fault)) cause = inl (gained_nothing call.out cause.2.untouched)
-front_of_cause call Usage cause = inl (gained_nothing call.out cause.1)
+front_of_cause call (Refused (Syntax fault)) cause = inl (gained_nothing call.out cause.2.idle.untouched)
+front_of_cause call Usage cause = inl (gained_nothing call.out cause.1.untouched)
 front_of_cause call (Corpus fault) cause = front_of_run call (Corpus fault) cause
-front_of_cause call ReadFault cause = elim cause [ inl stopped ↦ inl (gained_nothing call.out stopped.1.untouched) | inr run ↦ front_of_run call ReadFault run ]
+front_of_cause call ReadFault cause = elim cause [ inl stopped ↦ inl (gained_nothing call.out stopped.1.idle.untouched) | inr run ↦ front_of_run call ReadFault run ]
 front_of_cause call WriteFault cause = inr cause.1
 
 -- where a status is told as itself, it has its cause and its line
@@ -230,20 +231,30 @@ pub file_of_front : (told : Option Names) (name : List ℕ) (most : ℕ) (bytes 
 file_of_front None name most bytes few front = tt
 file_of_front (Some names) name most bytes few front = whole_front (names name) most bytes few front
 
+-- a file of which a front was read is there
+held_at : (file : Option (List ℕ)) (most : ℕ) (bytes : List ℕ) → IsFrontOf file most bytes → IsSome file
+held_at None most bytes front = absurd front
+held_at (Some held) most bytes front = refl
+
+held_of : (told : Option Names) (name : List ℕ) (most : ℕ) (bytes : List ℕ)
+    → IfSome told (λ names. IsFrontOf (names name) most bytes) → IfSome told (λ names. IsSome (names name))
+held_of None name most bytes front = tt
+held_of (Some names) name most bytes front = held_at (names name) most bytes front
+
 -- a program text that ran
 pub text_run : (outputs : List OutputNames) (pattern text : List ℕ) (form : Form) (corpus : SourceEnds) (out : SinkEnds) (r : Result Status OutOfMemory)
-    → IsFirstForm text form → length text ≤ 2000 → outputs ≡ output_of (program_of form) ∷ [] → pattern ≡ form.pattern
+    → IsFirstForm text form → length text ≤ 2000 → IsPattern form.pattern → outputs ≡ output_of (program_of form) ∷ [] → pattern ≡ form.pattern
     → IfOk r (IsRunTo (line_for outputs pattern) corpus out) → IfOk r (IsTextRunTo text corpus out)
-text_run outputs pattern text form corpus out (Ok status) reads few outputs_are pattern_is ran =
-    inr (record { form = form; reads = reads; few = few; ran = subst (λ (piece : Doc → List ℕ). IsRunTo piece corpus out status) (ap₂ line_for outputs_are pattern_is) ran })
-text_run outputs pattern text form corpus out (Err e) reads few outputs_are pattern_is ran = tt
+text_run outputs pattern text form corpus out (Ok status) reads few is_pattern outputs_are pattern_is ran =
+    inr (record { form = form; reads = reads; few = few; is_pattern = is_pattern; ran = subst (λ (piece : Doc → List ℕ). IsRunTo piece corpus out status) (ap₂ line_for outputs_are pattern_is) ran })
+text_run outputs pattern text form corpus out (Err e) reads few is_pattern outputs_are pattern_is ran = tt
 
 pub text_part : (outputs : List OutputNames) (pattern text : List ℕ) (form : Form) (corpus : SourceEnds) (out : SinkEnds) (r : Result Status OutOfMemory)
-    → IsFirstForm text form → length text ≤ 2000 → outputs ≡ output_of (program_of form) ∷ [] → pattern ≡ form.pattern
+    → IsFirstForm text form → length text ≤ 2000 → IsPattern form.pattern → outputs ≡ output_of (program_of form) ∷ [] → pattern ≡ form.pattern
     → OnErr r (InPart (line_for outputs pattern) corpus out.held_before out.held_after) → OnErr r (IsTextInPart text corpus out)
-text_part outputs pattern text form corpus out (Ok status) reads few outputs_are pattern_is part = tt
-text_part outputs pattern text form corpus out (Err e) reads few outputs_are pattern_is part =
-    inr (record { form = form; reads = reads; few = few; ran = subst (λ (piece : Doc → List ℕ). InPart piece corpus out.held_before out.held_after) (ap₂ line_for outputs_are pattern_is) part })
+text_part outputs pattern text form corpus out (Ok status) reads few is_pattern outputs_are pattern_is part = tt
+text_part outputs pattern text form corpus out (Err e) reads few is_pattern outputs_are pattern_is part =
+    inr (record { form = form; reads = reads; few = few; is_pattern = is_pattern; ran = subst (λ (piece : Doc → List ℕ). InPart piece corpus out.held_before out.held_after) (ap₂ line_for outputs_are pattern_is) part })
 
 -- a program file whose text ran
 pub file_run : (name bytes : List ℕ) (files : FilesEnds) (corpus : SourceEnds) (out : SinkEnds) (r : Result Status OutOfMemory)
@@ -251,7 +262,7 @@ pub file_run : (name bytes : List ℕ) (files : FilesEnds) (corpus : SourceEnds)
     → IfOk r (IsTextRunTo bytes corpus out) → IfOk r (IsFileRunTo name files corpus out)
 file_run name bytes files corpus out (Ok status) front ran =
     elim ran [
-      | inl refused ↦ inr (inl refused)
+      | inl refused ↦ inr (inl (refused.0, held_of files.told name 2001 bytes front, refused.1))
       | inr form ↦
           let few : length bytes < 2001 = let f = form.few in omega arith in
           inr (inr (record { text = bytes; file = file_of_front files.told name 2001 bytes few front; ran = form }))
@@ -271,31 +282,31 @@ file_part name bytes files corpus out (Err e) front part =
     ]
 
 called_by : (words : List (List ℕ)) (name : List ℕ) (files : FilesEnds) (corpus : SourceEnds) (out : SinkEnds) (text : List ℕ) (form : Form)
-    → IsRun words name → IfSome files.told (λ names. names name ≡ Some text) → IsFirstForm text form
+    → IsRun words name → IfSome files.told (λ names. names name ≡ Some text) → IsFirstForm text form → length text ≤ 2000 → IsPattern form.pattern
     → IsCalledFor (call_of words files corpus out) (program_of form)
-called_by words name files corpus out text form run file reads =
-    record { name = name; text = text; form = form; words = run; file = file; reads = reads; stands_for = refl }
+called_by words name files corpus out text form run file reads few is_pattern =
+    record { name = name; text = text; form = form; words = run; file = file; reads = reads; few = few; is_pattern = is_pattern; stands_for = refl }
 
 cause_of_run : (words : List (List ℕ)) (name : List ℕ) (files : FilesEnds) (corpus : SourceEnds) (out : SinkEnds) (status : Status)
     → IsRun words name → RanFile name files corpus out status → HasCauseOf (call_of words files corpus out) status
 cause_of_run words name files corpus out Done run f =
-    record { program = program_of f.ran.form; called = called_by words name files corpus out f.text f.ran.form run f.file f.ran.reads; ran = f.ran.ran }
+    record { program = program_of f.ran.form; called = called_by words name files corpus out f.text f.ran.form run f.file f.ran.reads f.ran.few f.ran.is_pattern; ran = f.ran.ran }
 cause_of_run words name files corpus out (Refused fault) run f = absurd f.ran.ran.status_is
 cause_of_run words name files corpus out Usage run f = absurd f.ran.ran.status_is
 cause_of_run words name files corpus out (Corpus fault) run f =
-    record { program = program_of f.ran.form; called = called_by words name files corpus out f.text f.ran.form run f.file f.ran.reads; ran = f.ran.ran }
+    record { program = program_of f.ran.form; called = called_by words name files corpus out f.text f.ran.form run f.file f.ran.reads f.ran.few f.ran.is_pattern; ran = f.ran.ran }
 cause_of_run words name files corpus out ReadFault run f =
-    inr (record { program = program_of f.ran.form; called = called_by words name files corpus out f.text f.ran.form run f.file f.ran.reads; ran = f.ran.ran })
+    inr (record { program = program_of f.ran.form; called = called_by words name files corpus out f.text f.ran.form run f.file f.ran.reads f.ran.few f.ran.is_pattern; ran = f.ran.ran })
 cause_of_run words name files corpus out WriteFault run f =
-    (f.ran.ran.0, record { program = program_of f.ran.form; called = called_by words name files corpus out f.text f.ran.form run f.file f.ran.reads; ran = f.ran.ran.1 })
+    (f.ran.ran.0, record { program = program_of f.ran.form; called = called_by words name files corpus out f.text f.ran.form run f.file f.ran.reads f.ran.few f.ran.is_pattern; ran = f.ran.ran.1 })
 
 cause_of_file : (words : List (List ℕ)) (name : List ℕ) (files : FilesEnds) (corpus : SourceEnds) (out : SinkEnds) (status : Status)
     → IsRun words name → IsFileRunTo name files corpus out status → HasCauseOf (call_of words files corpus out) status
 cause_of_file words name files corpus out status run came =
     elim came [
-      | inl unread ↦ rw unread.0 (inl (unread.1, record { name = name; words = run; untouched = unread.2 }))
+      | inl unread ↦ rw unread.0 (inl (unread.1, record { name = name; words = run; idle = unread.2 }))
       | inr read ↦ elim read [
-        | inl refused ↦ rw refused.0 (refl, refl, record { name = name; words = run; untouched = refused.1 })
+        | inl refused ↦ rw refused.0 (refl, refl, record { name = name; words = run; held = refused.1; idle = refused.2 })
         | inr f ↦ cause_of_run words name files corpus out status run f
       ]
     ]
@@ -311,7 +322,7 @@ carried_out_in_part words name files corpus out (Ok status) run part = tt
 carried_out_in_part words name files corpus out (Err e) run part =
     elim part [
       | inl nothing ↦ inl nothing
-      | inr f ↦ inr (record { program = program_of f.ran.form; called = called_by words name files corpus out f.text f.ran.form run f.file f.ran.reads; ran = f.ran.ran })
+      | inr f ↦ inr (record { program = program_of f.ran.form; called = called_by words name files corpus out f.text f.ran.form run f.file f.ran.reads f.ran.few f.ran.is_pattern; ran = f.ran.ran })
     ]
 
 -- what was carried out, and what was told of it

@@ -67,3 +67,8 @@ pub record IsUntouched (sink : SinkEnds) : Type 0 where
   pub held : sink.held_after ≡ sink.held_before
   pub flushed : sink.flushed_after ≡ sink.flushed_before
   pub faults : sink.faults_after ≡ sink.faults_before
+
+-- nothing was asked of the source
+pub record IsUnread (source : SourceEnds) : Type 0 where
+  pub left : source.left_after ≡ source.left_before
+  pub faults : source.faults_after ≡ source.faults_before

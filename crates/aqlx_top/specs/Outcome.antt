@@ -1,5 +1,5 @@
 -- The promise of the top call: what each answer says of the words, the files, the corpus and what was written.
-use Rattle.std.specs.Prelude.{◌≡◌, ◌≢◌, ℕ, ◌<◌, ◌≤◌, ◌⊎◌, true, List, [], length, take, Option, Some, Result, Ok, Err, IfSome, IsSomeAnd, IsErr}
+use Rattle.std.specs.Prelude.{◌≡◌, ◌≢◌, ℕ, ◌<◌, ◌≤◌, ◌⊎◌, true, List, [], length, take, Option, Some, Result, Ok, Err, IfSome, IsSome, IsSomeAnd, IsErr}
 use Rattle.span_token.specs.declared.refusal.OutOfMemory.{OutOfMemory}
 use Rattle.corpus_json.specs.declared.limits.TheConstants.{CORPUS_LIMIT}
 use Rattle.corpus_json.specs.Lines.{lines_of}
@@ -8,7 +8,8 @@ use Rattle.aqlx_top.specs.declared.status.Status.TheVariants.{Done, Program as R
 use Rattle.aqlx_top.specs.declared.status.ProgramFault.{ProgramFault}
 use Rattle.aqlx_top.specs.declared.status.ProgramFault.TheVariants.{Syntax}
 use Rattle.aqlx_top.specs.declared.status.CorpusFault.{CorpusFault}
-use Rattle.aqlx_top.specs.Devices.{FilesEnds, SourceEnds, SinkEnds, FilesFailed, SourceFailed, SinkFailed, Gained, IsUntouched}
+use Rattle.aqlx_top.specs.Devices.{FilesEnds, SourceEnds, SinkEnds, FilesFailed, SourceFailed, SinkFailed, Gained, IsUntouched, IsUnread}
+use Rattle.aql_regex_extract.specs.Faults.{IsPattern}
 use Rattle.aqlx_top.specs.FirstForm.{Form, IsFirstForm}
 use Rattle.aqlx_top.specs.Progress.{IsRunTo}
 use Rattle.aqlx_top.specs.Run.{Program, Ran, RanInPart, line_of}
@@ -39,6 +40,8 @@ pub record IsCalledFor (call : Call) (program : Program) : Type 0 where
   pub words : IsRun call.words name
   pub file : IfSome call.files.told (λ names. names name ≡ Some text)
   pub reads : IsFirstForm text form
+  pub few : length text ≤ 2000
+  pub is_pattern : IsPattern form.pattern
   pub stands_for : program ≡ program_of form
 
 -- the called program ran to this status, and all that it means before it is written and flushed
@@ -57,11 +60,17 @@ pub record RanTowards (call : Call) : Type 0 where
 abbrev pub IsRefusal : Status → Type 0
 IsRefusal status = status ≡ Refused (Syntax (record { statement = 1; line = 1 }))
 
+-- nothing was read of the corpus, and nothing was done with the output
+pub record IsIdle (corpus : SourceEnds) (out : SinkEnds) : Type 0 where
+  pub unread : IsUnread corpus
+  pub untouched : IsUntouched out
+
 -- the text is a program of the one form, and it ran
 pub record RanForm (text : List ℕ) (corpus : SourceEnds) (out : SinkEnds) (status : Status) : Type 0 where
   pub form : Form
   pub reads : IsFirstForm text form
   pub few : length text ≤ 2000
+  pub is_pattern : IsPattern form.pattern
   pub ran : IsRunTo (line_of (program_of form)) corpus out status
 
 -- the text is a program of the one form, and it ran in part
@@ -69,11 +78,12 @@ pub record RanFormInPart (text : List ℕ) (corpus : SourceEnds) (out : SinkEnds
   pub form : Form
   pub reads : IsFirstForm text form
   pub few : length text ≤ 2000
+  pub is_pattern : IsPattern form.pattern
   pub ran : RanInPart (program_of form) corpus out
 
 -- what a program text comes to: it is refused and nothing is done, or it ran
 abbrev pub IsTextRunTo : List ℕ → SourceEnds → SinkEnds → Status → Type 0
-IsTextRunTo text corpus out status = (IsRefusal status × IsUntouched out) ⊎ RanForm text corpus out status
+IsTextRunTo text corpus out status = (IsRefusal status × IsIdle corpus out) ⊎ RanForm text corpus out status
 
 abbrev pub IsTextInPart : List ℕ → SourceEnds → SinkEnds → Type 0
 IsTextInPart text corpus out = Gained out [] ⊎ RanFormInPart text corpus out
@@ -90,11 +100,15 @@ pub record RanFileInPart (name : List ℕ) (files : FilesEnds) (corpus : SourceE
   pub file : IfSome files.told (λ names. names name ≡ Some text)
   pub ran : RanFormInPart text corpus out
 
+-- there is a file of this name
+abbrev pub IsHeld : List ℕ → FilesEnds → Type 0
+IsHeld name files = IfSome files.told (λ names. IsSome (names name))
+
 -- what a program file comes to: it can't be read, or its program is refused, or it ran
 abbrev pub IsFileRunTo : List ℕ → FilesEnds → SourceEnds → SinkEnds → Status → Type 0
 IsFileRunTo name files corpus out status =
-    ((status ≡ ReadFault) × FilesFailed files × IsUntouched out)
-    ⊎ ((IsRefusal status × IsUntouched out) ⊎ RanFile name files corpus out status)
+    ((status ≡ ReadFault) × FilesFailed files × IsIdle corpus out)
+    ⊎ ((IsRefusal status × IsHeld name files × IsIdle corpus out) ⊎ RanFile name files corpus out status)
 
 abbrev pub IsFileInPart : List ℕ → FilesEnds → SourceEnds → SinkEnds → Type 0
 IsFileInPart name files corpus out = Gained out [] ⊎ RanFileInPart name files corpus out
@@ -103,17 +117,24 @@ IsFileInPart name files corpus out = Gained out [] ⊎ RanFileInPart name files 
 abbrev pub WroteFront : Call → Type 0
 WroteFront call = Gained call.out [] ⊎ RanTowards call
 
--- the words ask for a run, and nothing is done with the output
+-- the words ask for a run, and nothing is read of the corpus and written
 pub record StoppedBefore (call : Call) : Type 0 where
   pub name : List ℕ
   pub words : IsRun call.words name
-  pub untouched : IsUntouched call.out
+  pub idle : IsIdle call.corpus call.out
+
+-- the words name a file that is there, whose program is refused
+pub record RefusedBefore (call : Call) : Type 0 where
+  pub name : List ℕ
+  pub words : IsRun call.words name
+  pub held : IsHeld name call.files
+  pub idle : IsIdle call.corpus call.out
 
 -- the cause of each status, before its line is written
 abbrev pub HasCauseOf : Call → Status → Type 0
 HasCauseOf call Done = RanTo call Done
-HasCauseOf call (Refused (Syntax fault)) = (fault.statement ≡ 1) × (fault.line ≡ 1) × StoppedBefore call
-HasCauseOf call Usage = IsNoRun call.words × IsUntouched call.out
+HasCauseOf call (Refused (Syntax fault)) = (fault.statement ≡ 1) × (fault.line ≡ 1) × RefusedBefore call
+HasCauseOf call Usage = IsNoRun call.words × IsIdle call.corpus call.out
 HasCauseOf call (Corpus fault) = RanTo call (Corpus fault)
 HasCauseOf call ReadFault = (FilesFailed call.files × StoppedBefore call) ⊎ RanTo call ReadFault
 HasCauseOf call WriteFault = SinkFailed call.out × RanTowards call

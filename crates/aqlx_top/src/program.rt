@@ -1,4 +1,5 @@
 ghost use Rattle.std.specs.Prelude.{◌≡◌, ◌≤◌, [], ◌∷◌, IfOk, IfSome, length};
+ghost use Rattle.aql_regex_extract.specs.Faults.{IsPattern};
 ghost use Rattle.aqlx_top.specs.Outcome.{program_of};
 ghost use Rattle.aqlx_top.specs.Programs.{IsCompiledFrom};
 ghost use Rattle.aqlx_top.specs.FirstForm.{parts_of};
@@ -44,6 +45,7 @@ fn compile_text(alloc: Global, text: &str) -> Result<Option<Compiled>, OutOfMemo
 fn compile_parts(alloc: Global, parts: Parts<'_>) -> Result<Option<Compiled>, OutOfMemory>
     ensures outputs { IfOk result (λ found. IfSome found (λ compiled. compiled.outputs.items ≡ output_of (program_of (parts_of parts.entry)) ∷ [])) }
     ensures pattern { IfOk result (λ found. IfSome found (λ compiled. compiled.pattern ≡ parts.entry.pattern.now)) }
+    ensures is_pattern { IfOk result (λ found. IfSome found (λ compiled. IsPattern parts.entry.pattern.now)) }
 {
     match compile_pattern(alloc, parts.pattern) {
         Ok(pattern) => Ok(Some(Compiled {
