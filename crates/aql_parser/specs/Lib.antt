@@ -1,0 +1,3 @@
+-- reading
+pub mod Readers
+pub mod Reading

@@ -1,0 +1,2 @@
+-- What the parser reads for each line of the grammar.
+pub mod Expressions

@@ -1,0 +1,5 @@
+//! The parser of programs.
+#![tactic(auto)]
+
+mod cursor;
+mod expressions;
