@@ -68,7 +68,7 @@ listed separates item zero n ks = None
 listed separates item (suc turns) n ks = and_then (item n ks) (λ x m mid.
     if separates mid then prefixed (x ∷ []) (listed separates item turns (m + 1) (after mid)) else Some (x ∷ [], m, mid))
 
-abbrev pub separated : {A : Type 0} → (List Kind → Bool) → Reader A → Reader (List A)
+unfoldable pub separated : {A : Type 0} → (List Kind → Bool) → Reader A → Reader (List A)
 separated separates item n ks = listed separates item (length ks + 1) n ks
 
 -- a list that may be left out, after what begins it

@@ -2,7 +2,8 @@
 
 ghost use Rattle.std.specs.Prelude.{◌≡◌, ◌<◌, ◌+◌, map, IsTrue};
 ghost use Rattle.aql_syntax.specs.Views.{name_of, term_of, item_of};
-ghost use Rattle.aql_parser.specs.Readers.{Gives, separated, sees_sign};
+ghost use Rattle.aql_parser.specs.Readers.{Gives, mapped, separated, sees_sign, symbol};
+ghost use Rattle.aql_syntax.specs.Trees.{star};
 ghost use Rattle.aql_parser.specs.Reading.Expressions as spec;
 
 use crate::cursor::{Cursor, NoTree, Refused, ident};
@@ -76,7 +77,6 @@ pub fn expression(alloc: Global, depth: u32, toks: &mut Cursor<'_>) -> Result<As
 
 /// What follows a word: a call, or what follows a name.
 #[cycle(expression)]
-#[tactic(auto, unfolding(crate::specs::Reading::Expressions::read_term))]
 fn after_word(
     alloc: Global,
     depth: u32,
@@ -96,7 +96,7 @@ fn after_word(
     after_name(alloc, toks, name)
 }
 
-/// The rest of a call, after its `(`.
+/// The rest of a call, after its `(`, which is one of `depth` parentheses.
 #[cycle(expression)]
 fn call(
     alloc: Global,
@@ -110,22 +110,43 @@ fn call(
     if depth == 0 {
         return Err(Failure::Fault(NoTree));
     }
+    after_paren(alloc, depth - 1, toks, word, at)
+}
+
+/// The rest of a call, after its `(`, with arguments within at most `depth` parentheses.
+#[cycle(expression)]
+fn after_paren(
+    alloc: Global,
+    depth: u32,
+    toks: &mut Cursor<'_>,
+    word: &str,
+    at: u32,
+) -> Result<Ast, Refused>
+    ensures { Gives term_of (spec.after_paren (spec.read_term depth) at word.now toks.old.at toks.old.kinds) result toks.new }
+{
     if toks.eat(b')') {
         let name = OwnedText::copied(alloc, word)?;
         return Ok(Ast::of_call(at, name, Vec::new(alloc)));
     }
     if toks.eat(b'*') {
-        toks.expect(b')')?;
-        let name = OwnedText::copied(alloc, word)?;
-        return Ok(Ast {
-            at,
-            form: Form::Star { name },
-        });
+        return star(alloc, toks, word, at);
     }
-    let args = arguments(alloc, depth - 1, toks)?;
+    let args = arguments(alloc, depth, toks)?;
     toks.expect(b')')?;
     let name = OwnedText::copied(alloc, word)?;
     Ok(Ast::of_call(at, name, args))
+}
+
+/// The rest of `word(*)`, after its `*`.
+fn star(alloc: Global, toks: &mut Cursor<'_>, word: &str, at: u32) -> Result<Ast, Refused>
+    ensures { Gives term_of (mapped (λ u. star at word.now) (symbol ")") toks.old.at toks.old.kinds) result toks.new }
+{
+    toks.expect(b')')?;
+    let name = OwnedText::copied(alloc, word)?;
+    Ok(Ast {
+        at,
+        form: Form::Star { name },
+    })
 }
 
 /// Expressions with commas between them.

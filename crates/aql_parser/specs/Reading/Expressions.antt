@@ -39,15 +39,14 @@ term_with calls n (k.word word ∷ ks) = after_word calls n word (n + 1) ks
 term_with calls n (k.name text ∷ ks) = after_name (record { text = text; at = n }) (n + 1) ks
 term_with calls n (k.symbol c ∷ ks) = None
 
--- an expression within so many parentheses
-unfoldable pub read_term : ℕ → Reader Term
-read_term zero = term_with (λ at word. refused)
-read_term (suc depth) = term_with (after_paren (read_term depth))
-
 -- a call's rest within so many parentheses, of which its own is one
 abbrev pub calls_within : ℕ → ℕ → List ℕ → Reader Term
-calls_within zero at word = refused
-calls_within (suc depth) at word = after_paren (read_term depth) at word
+calls_within zero = λ at word. refused
+calls_within (suc depth) = after_paren (term_with (calls_within depth))
+
+-- an expression within so many parentheses
+unfoldable pub read_term : ℕ → Reader Term
+read_term depth = term_with (calls_within depth)
 
 abbrev pub is_column : Term → Bool
 is_column (column at alias name) = true

@@ -1,0 +1,60 @@
+-- A loop that reads a list: what it has and what the rest of the list gives is what all of it gives.
+use Rattle.std.proofs.Common.{◌≡◌, ◌∙◌, ℕ, zero, suc, ◌+◌, ◌-◌, ◌<◌, ◌≤◌, Bool, true, false, List, [], ◌∷◌, ◌++◌, length, Option, Some, None, map, refl, ap, sym, append_assoc, arith}
+use Rattle.std.proofs.lemmas.List.{map-append}
+use Rattle.aql_lexer.specs.Kinds.{Kind}
+use Rattle.aql_parser.specs.Readers.{Left, Eats, Reader, and_then, prefixed, listed, separated, after}
+
+prefixed_nil : {A : Type 0} (r : Option (List A × ℕ × List Kind)) → prefixed [] r ≡ r
+prefixed_nil None = refl
+prefixed_nil (Some r) = refl
+
+prefixed_append : {A : Type 0} (xs ys : List A) (r : Option (List A × ℕ × List Kind)) → prefixed xs (prefixed ys r) ≡ prefixed (xs ++ ys) r
+prefixed_append xs ys None = refl
+prefixed_append xs ys (Some r) = ap (λ zs. Some (zs, r.1, r.2)) (sym (append_assoc xs ys r.0))
+
+module _ {A : Type 0} (separates : List Kind → Bool) (item : Reader A) where
+  -- before the first turn
+  pub list_begins : (turns n : ℕ) (ks : List Kind) → turns ≡ length ks + 1 → prefixed [] (listed separates item turns n ks) ≡ separated separates item n ks
+  unfolding separated
+  list_begins turns n ks all = prefixed_nil (listed separates item turns n ks) ∙ ap (λ t. listed separates item t n ks) all
+
+  module _ (xs : List A) (turn end : ℕ) (turn_left : turn < end) (n : ℕ) (ks : List Kind) where
+    one_turn : end - turn ≡ suc (end - (turn + 1))
+    one_turn = omega arith
+
+    -- no item is read
+    pub list_refused : item n ks ≡ None → prefixed xs (listed separates item (end - turn) n ks) ≡ None
+    list_refused none = rw (one_turn, none) refl
+
+    module _ (x : A) (m : ℕ) (mid : List Kind) (reads : item n ks ≡ Some (x, m, mid)) where
+      -- no separator follows the item
+      pub list_ends : separates mid ≡ false → prefixed xs (listed separates item (end - turn) n ks) ≡ Some (xs ++ x ∷ [], m, mid)
+      list_ends no_more = rw (one_turn, reads, no_more) refl
+
+      -- a separator follows the item
+      pub list_goes_on : separates mid ≡ true → prefixed (xs ++ x ∷ []) (listed separates item (end - (turn + 1)) (m + 1) (after mid)) ≡ prefixed xs (listed separates item (end - turn) n ks)
+      list_goes_on more = rw (one_turn, reads, more) (sym (prefixed_append xs (x ∷ []) (listed separates item (end - (turn + 1)) (m + 1) (after mid))))
+
+  -- no turn is left
+  pub list_without_turns : (xs : List A) (turn end n : ℕ) (ks : List Kind) → end ≤ turn → prefixed xs (listed separates item (end - turn) n ks) ≡ None
+  list_without_turns xs turn end n ks done =
+      let zero_left : end - turn ≡ 0 = omega arith in
+      rw zero_left refl
+
+-- the same of a loop that pushes what it reads, seen by `view`
+module _ {X A : Type 0} (view : X → A) (separates : List Kind → Bool) (item : Reader A) (whole : Option (List A × ℕ × List Kind))
+    (old new : List X) (x : X) (turn end : ℕ) (left mid next : Left)
+    (so_far : prefixed (map view old) (listed separates item (end - turn) left.at left.kinds) ≡ whole) (turn_left : turn < end)
+    (pushed : new ≡ old ++ x ∷ []) (reads : item left.at left.kinds ≡ Some (view x, mid.at, mid.kinds)) where
+  seen : map view new ≡ map view old ++ view x ∷ []
+  seen = ap (map view) pushed ∙ map-append view old (x ∷ [])
+
+  -- no separator: the list is read
+  pub list_returns : Eats separates false mid next → whole ≡ Some (map view new, next.at, next.kinds)
+  list_returns eats =
+      rw (eats.1, seen) (sym so_far ∙ list_ends separates item (map view old) turn end turn_left left.at left.kinds (view x) mid.at mid.kinds reads eats.0)
+
+  -- a separator: the loop goes on
+  pub list_continues : Eats separates true mid next → prefixed (map view new) (listed separates item (end - (turn + 1)) next.at next.kinds) ≡ whole
+  list_continues eats =
+      rw (eats.1, seen) (list_goes_on separates item (map view old) turn end turn_left left.at left.kinds (view x) mid.at mid.kinds reads eats.0 ∙ so_far)
