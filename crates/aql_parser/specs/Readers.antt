@@ -57,6 +57,10 @@ eaten test first second n ks = if test ks then first (n + 1) (after ks) else sec
 abbrev pub optional : {A : Type 0} → (List Kind → Bool) → Reader A → Reader (Option A)
 optional test read = eaten test (mapped Some read) (pure None)
 
+-- what is read where the test sees it, which takes no token
+abbrev pub where_seen : {A : Type 0} → (List Kind → Bool) → Reader A → Reader (Option A)
+where_seen test read n ks = if test ks then mapped Some read n ks else Some (None, n, ks)
+
 -- a list put before what is read
 abbrev pub prefixed : {A : Type 0} → List A → Option (List A × ℕ × List Kind) → Option (List A × ℕ × List Kind)
 prefixed front None = None

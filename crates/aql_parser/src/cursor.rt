@@ -4,6 +4,7 @@ ghost use Rattle.std.specs.Prelude.{◌≡◌, ◌+◌, ◌^◌, ◌<◌, ◌∷
 ghost use Rattle.aql_lexer.specs.Kinds.{kind_of, kinds_of};
 ghost use Rattle.aql_syntax.specs.Views.{name_of, number_of};
 ghost use Rattle.aql_parser.specs.Readers as spec;
+ghost use Rattle.aql_parser.specs.Reading.Extractions as looks;
 ghost use Rattle.aql_parser.specs.Readers.{Gives, Eats, Takes, IsUnreserved};
 
 use aql_lexer::{Tok, TokKind};
@@ -96,6 +97,59 @@ impl<'t> Cursor<'t> {
         match self.rest {
             [tok, ..] => is_name(&tok.kind),
             [] => false,
+        }
+    }
+
+    /// Whether the next token is an integer.
+    pub fn sees_int(&self) -> bool
+        ensures { result ≡ looks.sees_int self.now.kinds }
+    {
+        match self.rest {
+            [tok, ..] => is_int(&tok.kind),
+            [] => false,
+        }
+    }
+
+    /// Whether the next token is a string.
+    pub fn sees_string(&self) -> bool
+        ensures { result ≡ looks.sees_string self.now.kinds }
+    {
+        match self.rest {
+            [tok, ..] => is_string(&tok.kind),
+            [] => false,
+        }
+    }
+
+    /// Whether `regex` and a pattern come next.
+    pub fn begins_pattern(&self) -> bool
+        ensures { result ≡ looks.begins_pattern self.now.kinds }
+    {
+        match self.rest {
+            [first, second, ..] => is_word(&first.kind, "regex") && is_regex(&second.kind),
+            _ => false,
+        }
+    }
+
+    /// Whether `dictionary` comes next, and not as the word of a call.
+    pub fn begins_dictionary(&self) -> bool
+        ensures { result ≡ looks.begins_dict self.now.kinds }
+    {
+        match self.rest {
+            [first, second, ..] => {
+                is_word(&first.kind, "dictionary") && !is_symbol(&second.kind, b'(')
+            }
+            [first] => is_word(&first.kind, "dictionary"),
+            [] => false,
+        }
+    }
+
+    /// Whether `blocks with` comes next.
+    pub fn begins_blocks(&self) -> bool
+        ensures { result ≡ looks.begins_blocks self.now.kinds }
+    {
+        match self.rest {
+            [first, second, ..] => is_word(&first.kind, "blocks") && is_word(&second.kind, "with"),
+            _ => false,
         }
     }
 
@@ -241,6 +295,33 @@ fn is_word(kind: &TokKind, word: &str) -> bool
 {
     match kind {
         TokKind::Word(text) => same_word(text.as_str(), word),
+        _ => false,
+    }
+}
+
+fn is_int(kind: &TokKind) -> bool
+    ensures { result ≡ looks.sees_int (kind_of kind.now ∷ []) }
+{
+    match kind {
+        TokKind::Int(_) => true,
+        _ => false,
+    }
+}
+
+fn is_string(kind: &TokKind) -> bool
+    ensures { result ≡ looks.sees_string (kind_of kind.now ∷ []) }
+{
+    match kind {
+        TokKind::Str(_) => true,
+        _ => false,
+    }
+}
+
+fn is_regex(kind: &TokKind) -> bool
+    ensures { result ≡ looks.sees_regex (kind_of kind.now ∷ []) }
+{
+    match kind {
+        TokKind::Regex(_) => true,
         _ => false,
     }
 }

@@ -2,7 +2,7 @@
 
 ghost use Rattle.std.specs.Prelude.{◌≡◌, ◌<◌, ◌+◌, map, IsTrue};
 ghost use Rattle.aql_syntax.specs.Views.{name_of, term_of, item_of};
-ghost use Rattle.aql_parser.specs.Readers.{Gives, mapped, separated, sees_sign, symbol};
+ghost use Rattle.aql_parser.specs.Readers.{Gives, mapped, separated, sees, sees_sign, symbol};
 ghost use Rattle.aql_syntax.specs.Trees.{star};
 ghost use Rattle.aql_parser.specs.Reading.Expressions as spec;
 
@@ -151,7 +151,7 @@ fn star(alloc: Global, toks: &mut Cursor<'_>, word: &str, at: u32) -> Result<Ast
 
 /// Expressions with commas between them.
 #[cycle(expression)]
-fn arguments(alloc: Global, depth: u32, toks: &mut Cursor<'_>) -> Result<Vec<Ast>, Refused>
+pub fn arguments(alloc: Global, depth: u32, toks: &mut Cursor<'_>) -> Result<Vec<Ast>, Refused>
     ensures { Gives (λ args. map term_of args.items) (separated (sees_sign ",") (spec.read_term depth) toks.old.at toks.old.kinds) result toks.new }
 {
     let mut args = Vec::new(alloc);
@@ -160,6 +160,74 @@ fn arguments(alloc: Global, depth: u32, toks: &mut Cursor<'_>) -> Result<Vec<Ast
         args.push(arg)?;
         if !toks.eat(b',') {
             return Ok(args);
+        }
+    }
+    Err(Failure::Fault(NoTree))
+}
+
+/// Conditions with `and` between them.
+pub fn conditions(
+    alloc: Global,
+    depth: u32,
+    toks: &mut Cursor<'_>,
+) -> Result<Vec<Ast>, Refused>
+    ensures { Gives (λ conds. map term_of conds.items) (separated (sees "and") (spec.read_term depth) toks.old.at toks.old.kinds) result toks.new }
+{
+    let mut conds = Vec::new(alloc);
+    for _turn in 0..toks.left() + 1 {
+        let cond = expression(alloc, depth, toks)?;
+        conds.push(cond)?;
+        if !toks.eat_word("and") {
+            return Ok(conds);
+        }
+    }
+    Err(Failure::Fault(NoTree))
+}
+
+fn is_column(ast: &Ast) -> bool
+    ensures { result ≡ spec.is_column (term_of ast.now) }
+{
+    match &ast.form {
+        Form::Column(_, _) => true,
+        _ => false,
+    }
+}
+
+/// What follows an item's expression: a name, which only a column can do without.
+fn after_expression(alloc: Global, toks: &mut Cursor<'_>, expr: Ast) -> Result<Item, Refused>
+    ensures { Gives item_of (spec.after_expression (term_of expr) toks.old.at toks.old.kinds) result toks.new }
+{
+    if toks.eat_word("as") {
+        let name = toks.name(alloc)?;
+        return Ok(Item {
+            expr,
+            name: Some(name),
+        });
+    }
+    if is_column(&expr) {
+        return Ok(Item { expr, name: None });
+    }
+    Err(Failure::Fault(NoTree))
+}
+
+/// An item of a select list.
+pub fn item(alloc: Global, depth: u32, toks: &mut Cursor<'_>) -> Result<Item, Refused>
+    ensures { Gives item_of (spec.read_item depth toks.old.at toks.old.kinds) result toks.new }
+{
+    let expr = expression(alloc, depth, toks)?;
+    after_expression(alloc, toks, expr)
+}
+
+/// Items with commas between them.
+pub fn items(alloc: Global, depth: u32, toks: &mut Cursor<'_>) -> Result<Vec<Item>, Refused>
+    ensures { Gives (λ items. map item_of items.items) (separated (sees_sign ",") (spec.read_item depth) toks.old.at toks.old.kinds) result toks.new }
+{
+    let mut items = Vec::new(alloc);
+    for _turn in 0..toks.left() + 1 {
+        let one = item(alloc, depth, toks)?;
+        items.push(one)?;
+        if !toks.eat(b',') {
+            return Ok(items);
         }
     }
     Err(Failure::Fault(NoTree))

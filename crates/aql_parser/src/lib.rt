@@ -3,3 +3,4 @@
 
 mod cursor;
 mod expressions;
+mod extractions;
