@@ -1,3 +1,4 @@
 -- reading
 pub mod Readers
 pub mod Reading
+pub mod ClauseViews

@@ -75,6 +75,15 @@ listed separates item (suc turns) n ks = and_then (item n ks) (λ x m mid.
 unfoldable pub separated : {A : Type 0} → (List Kind → Bool) → Reader A → Reader (List A)
 separated separates item n ks = listed separates item (length ks + 1) n ks
 
+-- items up to where the test sees their end, in at most so many turns
+abbrev pub until : {A : Type 0} → (List Kind → Bool) → Reader A → ℕ → Reader (List A)
+until ends item zero n ks = None
+until ends item (suc turns) n ks =
+    if ends ks then Some ([], n, ks) else and_then (item n ks) (λ x m mid. prefixed (x ∷ []) (until ends item turns m mid))
+
+unfoldable pub repeated : {A : Type 0} → (List Kind → Bool) → Reader A → Reader (List A)
+repeated ends item n ks = until ends item (length ks + 1) n ks
+
 -- a list that may be left out, after what begins it
 abbrev pub clause : {A : Type 0} → (List Kind → Bool) → Reader (List A) → Reader (List A)
 clause begins list = eaten begins list (pure [])

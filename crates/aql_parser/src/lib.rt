@@ -1,6 +1,8 @@
 //! The parser of programs.
 #![tactic(auto)]
 
+mod clauses;
 mod cursor;
 mod expressions;
 mod extractions;
+mod queries;

@@ -1,9 +1,9 @@
 -- Reading queries.
-use Rattle.std.specs.Prelude.{◌≡◌, ℕ, zero, suc, ◌+◌, Bool, true, false, if◌then◌else◌, List, [], ◌∷◌, length, Option, Some, None, codes}
+use Rattle.std.specs.Prelude.{◌≡◌, ℕ, zero, suc, ◌+◌, Bool, true, false, ◌||◌, if◌then◌else◌, List, [], ◌∷◌, length, Option, Some, None, codes}
 use Prim.Native.String.{String}
 use Rattle.aql_lexer.specs.Kinds.{Kind}
 use Rattle.aql_syntax.specs.Trees.{Name, Number, Term, Item, Cons, Clauses, Tail, Spec, Query, select, extract, union, minus, as_queries, Source, view, nested, as_sources}
-use Rattle.aql_parser.specs.Readers.{Reader, pure, and_then, ◌⊗◌, ◌▷◌, ◌◁◌, mapped, eaten, optional, where_seen, prefixed, separated, clause, sees, sees_sign, symbol, keyword, a_name, sees_name, a_string, an_int, after}
+use Rattle.aql_parser.specs.Readers.{Reader, pure, and_then, ◌⊗◌, ◌▷◌, ◌◁◌, mapped, eaten, optional, where_seen, repeated, separated, clause, sees, sees_sign, symbol, keyword, a_name, sees_name, a_string, an_int}
 use Rattle.aql_parser.specs.Reading.Expressions.{read_term, read_item, refused}
 use Rattle.aql_parser.specs.Reading.Extractions.{begins_pattern, begins_dict, begins_blocks, read_blocks, read_sought}
 
@@ -16,9 +16,11 @@ read_keys begin depth = clause (sees begin) (keyword "by" ▷ separated (sees_si
 abbrev pub made_cons : Term × Option Name → Cons
 made_cons parts = record { target = parts.0; policy = parts.1 }
 
-abbrev pub read_cons : ℕ → Reader (Option Cons)
-read_cons depth =
-    optional (sees "consolidate") (mapped made_cons (keyword "on" ▷ read_term depth ⊗ optional (sees "using") a_string))
+abbrev pub after_consolidate : ℕ → Reader Cons
+after_consolidate depth = mapped made_cons (keyword "on" ▷ read_term depth ⊗ optional (sees "using") a_string)
+
+unfoldable pub read_cons : ℕ → Reader (Option Cons)
+read_cons depth = optional (sees "consolidate") (after_consolidate depth)
 
 abbrev pub read_limit : Reader (Option Number)
 read_limit = optional (sees "limit") an_int
@@ -38,18 +40,16 @@ made_tail parts = record { conds = parts.0; cons = parts.1.0; limit = parts.1.1 
 unfoldable pub read_tail : ℕ → Reader Tail
 read_tail depth = mapped made_tail (read_conds "having" depth ⊗ read_cons depth ⊗ read_limit)
 
--- items with a comma after each, up to what the extraction looks for
+-- what the extraction looks for comes next
 abbrev pub begins_sought : List Kind → Bool
-begins_sought ks = if begins_pattern ks then true else begins_dict ks
+begins_sought ks = begins_pattern ks || begins_dict ks
 
-abbrev pub before : Reader Item → ℕ → Reader (List Item)
-before item zero n ks = None
-before item (suc turns) n ks =
-    if begins_sought ks then Some ([], n, ks)
-    else and_then (item n ks) (λ x m mid. if sees_sign "," mid then prefixed (x ∷ []) (before item turns (m + 1) (after mid)) else None)
+-- an item and its comma
+abbrev pub item_before : ℕ → Reader Item
+item_before depth = read_item depth ◁ symbol ","
 
 unfoldable pub read_items_before : ℕ → Reader (List Item)
-read_items_before depth n ks = before (read_item depth) (length ks + 1) n ks
+read_items_before depth = repeated begins_sought (item_before depth)
 
 unfoldable pub read_extracted : ℕ → Reader (List Item × Spec)
 read_extracted depth n ks =
@@ -62,33 +62,36 @@ made_view parts = view parts.0 parts.1
 abbrev pub made_nested : Query × Name → Source
 made_nested parts = nested parts.0 parts.1
 
+unfoldable pub read_view : Reader Source
+read_view = mapped made_view (a_name ⊗ where_seen sees_name a_name)
+
+abbrev pub made_select : ℕ → List Item × (List Source × Clauses) → Query
+made_select at parts = select at parts.0 (as_sources parts.1.0) parts.1.1
+
+abbrev pub made_extract : ℕ → (List Item × Spec) × (Source × Tail) → Query
+made_extract at parts = extract at parts.0.0 parts.0.1 parts.1.0 parts.1.1
+
 -- with a reader of what stands in parentheses, after its "(" and with its ")"
 module _ (depth : ℕ) (parenthesis : Reader Query) where
-  abbrev pub source_with : Reader Source
+  unfoldable pub source_with : Reader Source
   source_with =
       eaten (sees_sign "(") (mapped made_nested (parenthesis ⊗ a_name))
-      (mapped made_view (a_name ⊗ where_seen sees_name a_name))
+      read_view
 
-  abbrev pub made_select : ℕ → List Item × (List Source × Clauses) → Query
-  made_select at parts = select at parts.0 (as_sources parts.1.0) parts.1.1
-
-  abbrev pub selection : ℕ → Reader Query
+  unfoldable pub selection : ℕ → Reader Query
   selection at =
       mapped (made_select at) (separated (sees_sign ",") (read_item depth) ⊗
       keyword "from" ▷ separated (sees_sign ",") source_with ⊗ read_clauses depth)
 
-  abbrev pub made_extract : ℕ → (List Item × Spec) × (Source × Tail) → Query
-  made_extract at parts = extract at parts.0.0 parts.0.1 parts.1.0 parts.1.1
-
-  abbrev pub extraction : ℕ → Reader Query
+  unfoldable pub extraction : ℕ → Reader Query
   extraction at = mapped (made_extract at) (read_extracted depth ⊗ keyword "from" ▷ source_with ⊗ read_tail depth)
 
   -- "all" "(" query ")"
-  abbrev pub side : Reader Query
+  unfoldable pub side : Reader Query
   side = keyword "all" ▷ symbol "(" ▷ parenthesis
 
   -- after the first of the queries that are put together
-  abbrev pub put_together : Query → Reader Query
+  unfoldable pub put_together : Query → Reader Query
   put_together first =
       eaten (sees "minus") (mapped (minus first) (symbol "(" ▷ parenthesis))
       (mapped (λ sides. union (as_queries (first ∷ sides))) (keyword "union" ▷ separated (sees "union") side))
@@ -99,7 +102,7 @@ module _ (depth : ℕ) (parenthesis : Reader Query) where
       (eaten (sees "select") (selection n) (keyword "extract" ▷ extraction n)) n
 
 -- a query in parentheses, after its "(", which is one of so many
-abbrev pub within : ℕ → Reader Query
+unfoldable pub within : ℕ → Reader Query
 within zero = refused
 within (suc depth) = query_with depth (within depth) ◁ symbol ")"
 
