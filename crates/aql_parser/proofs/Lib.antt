@@ -1,2 +1,5 @@
 pub mod Lists
 pub mod Depths
+pub mod Rules
+pub mod ListRules
+pub mod NameRules

@@ -92,3 +92,18 @@ module _ {X A : Type 0} (view : X → A) (ends : List Kind → Bool) (item : Rea
         let turned : prefixed (map view old) (until ends item (end - turn) left.at left.kinds) ≡ prefixed (map view old ++ view x ∷ []) (until ends item (end - (turn + 1)) next.at next.kinds) =
             rw (this_turn, goes_on, reads) (prefixed_append (map view old) (view x ∷ []) (until ends item (end - (turn + 1)) next.at next.kinds)) in
         rw seen (sym turned ∙ so_far)
+
+-- the same of a loop that pushes what it reads as it is
+module _ {A : Type 0} (separates : List Kind → Bool) (item : Reader A) (whole : Option (List A × ℕ × List Kind))
+    (old new : List A) (x : A) (turn end : ℕ) (left mid next : Left)
+    (so_far : prefixed old (listed separates item (end - turn) left.at left.kinds) ≡ whole) (turn_left : turn < end)
+    (pushed : new ≡ old ++ x ∷ []) (reads : item left.at left.kinds ≡ Some (x, mid.at, mid.kinds)) where
+  -- no separator: the list is read
+  pub plain_list_returns : Eats separates false mid next → whole ≡ Some (new, next.at, next.kinds)
+  plain_list_returns eats =
+      rw (eats.1, pushed) (sym so_far ∙ list_ends separates item old turn end turn_left left.at left.kinds x mid.at mid.kinds reads eats.0)
+
+  -- a separator: the loop goes on
+  pub plain_list_continues : Eats separates true mid next → prefixed new (listed separates item (end - (turn + 1)) next.at next.kinds) ≡ whole
+  plain_list_continues eats =
+      rw (eats.1, pushed) (list_goes_on separates item old turn end turn_left left.at left.kinds x mid.at mid.kinds reads eats.0 ∙ so_far)

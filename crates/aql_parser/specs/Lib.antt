@@ -2,3 +2,5 @@
 pub mod Readers
 pub mod Reading
 pub mod ClauseViews
+-- limits
+pub mod Nesting

@@ -1,7 +1,7 @@
 -- Readers: what is read from the tokens that are left, and what is left then. The parser computes
 -- them, and the laws in `proofs/` say that they read the grammar.
 use Rattle.std.specs.Prelude.{◌≡◌, ℕ, zero, suc, ◌+◌, ◌==◌, Bool, true, false, ◌&&◌, ◌||◌, if◌then◌else◌, not, ◌++◌, List, [], ◌∷◌, length, Option, Some, None, Ok, Err, Result, codes, ⊤}
-use Rattle.std.specs.Str.{byte}
+use Rattle.std.specs.Str.{byte, bytes_eq}
 use Prim.Native.String.{String}
 use Rattle.span_token.specs.declared.refusal.Failure.{Failure}
 use Rattle.span_token.specs.declared.refusal.Failure.TheVariants.{OutOfMemory, Fault}
@@ -101,6 +101,11 @@ sees_word w _ = false
 abbrev pub sees : String → List Kind → Bool
 sees w = sees_word (codes w)
 
+-- the next token is this word, in this case
+abbrev pub sees_exactly : List ℕ → List Kind → Bool
+sees_exactly w (k.word v ∷ ks) = bytes_eq v w
+sees_exactly w _ = false
+
 abbrev pub sees_sign : String → List Kind → Bool
 sees_sign s = sees_symbol (byte s)
 
@@ -112,6 +117,9 @@ symbol s = take_if (sees_sign s)
 
 abbrev pub keyword : String → Reader (Unit {0})
 keyword w = take_if (sees w)
+
+abbrev pub exactly : String → Reader (Unit {0})
+exactly w = take_if (sees_exactly (codes w))
 
 abbrev pub named : ℕ → List ℕ → List Kind → Option (Name × ℕ × List Kind)
 named n text rest = Some (record { text = text; at = n }, n + 1, rest)

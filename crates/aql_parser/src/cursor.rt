@@ -206,6 +206,26 @@ impl<'t> Cursor<'t> {
         Err(Failure::Fault(NoTree))
     }
 
+    /// Takes this word, in this case.
+    pub fn expect_exactly(&mut self, word: &str) -> Result<(), Refused>
+        ensures { Gives (λ u. u) (spec.take_if (spec.sees_exactly word.now) self.old.at self.old.kinds) result self.new }
+    {
+        if !self.sees_exactly(word) {
+            return Err(Failure::Fault(NoTree));
+        }
+        self.skip();
+        Ok(())
+    }
+
+    fn sees_exactly(&self, word: &str) -> bool
+        ensures { result ≡ spec.sees_exactly word.now self.now.kinds }
+    {
+        match self.rest {
+            [tok, ..] => is_exactly(&tok.kind, word),
+            [] => false,
+        }
+    }
+
     /// The next token, which is taken.
     pub fn take(&mut self) -> Option<&'t TokKind>
         ensures { MatchOption result (self.old.kinds ≡ []) (λ kind. Takes (kind_of kind.now) self.old self.new) }
@@ -295,6 +315,15 @@ fn is_word(kind: &TokKind, word: &str) -> bool
 {
     match kind {
         TokKind::Word(text) => same_word(text.as_str(), word),
+        _ => false,
+    }
+}
+
+fn is_exactly(kind: &TokKind, word: &str) -> bool
+    ensures { result ≡ spec.sees_exactly word.now (kind_of kind.now ∷ []) }
+{
+    match kind {
+        TokKind::Word(text) => text.as_str() == word,
         _ => false,
     }
 }

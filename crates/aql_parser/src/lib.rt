@@ -6,3 +6,4 @@ mod cursor;
 mod expressions;
 mod extractions;
 mod queries;
+mod statements;
