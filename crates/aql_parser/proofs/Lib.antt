@@ -3,3 +3,4 @@ pub mod Depths
 pub mod Rules
 pub mod ListRules
 pub mod NameRules
+pub mod ExpressionRules

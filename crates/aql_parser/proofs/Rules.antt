@@ -127,7 +127,7 @@ takes_keyword w = record {
   found = λ ks h. sees_word_is (codes w) ks h;
   tested = λ ks rest h. (rw h.1 h.2, k.word h.0, h.1, refl, refl) }
 
-sees_symbol_is : (c : ℕ) (ks : List Kind) → sees_symbol c ks ≡ true → ks ≡ k.symbol c ∷ after ks
+pub sees_symbol_is : (c : ℕ) (ks : List Kind) → sees_symbol c ks ≡ true → ks ≡ k.symbol c ∷ after ks
 sees_symbol_is c (k.symbol b ∷ ks) h = ap (λ (d : ℕ). k.symbol d ∷ ks) (eqb-true b c h)
 sees_symbol_is c [] h = absurd (false≢true h)
 sees_symbol_is c (k.word v ∷ ks) h = absurd (false≢true h)
