@@ -4,3 +4,5 @@ pub mod Rules
 pub mod ListRules
 pub mod NameRules
 pub mod ExpressionRules
+pub mod ItemRules
+pub mod ExtractionRules

@@ -1,6 +1,6 @@
 -- A reader reads a part of the grammar: all that it reads has tokens of the part, and it reads whatever
 -- has them, with its places, where what follows stops it and the parentheses fit.
-use Rattle.std.proofs.Common.{◌≡◌, ◌∙◌, ◌⊎◌, inl, inr, ⊎_elim, ℕ, zero, suc, ◌+◌, ◌-◌, ◌<◌, ◌≤◌, Bool, true, false, cond, List, [], ◌∷◌, ◌++◌, length, take, Option, Some, None, refl, ap, sym, subst, codes, arith}
+use Rattle.std.proofs.Common.{◌≡◌, ◌∙◌, ◌⊎◌, inl, inr, ⊎_elim, ℕ, zero, suc, ◌+◌, ◌-◌, ◌<◌, ◌≤◌, Bool, true, false, cond, List, [], ◌∷◌, ◌++◌, length, take, Option, Some, None, refl, ap, sym, subst, codes, arith, if◌then◌else◌}
 use Rattle.std.specs.Bool.{⊤}
 use Rattle.std.specs.List.{count_by}
 use Rattle.std.proofs.lemmas.Bool.{false≢true, eqb-true, eq-eqb}
@@ -113,7 +113,7 @@ reads_token {test} {P} d takes = record {
         shorter = rw seen.2 (omega arith) } }
 
 -- keywords and signs
-sees_word_is : (w : List ℕ) (ks : List Kind) → sees_word w ks ≡ true → (v : List ℕ) × (ks ≡ k.word v ∷ after ks) × (same_word v w ≡ true)
+pub sees_word_is : (w : List ℕ) (ks : List Kind) → sees_word w ks ≡ true → (v : List ℕ) × (ks ≡ k.word v ∷ after ks) × (same_word v w ≡ true)
 sees_word_is w (k.word v ∷ ks) h = (v, refl, h)
 sees_word_is w [] h = absurd (false≢true h)
 sees_word_is w (k.name t ∷ ks) h = absurd (false≢true h)
@@ -313,3 +313,75 @@ pub reads_as : {A : Type 0} {r : Reader A} {P : A → Part} {p : Placing A} {S :
 reads_as d reader Q into out = record {
   sound = λ n ks a m rest h. into a ks rest (reader.sound n ks a m rest h);
   complete = λ n ks a rest stops within h. reader.complete n ks a rest stops within (out a ks rest h) }
+
+-- the same of what is made after a part that is passed over
+skipped_made : {A B : Type 0} (f : A → B) (o : Option (Unit {0} × ℕ × List Kind)) (r : Reader A) (a : A) (m : ℕ) (rest : List Kind) → and_then o (λ u l mid. r l mid) ≡ Some (a, m, rest) → and_then o (λ u l mid. mapped f r l mid) ≡ Some (f a, m, rest)
+skipped_made f None r a m rest h = absurd (none_some _ h)
+skipped_made f (Some t) r a m rest h = rw h refl
+
+made_skipped : {A B : Type 0} (f : A → B) (o : Option (Unit {0} × ℕ × List Kind)) (r : Reader A) (b : B) (m : ℕ) (rest : List Kind) → and_then o (λ u l mid. mapped f r l mid) ≡ Some (b, m, rest) → (a : A) × (l : ℕ) × (left : List Kind) × (and_then o (λ u l mid. r l mid) ≡ Some (a, l, left)) × (f a ≡ b) × (left ≡ rest)
+made_skipped f None r b m rest h = absurd (none_some _ h)
+made_skipped f (Some t) r b m rest h =
+    let one = bind (r t.1 t.2) _ _ h in
+    let same = some_parts _ _ _ _ _ _ one.4 in
+    (one.0, one.1, one.2, one.3, same.0, same.2)
+
+module _ {A B : Type 0} (w : Reader (Unit {0})) (r : Reader A) {P : A → Part} {p : Placing A} {S : List Kind → Type 0} (d : ℕ) (f : A → B) (reader : Reads (w ▷ r) P p d S) (P' : B → Part) (place : Placing B) where
+  pub reads_after_mapped : ((a : A) (ks rest : List Kind) → P a ks rest → P' (f a) ks rest) → ((b : B) (ks rest : List Kind) → P' b ks rest → Made f P p place b ks rest) → Reads (w ▷ mapped f r) P' place d S
+  reads_after_mapped into made = record {
+    sound = λ n ks b m rest h.
+        let one = made_skipped f (w n ks) r b m rest h in
+        carried P' (f one.0) b ks one.2 rest one.4 one.5 (into one.0 ks one.2 (reader.sound n ks one.0 one.1 one.2 one.3));
+    complete = λ n ks b rest stops within h.
+        let was = made b ks rest h in
+        let one = reader.complete n ks was.of rest stops within was.part in
+        record {
+          reads = rw (was.places n, was.next n) (skipped_made f (w n ks) r _ _ rest one.reads);
+          within = one.within;
+          shorter = one.shorter } }
+
+-- a token that stands for a value
+module _ {B : Type 0} (test : List Kind → Bool) {W : Part} (d : ℕ) (takes : Takes test W) (value : B) (P : B → Part) where
+  pub reads_value : ((ks rest : List Kind) → W ks rest → P value ks rest) → ((b : B) (ks rest : List Kind) → P b ks rest → (value ≡ b) × W ks rest) → Reads (take_if test ▷ pure value) P (λ n b. (b, n + 1)) d Always
+  reads_value into out = record {
+    sound = λ n ks b m rest h.
+        let one = bind (take_if test n ks) _ _ h in
+        let same = some_parts _ _ _ _ _ _ one.4 in
+        let token = (reads_token d takes).sound n ks one.0 one.1 one.2 one.3 in
+        carried P value b ks one.2 rest same.0 same.2 (into ks one.2 token);
+    complete = λ n ks b rest stops within h.
+        let was = out b ks rest h in
+        let one = (reads_token d takes).complete n ks tt rest tt within was.1 in
+        record {
+          reads = rw one.reads (ap (λ v. Some (v, n + 1, rest)) was.0);
+          within = one.within;
+          shorter = one.shorter } }
+
+-- the same part and places, said otherwise
+module _ {A : Type 0} {r : Reader A} {P : A → Part} {p : Placing A} {S : List Kind → Type 0} (d : ℕ) (reader : Reads r P p d S) (Q : A → Part) (place : Placing A) where
+  pub reads_recast : ((a : A) (ks rest : List Kind) → P a ks rest → Q a ks rest) → ((a : A) (ks rest : List Kind) → Q a ks rest → P a ks rest) → ((a : A) (ks rest : List Kind) → Q a ks rest → (n : ℕ) → place n a ≡ p n a) → Reads r Q place d S
+  reads_recast into out places = record {
+    sound = λ n ks a m rest h. into a ks rest (reader.sound n ks a m rest h);
+    complete = λ n ks a rest stops within h.
+        let one = reader.complete n ks a rest stops within (out a ks rest h) in
+        record {
+          reads = rw (places a ks rest h n) one.reads;
+          within = one.within;
+          shorter = one.shorter } }
+
+-- a choice by a test that takes no token
+module _ {A : Type 0} (test : List Kind → Bool) {r s : Reader A} {P1 P2 : A → Part} {place : Placing A} {S : List Kind → Type 0} (d : ℕ) (first : Reads r P1 place d S) (second : Reads s P2 place d S) (P : A → Part) where
+  pub reads_tested : ((a : A) (ks rest : List Kind) → P1 a ks rest → P a ks rest) → ((a : A) (ks rest : List Kind) → P2 a ks rest → P a ks rest) → ((a : A) (ks rest : List Kind) → P a ks rest → ((test ks ≡ true) × P1 a ks rest) ⊎ ((test ks ≡ false) × P2 a ks rest)) → Reads (λ n ks. if test ks then r n ks else s n ks) P place d S
+  reads_tested into1 into2 split = record {
+    sound = λ n ks a m rest h. ⊎_elim
+        (λ c. into1 a ks rest (first.sound n ks a m rest c.1))
+        (λ c. into2 a ks rest (second.sound n ks a m rest c.1))
+        (chosen (test ks) _ _ _ h);
+    complete = λ n ks a rest stops within h. ⊎_elim
+        (λ c.
+            let one = first.complete n ks a rest stops within c.1 in
+            record { reads = rw c.0 one.reads; within = one.within; shorter = one.shorter })
+        (λ c.
+            let two = second.complete n ks a rest stops within c.1 in
+            record { reads = rw c.0 two.reads; within = two.within; shorter = two.shorter })
+        (split a ks rest h) }

@@ -3,7 +3,7 @@ use Rattle.aql_parser.specs.Readers.{sees_sign}
 use Rattle.aql_parser.specs.Reading.Statements.{a_text}
 use Rattle.aql_parser.proofs.Lists.{list_begins, plain_list_returns, plain_list_continues}
 use Rattle.aql_parser.proofs.ListRules.{reads_clause}
-use Rattle.aql_parser.proofs.ExpressionRules.{reads_column}
+use Rattle.aql_parser.proofs.ExtractionRules.{reads_range}
 use Rattle.aql_parser.proofs.statements.texts.Goals as goal
 
 pub loop-turn-init : goal.loop-turn-init
