@@ -6,3 +6,5 @@ pub mod NameRules
 pub mod ExpressionRules
 pub mod ItemRules
 pub mod ExtractionRules
+pub mod EndRules
+pub mod ClauseRules
