@@ -147,7 +147,7 @@ module _ (d : ℕ) where
   returned_placed (group ∷ other ∷ groups) ks rest h n = refl
 
   -- no further group goes on here
-  abbrev StopsGroups : List Kind → Type 0
+  abbrev pub StopsGroups : List Kind → Type 0
   StopsGroups ks = Always ks × (sees "and" ks ≡ false)
 
   reads_returned : Reads (keyword "return" ▷ separated (sees "and") read_numbered) AreReturned placed_groups d StopsGroups
@@ -194,7 +194,7 @@ module _ (d : ℕ) where
           reads_returned (AreGroups free) named_groups returned_groups groups_split
 
   -- a pattern
-  abbrev IsPatternSpec : Spec → Part
+  abbrev pub IsPatternSpec : Spec → Part
   IsPatternSpec (pattern text bound alias name groups) = IsPattern free text bound alias name groups
   IsPatternSpec (dict table flag alias name out) = Nowhere
   IsPatternSpec (blocks count gap tokens alias name out) = Nowhere
@@ -220,7 +220,7 @@ module _ (d : ℕ) where
   pattern_made (dict table flag alias name out) ks rest h = absurd h
   pattern_made (blocks count gap tokens alias name out) ks rest h = absurd h
 
-  reads_pattern : Reads read_pattern IsPatternSpec placed_spec d StopsGroups
+  pub reads_pattern : Reads read_pattern IsPatternSpec placed_spec d StopsGroups
   reads_pattern = reads_mapped d made_pattern reads_pattern_parts IsPatternSpec placed_spec (λ parts ks rest h. h) pattern_made
 
   -- a flag
@@ -277,7 +277,7 @@ module _ (d : ℕ) where
           (Optional (IsFlag free)) (λ n flag. (flag, after_flag n flag)) (λ flag ks rest h. h) (λ flag ks rest h. h) flag_placed
 
   -- a dictionary
-  abbrev IsDictSpec : Spec → Part
+  abbrev pub IsDictSpec : Spec → Part
   IsDictSpec (dict table flag alias name out) = IsDict free table flag alias name out
   IsDictSpec (pattern text bound alias name groups) = Nowhere
   IsDictSpec (blocks count gap tokens alias name out) = Nowhere
@@ -305,7 +305,7 @@ module _ (d : ℕ) where
   dict_made (pattern text bound alias name groups) ks rest h = absurd h
   dict_made (blocks count gap tokens alias name out) ks rest h = absurd h
 
-  reads_dict : Reads read_dict IsDictSpec placed_spec d Always
+  pub reads_dict : Reads read_dict IsDictSpec placed_spec d Always
   reads_dict = reads_mapped d made_dict reads_dict_parts IsDictSpec placed_spec (λ parts ks rest h. h) dict_made
 
   -- blocks
@@ -348,7 +348,7 @@ module _ (d : ℕ) where
           (reads_mapped d (λ u. false) (reads_keyword d "characters") IsCharacters placed_unit (λ u ks rest h. h) characters_made)
           (λ b. Keyword free (unit_of b)) unit_tokens unit_characters unit_split
 
-  abbrev IsBlocksSpec : Spec → Part
+  abbrev pub IsBlocksSpec : Spec → Part
   IsBlocksSpec (blocks count gap tokens alias name out) = IsBlocks free count gap tokens alias name out
   IsBlocksSpec (pattern text bound alias name groups) = Nowhere
   IsBlocksSpec (dict table flag alias name out) = Nowhere

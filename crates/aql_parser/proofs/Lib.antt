@@ -8,3 +8,4 @@ pub mod ItemRules
 pub mod ExtractionRules
 pub mod EndRules
 pub mod ClauseRules
+pub mod SoughtRules
