@@ -9,3 +9,4 @@ pub mod ExtractionRules
 pub mod EndRules
 pub mod ClauseRules
 pub mod SoughtRules
+pub mod QueryRules

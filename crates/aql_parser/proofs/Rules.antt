@@ -385,3 +385,32 @@ module _ {A : Type 0} (test : List Kind → Bool) {r s : Reader A} {P1 P2 : A �
             let two = second.complete n ks a rest stops within c.1 in
             record { reads = rw c.0 two.reads; within = two.within; shorter = two.shorter })
         (split a ks rest h) }
+
+-- readers that read the same
+pub reads_same : {A : Type 0} (r s : Reader A) {P : A → Part} {p : Placing A} {S : List Kind → Type 0} (d : ℕ) → Reads r P p d S → ((n : ℕ) (ks : List Kind) → s n ks ≡ r n ks) → Reads s P p d S
+reads_same r s d reader same = record {
+  sound = λ n ks a m rest h. reader.sound n ks a m rest (sym (same n ks) ∙ h);
+  complete = λ n ks a rest stops within h.
+      let one = reader.complete n ks a rest stops within h in
+      record { reads = same n ks ∙ one.reads; within = one.within; shorter = one.shorter } }
+
+-- what is passed over, and then a pair
+passed_pair : {A B : Type 0} (o : Option (Unit {0} × ℕ × List Kind)) (r : Reader A) (q : Reader B) → and_then o (λ u l mid. (r ⊗ q) l mid) ≡ and_then (and_then o (λ u l mid. r l mid)) (λ a m mid. and_then (q m mid) (λ b l rest. Some ((a, b), l, rest)))
+passed_pair None r q = refl
+passed_pair (Some t) r q = refl
+
+pub reads_passed_pair : {A B : Type 0} (w : Reader (Unit {0})) (r : Reader A) (q : Reader B) {P : A × B → Part} {p : Placing (A × B)} {S : List Kind → Type 0} (d : ℕ) → Reads ((w ▷ r) ⊗ q) P p d S → Reads (w ▷ (r ⊗ q)) P p d S
+reads_passed_pair w r q d reader = reads_same ((w ▷ r) ⊗ q) (w ▷ (r ⊗ q)) d reader (λ n ks. passed_pair (w n ks) r q)
+
+-- what is passed over, and then what goes on by what was read
+pub passed_on : {A B : Type 0} (o : Option (Unit {0} × ℕ × List Kind)) (r : Reader A) (f : A → Reader B) → and_then o (λ u l mid. and_then (r l mid) f) ≡ and_then (and_then o (λ u l mid. r l mid)) f
+passed_on None r f = refl
+passed_on (Some t) r f = refl
+
+-- a reader that knows its own place
+pub reads_at : {A : Type 0} (r : ℕ → Reader A) {P : A → Part} (p : ℕ → Placing A) {S : List Kind → Type 0} (d : ℕ) → ((at : ℕ) → Reads (r at) P (p at) d S) → Reads (λ n ks. r n n ks) P (λ n a. p n n a) d S
+reads_at r p d readers = record {
+  sound = λ n ks a m rest h. (readers n).sound n ks a m rest h;
+  complete = λ n ks a rest stops within h.
+      let one = (readers n).complete n ks a rest stops within h in
+      record { reads = one.reads; within = one.within; shorter = one.shorter } }

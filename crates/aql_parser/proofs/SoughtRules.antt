@@ -180,10 +180,10 @@ module _ (d : ℕ) where
   abbrev AreItemsAndSought : List Item × Spec → Part
   AreItemsAndSought pair = AreItemsBefore free pair.0 ▸ IsSought pair.1
 
-  abbrev IsExtractedPair : List Item × Spec → Part
+  abbrev pub IsExtractedPair : List Item × Spec → Part
   IsExtractedPair pair = IsExtracted free pair.0 pair.1
 
-  abbrev placed_extracted : Placing (List Item × Spec)
+  abbrev pub placed_extracted : Placing (List Item × Spec)
   placed_extracted = placed_pair (placed_each placed_item_before) placed_spec
 
   alone_made : (pair : List Item × Spec) (ks rest : List Kind) → IsBlocksAlone pair ks rest → Made (λ spec. ([], spec)) (IsBlocksSpec d) placed_spec placed_extracted pair ks rest

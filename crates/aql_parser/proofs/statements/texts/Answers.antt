@@ -5,7 +5,7 @@ use Rattle.aql_parser.proofs.Lists.{list_begins, plain_list_returns, plain_list_
 use Rattle.aql_parser.proofs.ListRules.{reads_clause}
 use Rattle.aql_parser.proofs.ExtractionRules.{reads_range}
 use Rattle.aql_parser.proofs.ClauseRules.{reads_clauses}
-use Rattle.aql_parser.proofs.SoughtRules.{reads_extracted}
+use Rattle.aql_parser.proofs.QueryRules.{reads_query}
 use Rattle.aql_parser.proofs.statements.texts.Goals as goal
 
 pub loop-turn-init : goal.loop-turn-init
