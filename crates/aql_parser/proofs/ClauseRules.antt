@@ -27,8 +27,8 @@ module _ (d : ℕ) where
   reads_conds : (w : String) → ((ks : List Kind) → Ends 1 ks → sees w ks ≡ false) → Reads (read_conds w d) (AreConds free (Keyword free w)) (λ n conds. placed_clause placed_term (n + 1) n conds) d (Ends 1)
   reads_conds w stops =
       reads_where d
-          (reads_clause (sees w) (separated (sees "and") (read_term d)) placed_term (λ n. n + 1) d (reads_after d (reads_keyword d w) reads_and_terms))
-          (λ ks e. ((ends_stops_term e, ends_no_and (ends_weaker 0 (omega arith) e)), stops ks e))
+      (reads_clause (sees w) (separated (sees "and") (read_term d)) placed_term (λ n. n + 1) d (reads_after d (reads_keyword d w) reads_and_terms))
+      (λ ks e. ((ends_stops_term e, ends_no_and (ends_weaker 0 (omega arith) e)), stops ks e))
 
   abbrev two_words : (w v : String) → Part
   two_words w v = Keyword free w ▸ Keyword free v
@@ -36,12 +36,12 @@ module _ (d : ℕ) where
   reads_keys : (i : ℕ) (w : String) → ((ks : List Kind) → Ends (suc i) ks → sees w ks ≡ false) → Reads (read_keys w d) (AreKeys free (Keyword free w)) (λ n keys. placed_clause placed_term (n + 1 + 1) n keys) d (Ends (suc i))
   reads_keys i w stops =
       reads_where d
-          (reads_clause (sees w) (keyword "by" ▷ separated (sees_sign ",") (read_term d)) placed_term (λ n. n + 1 + 1) d
-              (reads_as d (reads_after d (reads_keyword d w) (reads_after d (reads_keyword d "by") (reads_arguments d (reads_term d))))
-                  (λ keys. (Keyword free w ▸ Keyword free "by") ▸ Separated (Symbol ",") (IsTerm free) keys)
-                  (λ keys ks rest h. (h.2.0, (h.0, h.1, h.2.1), h.2.2))
-                  (λ keys ks rest h. (h.1.0, h.1.1, (h.0, h.1.2, h.2)))))
-          (λ ks e. ((ends_stops_term e, ends_no_comma e), stops ks e))
+      (reads_clause (sees w) (keyword "by" ▷ separated (sees_sign ",") (read_term d)) placed_term (λ n. n + 1 + 1) d
+      (reads_as d (reads_after d (reads_keyword d w) (reads_after d (reads_keyword d "by") (reads_arguments d (reads_term d))))
+      (λ keys. (Keyword free w ▸ Keyword free "by") ▸ Separated (Symbol ",") (IsTerm free) keys)
+      (λ keys ks rest h. (h.2.0, (h.0, h.1, h.2.1), h.2.2))
+      (λ keys ks rest h. (h.1.0, h.1.1, (h.0, h.1.2, h.2)))))
+      (λ ks e. ((ends_stops_term e, ends_no_comma e), stops ks e))
 
   -- neither an expression nor a policy goes on here
   abbrev StopsCons : List Kind → Type 0
@@ -59,12 +59,12 @@ module _ (d : ℕ) where
   unfolding read_cons
   reads_cons =
       reads_where d
-          (reads_optional (sees "consolidate") _ d
-              (reads_after_mapped (keyword "consolidate") _ d made_cons
-                  (reads_after d (reads_keyword d "consolidate") (reads_after d (reads_keyword d "on") (reads_pair d (reads_term d) reads_policy policy_stops)))
-                  (IsCons free) placed_cons (λ parts ks rest h. h)
-                  (λ cons ks rest h. record { of = (cons.target, cons.policy); part = h; places = λ n. refl; next = λ n. refl })))
-          (λ ks e. ((ends_stops_term e, ends_no_using (ends_weaker 0 (omega arith) e)), ends_no_consolidate e))
+      (reads_optional (sees "consolidate") _ d
+      (reads_after_mapped (keyword "consolidate") _ d made_cons
+      (reads_after d (reads_keyword d "consolidate") (reads_after d (reads_keyword d "on") (reads_pair d (reads_term d) reads_policy policy_stops)))
+      (IsCons free) placed_cons (λ parts ks rest h. h)
+      (λ cons ks rest h. record { of = (cons.target, cons.policy); part = h; places = λ n. refl; next = λ n. refl })))
+      (λ ks e. ((ends_stops_term e, ends_no_using (ends_weaker 0 (omega arith) e)), ends_no_consolidate e))
 
   reads_limit : Reads read_limit (Optional (IsLimit free)) (placed_optional placed_limit) d (Ends 5)
   reads_limit =
@@ -86,35 +86,37 @@ module _ (d : ℕ) where
   unfolding read_clauses
   reads_clauses =
       reads_mapped d made_clauses
-          (reads_pair d (reads_conds "where" (λ ks e. ends_no_where e))
-          (reads_pair d reads_cons
-          (reads_pair d (reads_keys 2 "group" (λ ks e. ends_no_group e))
-          (reads_pair d (reads_keys 3 "order" (λ ks e. ends_no_order e)) reads_limit
-              (λ b ks rest e h. limit_ends b ks rest e h))
-              (λ b ks rest e h. keys_end 3 "order" order_word b.0 ks h.0 (limit_ends b.1 h.0 rest e h.2) h.1))
-              (λ b ks rest e h. keys_end 2 "group" group_word b.0 ks h.0 (keys_end 3 "order" order_word b.1.0 h.0 h.2.0 (limit_ends b.1.1 h.2.0 rest e h.2.2) h.2.1) h.1))
-              (λ b ks rest e h. cons_ends b.0 ks h.0 (keys_end 2 "group" group_word b.1.0 h.0 h.2.0 (keys_end 3 "order" order_word b.1.1.0 h.2.0 h.2.2.0 (limit_ends b.1.1.1 h.2.2.0 rest e h.2.2.2) h.2.2.1) h.2.1) h.1))
-          (AreClauses free) placed_clauses (λ parts ks rest h. h)
-          (λ clauses ks rest h. record {
-            of = (clauses.conds, (clauses.cons, (clauses.group, (clauses.order, clauses.limit))));
-            part = h;
-            places = λ n. refl;
-            next = λ n. refl })
+      (reads_pair d (reads_conds "where" (λ ks e. ends_no_where e))
+      (reads_pair d reads_cons
+      (reads_pair d (reads_keys 2 "group" (λ ks e. ends_no_group e))
+      (reads_pair d (reads_keys 3 "order" (λ ks e. ends_no_order e)) reads_limit
+      (λ b ks rest e h. limit_ends b ks rest e h))
+      (λ b ks rest e h. keys_end 3 "order" order_word b.0 ks h.0 (limit_ends b.1 h.0 rest e h.2) h.1))
+      (λ b ks rest e h. keys_end 2 "group" group_word b.0 ks h.0 (keys_end 3 "order" order_word b.1.0 h.0 h.2.0 (limit_ends b.1.1 h.2.0 rest e h.2.2) h.2.1) h.1))
+      (λ b ks rest e h. cons_ends b.0 ks h.0 (keys_end 2 "group" group_word b.1.0 h.0 h.2.0 (keys_end 3 "order" order_word b.1.1.0 h.2.0 h.2.2.0 (limit_ends b.1.1.1 h.2.2.0 rest e h.2.2.2) h.2.2.1) h.2.1) h.1))
+      (AreClauses free) placed_clauses (λ parts ks rest h. h)
+      (λ clauses ks rest h. record {
+        of = (clauses.conds, (clauses.cons, (clauses.group, (clauses.order, clauses.limit))));
+        part = h;
+        places = λ n. refl;
+        next = λ n. refl;
+      })
 
   pub reads_tail : Reads (read_tail d) (IsTail free) placed_tail d (Ends 5)
   unfolding read_tail
   reads_tail =
       reads_mapped d made_tail
-          (reads_pair d (reads_conds "having" (λ ks e. ends_no_having e))
-          (reads_pair d reads_cons reads_limit
-              (λ b ks rest e h. ends_weaker 2 (omega arith) (limit_ends b ks rest e h)))
-              (λ b ks rest e h. cons_ends b.0 ks h.0 (ends_weaker 2 (omega arith) (limit_ends b.1 h.0 rest e h.2)) h.1))
-          (IsTail free) placed_tail (λ parts ks rest h. h)
-          (λ tail ks rest h. record {
-            of = (tail.conds, (tail.cons, tail.limit));
-            part = h;
-            places = λ n. refl;
-            next = λ n. refl })
+      (reads_pair d (reads_conds "having" (λ ks e. ends_no_having e))
+      (reads_pair d reads_cons reads_limit
+      (λ b ks rest e h. ends_weaker 2 (omega arith) (limit_ends b ks rest e h)))
+      (λ b ks rest e h. cons_ends b.0 ks h.0 (ends_weaker 2 (omega arith) (limit_ends b.1 h.0 rest e h.2)) h.1))
+      (IsTail free) placed_tail (λ parts ks rest h. h)
+      (λ tail ks rest h. record {
+        of = (tail.conds, (tail.cons, tail.limit));
+        part = h;
+        places = λ n. refl;
+        next = λ n. refl;
+      })
 
   -- the clauses end what stands before them
   pub clauses_end : (clauses : Clauses) (ks rest : List Kind) → Ends 5 rest → AreClauses free clauses ks rest → Ends 0 ks

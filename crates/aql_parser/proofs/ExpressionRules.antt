@@ -27,13 +27,13 @@ StopsTerm ks = (sees_sign "." ks ≡ false) × (sees_sign "(" ks ≡ false)
 after_name_sound : (name : Name) (kind : Kind) → SpellsName free name.text kind → (n : ℕ) (ks : List Kind) (t : Term) (m : ℕ) (rest : List Kind) → after_name name n ks ≡ Some (t, m, rest) → IsTerm free t (kind ∷ ks) rest
 after_name_sound name kind spelled n ks t m rest h = ⊎_elim
     (λ c.
-      let one = bind (a_name (n + 1) (after ks)) _ _ c.1 in
-      let same = some_parts _ _ _ _ _ _ one.4 in
-      carried (IsTerm free) (column name.at name one.0) t (kind ∷ ks) one.2 rest same.0 same.2
-          (ks, (kind, refl, spelled), (after ks, sees_symbol_is 46 ks c.0, name_sound (n + 1) (after ks) one.0 one.1 one.2 one.3)))
+    let one = bind (a_name (n + 1) (after ks)) _ _ c.1 in
+    let same = some_parts _ _ _ _ _ _ one.4 in
+    carried (IsTerm free) (column name.at name one.0) t (kind ∷ ks) one.2 rest same.0 same.2
+    (ks, (kind, refl, spelled), (after ks, sees_symbol_is 46 ks c.0, name_sound (n + 1) (after ks) one.0 one.1 one.2 one.3)))
     (λ c.
-      let same = some_parts _ _ _ _ _ _ c.1 in
-      carried (IsTerm free) (bare name.at name) t (kind ∷ ks) ks rest same.0 same.2 (kind, refl, spelled))
+    let same = some_parts _ _ _ _ _ _ c.1 in
+    carried (IsTerm free) (bare name.at name) t (kind ∷ ks) ks rest same.0 same.2 (kind, refl, spelled))
     (chosen (sees_sign "." ks) _ _ _ h)
 
 -- a bare name, and a column
@@ -47,7 +47,8 @@ after_alias d name other n ks rest within h =
     record {
       reads = rw h.1 (rw one.reads refl);
       within = one.within;
-      shorter = rw h.1 (omega (arith, one.shorter)) }
+      shorter = rw h.1 (omega (arith, one.shorter));
+    }
 
 -- no expression begins with a symbol
 name_no_symbol : (text : List ℕ) (kind : Kind) → SpellsName free text kind → (c : ℕ) (ks : List Kind) → sees_symbol c (kind ∷ ks) ≡ false
@@ -176,7 +177,8 @@ module _ (calls : ℕ → List ℕ → Reader Term) (d : ℕ) (reads : ReadsCall
       rw h.1.1 (record {
         reads = column_found n alias name h.1.0 h.0 rest h.1.2 h.2 left;
         within = one.within;
-        shorter = omega (arith, one.shorter) })
+        shorter = omega (arith, one.shorter);
+      })
   term_complete n ks (call at w args) rest stops within h =
       let word_gone : IsWithin d (k.word w ∷ k.symbol 40 ∷ h.2.0) = rw (h.1, h.2.1) at within in
       let one = reads.call_complete n w (n + 1 + 1) h.2.0 args rest (within_after d (k.word w) (k.symbol 40 ∷ h.2.0) refl refl word_gone) h.2.2 in
@@ -194,7 +196,8 @@ no_calls : ReadsCalls (calls_within 0) 0
 no_calls = record {
   sound = λ at w n ks t m rest h. absurd (none_some _ h);
   call_complete = λ at w n ks args rest within h. no_room ks within;
-  star_complete = λ at w n ks rest within h. no_room ks within }
+  star_complete = λ at w n ks rest within h. no_room ks within;
+}
   where
     no_room : {P : Type 0} (ks : List Kind) → IsWithin 0 (k.symbol 40 ∷ ks) → P
     no_room ks within = let one = within_open 0 ks within in absurd (omega (arith, one.1))
@@ -228,28 +231,28 @@ module _ (e : ℕ) (inner : Reads (read_term e) (IsTerm free) placed_term e Stop
   paren_sound : (at : ℕ) (w : List ℕ) (n : ℕ) (ks : List Kind) (t : Term) (m : ℕ) (rest : List Kind) → after_paren (read_term e) at w n ks ≡ Some (t, m, rest) → IsTerm free t (k.word w ∷ k.symbol 40 ∷ ks) rest
   paren_sound at w n ks t m rest h = ⊎_elim
       (λ c.
-        let same = some_parts _ _ _ _ _ _ c.1 in
-        carried (IsTerm free) (call at w no_terms) t (k.word w ∷ k.symbol 40 ∷ ks) (after ks) rest same.0 same.2
-            (k.symbol 40 ∷ ks, refl, (ks, refl, (ks, refl, sees_symbol_is 41 ks c.0))))
+      let same = some_parts _ _ _ _ _ _ c.1 in
+      carried (IsTerm free) (call at w no_terms) t (k.word w ∷ k.symbol 40 ∷ ks) (after ks) rest same.0 same.2
+      (k.symbol 40 ∷ ks, refl, (ks, refl, (ks, refl, sees_symbol_is 41 ks c.0))))
       (λ c. ⊎_elim
-        (λ c2.
-          let one = bind (symbol ")" (n + 1) (after ks)) _ _ c2.1 in
-          let same = some_parts _ _ _ _ _ _ one.4 in
-          carried (IsTerm free) (star at w) t (k.word w ∷ k.symbol 40 ∷ ks) one.2 rest same.0 same.2
-              (k.symbol 40 ∷ ks, refl, (ks, refl, (after ks, sees_symbol_is 42 ks c2.0, close_sound (n + 1) (after ks) one.0 one.1 one.2 one.3))))
-        (λ c2.
-          let one = bind ((separated (sees_sign ",") (read_term e) ◁ symbol ")") n ks) _ _ c2.1 in
-          let same = some_parts _ _ _ _ _ _ one.4 in
-          let two = bind (separated (sees_sign ",") (read_term e) n ks) _ _ one.3 in
-          let three = bind (symbol ")" two.1 two.2) _ _ two.4 in
-          let same2 = some_parts _ _ _ _ _ _ three.4 in
-          let args : Separated (Symbol ",") (IsTerm free) one.0 ks two.2 =
-              subst (λ (xs : List Term). Separated (Symbol ",") (IsTerm free) xs ks two.2) same2.0 (reads_arguments.sound n ks two.0 two.1 two.2 two.3) in
-          let closed : two.2 ≡ k.symbol 41 ∷ one.2 =
-              subst (λ (r : List Kind). two.2 ≡ k.symbol 41 ∷ r) same2.2 (close_sound two.1 two.2 three.0 three.1 three.2 three.3) in
-          carried (IsTerm free) (call at w (as_terms one.0)) t (k.word w ∷ k.symbol 40 ∷ ks) one.2 rest same.0 same.2
-              (k.symbol 40 ∷ ks, refl, (ks, refl, (two.2, listed_args one.0 ks two.2 args, closed))))
-        (chosen (sees_sign "*" ks) _ _ _ c.1))
+      (λ c2.
+      let one = bind (symbol ")" (n + 1) (after ks)) _ _ c2.1 in
+      let same = some_parts _ _ _ _ _ _ one.4 in
+      carried (IsTerm free) (star at w) t (k.word w ∷ k.symbol 40 ∷ ks) one.2 rest same.0 same.2
+      (k.symbol 40 ∷ ks, refl, (ks, refl, (after ks, sees_symbol_is 42 ks c2.0, close_sound (n + 1) (after ks) one.0 one.1 one.2 one.3))))
+      (λ c2.
+      let one = bind ((separated (sees_sign ",") (read_term e) ◁ symbol ")") n ks) _ _ c2.1 in
+      let same = some_parts _ _ _ _ _ _ one.4 in
+      let two = bind (separated (sees_sign ",") (read_term e) n ks) _ _ one.3 in
+      let three = bind (symbol ")" two.1 two.2) _ _ two.4 in
+      let same2 = some_parts _ _ _ _ _ _ three.4 in
+      let args : Separated (Symbol ",") (IsTerm free) one.0 ks two.2 =
+      subst (λ (xs : List Term). Separated (Symbol ",") (IsTerm free) xs ks two.2) same2.0 (reads_arguments.sound n ks two.0 two.1 two.2 two.3) in
+      let closed : two.2 ≡ k.symbol 41 ∷ one.2 =
+      subst (λ (r : List Kind). two.2 ≡ k.symbol 41 ∷ r) same2.2 (close_sound two.1 two.2 three.0 three.1 three.2 three.3) in
+      carried (IsTerm free) (call at w (as_terms one.0)) t (k.word w ∷ k.symbol 40 ∷ ks) one.2 rest same.0 same.2
+      (k.symbol 40 ∷ ks, refl, (ks, refl, (two.2, listed_args one.0 ks two.2 args, closed))))
+      (chosen (sees_sign "*" ks) _ _ _ c.1))
       (chosen (sees_sign ")" ks) _ _ _ h)
 
   call_found : (at : ℕ) (w : List ℕ) (n : ℕ) (ks : List Kind) (args : Terms) (rest : List Kind) → IsWithin (suc e) (k.symbol 40 ∷ ks) → (AreArgs free args ▸ Symbol ")") ks rest → Found (after_paren (read_term e) at w) (λ m t. (call at w (placed_args m args).0, (placed_args m args).1 + 1)) (suc e) n ks (star at w) rest
@@ -258,7 +261,8 @@ module _ (e : ℕ) (inner : Reads (read_term e) (IsTerm free) placed_term e Stop
       record {
         reads = rw closed refl;
         within = within_close e rest (rw closed at (within_parens e ks within));
-        shorter = rw closed (omega arith) }
+        shorter = rw closed (omega arith);
+      }
   call_found at w n ks (more_terms arg args) rest within h =
       let list : Separated (Symbol ",") (IsTerm free) (arg ∷ list_of args) ks h.0 = (h.1.0, h.1.1, later_listed args h.1.0 h.0 h.1.2) in
       let ends : (StopsTerm h.0) × (sees_sign "," h.0 ≡ false) = rw h.2 ((refl, refl), refl) in
@@ -269,7 +273,8 @@ module _ (e : ℕ) (inner : Reads (read_term e) (IsTerm free) placed_term e Stop
       record {
         reads = rw (no_close, no_star, one.reads, h.2) (ap (λ placed. Some (call at w placed.0, placed.1 + 1, rest)) (sym (placed_args_list_of n arg args)));
         within = within_close e rest (rw h.2 at one.within);
-        shorter = omega (arith, one.shorter, shorter) }
+        shorter = omega (arith, one.shorter, shorter);
+      }
 
   star_found : (at : ℕ) (w : List ℕ) (n : ℕ) (ks rest : List Kind) → IsWithin (suc e) (k.symbol 40 ∷ ks) → (Symbol "*" ▸ Symbol ")") ks rest → Found (after_paren (read_term e) at w) (λ m t. (star at w, m + 1 + 1)) (suc e) n ks (star at w) rest
   star_found at w n ks rest within h =
@@ -277,7 +282,8 @@ module _ (e : ℕ) (inner : Reads (read_term e) (IsTerm free) placed_term e Stop
       record {
         reads = rw (h.1, h.2) refl;
         within = within_close e rest (within_after e (k.symbol 42) (k.symbol 41 ∷ rest) refl refl inside);
-        shorter = rw (h.1, h.2) (omega arith) }
+        shorter = rw (h.1, h.2) (omega arith);
+      }
 
   more_calls : ReadsCalls (after_paren (read_term e)) (suc e)
   more_calls = record { sound = paren_sound; call_complete = call_found; star_complete = star_found }

@@ -70,11 +70,11 @@ module _ (d : ℕ) where
   pub reads_range : Reads read_range (IsRange free) placed_range d Always
   reads_range =
       reads_choice (sees "between") _ _ d
-          (reads_after_mapped (keyword "between") _ d (λ pair. two pair.0 pair.1)
-              (reads_after d (reads_keyword d "between") (reads_pair d (reads_int d) (reads_after d (reads_keyword d "and") (reads_int d)) (λ b ks rest stops h. tt)))
-              IsTwo placed_range (λ pair ks rest h. h) two_made)
-          (reads_mapped d one (reads_int d) IsOne placed_range (λ number ks rest h. h) one_made)
-          (IsRange free) from_two from_one two_or_one
+      (reads_after_mapped (keyword "between") _ d (λ pair. two pair.0 pair.1)
+      (reads_after d (reads_keyword d "between") (reads_pair d (reads_int d) (reads_after d (reads_keyword d "and") (reads_int d)) (λ b ks rest stops h. tt)))
+      IsTwo placed_range (λ pair ks rest h. h) two_made)
+      (reads_mapped d one (reads_int d) IsOne placed_range (λ number ks rest h. h) one_made)
+      (IsRange free) from_two from_one two_or_one
 
   token_or_tokens_split : (u : Unit {0}) (ks rest : List Kind) → Always rest → (Keyword free "token" or Keyword free "tokens") ks rest → Keyword free "token" ks rest ⊎ ((sees "token" ks ≡ false) × Keyword free "tokens" ks rest)
   unfolding same_word
@@ -84,9 +84,9 @@ module _ (d : ℕ) where
   reads_token_or_tokens : Reads token_or_tokens (λ u. Keyword free "token" or Keyword free "tokens") one_token d Always
   reads_token_or_tokens =
       reads_choice (sees "token") _ _ d
-          (reads_value (sees "token") d (takes_keyword "token") tt (λ u. Keyword free "token") (λ ks rest h. h) (λ u ks rest h. (refl, h)))
-          (reads_keyword d "tokens")
-          (λ u. Keyword free "token" or Keyword free "tokens") (λ u ks rest h. inl h) (λ u ks rest h. inr h) token_or_tokens_split
+      (reads_value (sees "token") d (takes_keyword "token") tt (λ u. Keyword free "token") (λ ks rest h. h) (λ u ks rest h. (refl, h)))
+      (reads_keyword d "tokens")
+      (λ u. Keyword free "token" or Keyword free "tokens") (λ u ks rest h. inl h) (λ u ks rest h. inr h) token_or_tokens_split
 
   range_begins : (range : Range) (ks rest : List Kind) → IsRange free range ks rest → begins_range ks ≡ true
   range_begins (two low high) ks rest h = rw ((takes_keyword "between").tested ks h.0 h.1).0 refl
@@ -99,8 +99,8 @@ module _ (d : ℕ) where
   reads_bound : Reads read_bound (Optional (IsBound free)) (placed_optional placed_bound) d StopsBound
   reads_bound =
       reads_where_seen begins_range _ d
-          (reads_before d reads_range (reads_after d reads_token_or_tokens (reads_keyword d "in")) (λ ks rest h. tt))
-          (λ range ks rest h. range_begins range ks h.0 h.1)
+      (reads_before d reads_range (reads_after d reads_token_or_tokens (reads_keyword d "in")) (λ ks rest h. tt))
+      (λ range ks rest h. range_begins range ks h.0 h.1)
 
   reads_output : Reads read_output (IsOutput free) placed_output d Always
   reads_output = reads_after d (reads_keyword d "as") (reads_name d)
@@ -112,9 +112,9 @@ module _ (d : ℕ) where
   reads_numbered : Reads read_numbered (λ group. IsNumbered free group.number group.name) placed_numbered d Always
   reads_numbered =
       reads_mapped d numbered
-          (reads_after d (reads_keyword d "group") (reads_pair d (reads_int d) reads_output (λ b ks rest stops h. tt)))
-          (λ group. IsNumbered free group.number group.name) placed_numbered (λ pair ks rest h. h)
-          (λ group ks rest h. numbered_made group.number group.name ks rest h)
+      (reads_after d (reads_keyword d "group") (reads_pair d (reads_int d) reads_output (λ b ks rest stops h. tt)))
+      (λ group. IsNumbered free group.number group.name) placed_numbered (λ pair ks rest h. h)
+      (λ group ks rest h. numbered_made group.number group.name ks rest h)
 
   abbrev AreReturned : List Group → Part
   AreReturned groups = Keyword free "return" ▸ Separated (Keyword free "and") (λ group. IsNumbered free group.number group.name) groups
@@ -153,8 +153,8 @@ module _ (d : ℕ) where
   reads_returned : Reads (keyword "return" ▷ separated (sees "and") read_numbered) AreReturned placed_groups d StopsGroups
   reads_returned =
       reads_recast d
-          (reads_after d (reads_keyword d "return") (reads_separated (sees "and") d (takes_keyword "and") reads_numbered (λ ks h. tt)))
-          AreReturned placed_groups (λ groups ks rest h. h) (λ groups ks rest h. h) returned_placed
+      (reads_after d (reads_keyword d "return") (reads_separated (sees "and") d (takes_keyword "and") reads_numbered (λ ks h. tt)))
+      AreReturned placed_groups (λ groups ks rest h. h) (λ groups ks rest h. h) returned_placed
 
   one_named : (number : Option Number) (name : Name) (ks rest : List Kind) → IsNamedOnly number name ks rest → IsOnlyGroup free number name ks rest
   one_named None name ks rest h = h
@@ -190,8 +190,8 @@ module _ (d : ℕ) where
   reads_groups : Reads read_groups (AreGroups free) placed_groups d StopsGroups
   reads_groups =
       reads_choice (sees "as") _ _ d
-          (reads_where d (reads_after_mapped (keyword "as") a_name d unnumbered reads_output AreNamedOnly placed_groups (λ name ks rest h. h) named_only_made) (λ ks stops. tt))
-          reads_returned (AreGroups free) named_groups returned_groups groups_split
+      (reads_where d (reads_after_mapped (keyword "as") a_name d unnumbered reads_output AreNamedOnly placed_groups (λ name ks rest h. h) named_only_made) (λ ks stops. tt))
+      reads_returned (AreGroups free) named_groups returned_groups groups_split
 
   -- a pattern
   abbrev pub IsPatternSpec : Spec → Part
@@ -211,8 +211,8 @@ module _ (d : ℕ) where
       (λ n parts. placed_pair placed_name (λ m rest. placed_pair (placed_optional placed_bound) (placed_pair placed_columns placed_groups) (m + 1) rest) (n + 1) parts) d StopsGroups
   reads_pattern_parts =
       reads_after d (reads_keyword d "regex") (reads_pair d (reads_pattern_text d) (reads_after d (reads_keyword d "on")
-          (reads_pair d reads_bound (reads_pair d (reads_column d) reads_groups (λ b ks rest stops h. tt))
-          (λ b ks rest stops h. (tt, column_stops_bound b.0.0 b.0.1 ks h.0 h.1)))) (λ b ks rest stops h. tt))
+      (reads_pair d reads_bound (reads_pair d (reads_column d) reads_groups (λ b ks rest stops h. tt))
+      (λ b ks rest stops h. (tt, column_stops_bound b.0.0 b.0.1 ks h.0 h.1)))) (λ b ks rest stops h. tt))
 
   pattern_made : (spec : Spec) (ks rest : List Kind) → IsPatternSpec spec ks rest → Made made_pattern (λ parts. Keyword free "regex" ▸ Token (k.regex parts.0.text) ▸ Keyword free "on" ▸ Optional (IsBound free) parts.1.0 ▸ IsColumn free parts.1.1.0.0 parts.1.1.0.1 ▸ AreGroups free parts.1.1.1) (λ n parts. placed_pair placed_name (λ m rest. placed_pair (placed_optional placed_bound) (placed_pair placed_columns placed_groups) (m + 1) rest) (n + 1) parts) placed_spec spec ks rest
   pattern_made (pattern text bound alias name groups) ks rest h =
@@ -228,9 +228,9 @@ module _ (d : ℕ) where
   flag_sound text flag h = ⊎_elim
       (λ c. (bytes_eq-Decides text (codes "Exact")).0 c.0 ∙ ap flag_text (some_is exact flag c.1))
       (λ c. ⊎_elim
-        (λ c2. (bytes_eq-Decides text (codes "IgnoreCase")).0 c2.0 ∙ ap flag_text (some_is ignore_case flag c2.1))
-        (λ c2. absurd (none_some flag c2.1))
-        (chosen (bytes_eq text (codes "IgnoreCase")) _ _ _ c.1))
+      (λ c2. (bytes_eq-Decides text (codes "IgnoreCase")).0 c2.0 ∙ ap flag_text (some_is ignore_case flag c2.1))
+      (λ c2. absurd (none_some flag c2.1))
+      (chosen (bytes_eq text (codes "IgnoreCase")) _ _ _ c.1))
       (chosen (bytes_eq text (codes "Exact")) _ _ _ h)
 
   flag_is : (flag : Flag) → flag_named (flag_text flag) ≡ Some flag
@@ -260,7 +260,8 @@ module _ (d : ℕ) where
   reads_a_flag = record {
     sound = a_flag_sound;
     complete = λ n ks flag rest stops within h.
-        rw h (found_token d n (k.str (flag_text flag)) flag rest (rw h at within) refl refl (rw (flag_is flag) refl)) }
+        rw h (found_token d n (k.str (flag_text flag)) flag rest (rw h at within) refl refl (rw (flag_is flag) refl));
+  }
 
   -- no flag goes on here
   abbrev StopsFlag : List Kind → Type 0
@@ -273,8 +274,8 @@ module _ (d : ℕ) where
   reads_flag : Reads read_flag (Optional (IsFlag free)) (λ n flag. (flag, after_flag n flag)) d StopsFlag
   reads_flag =
       reads_recast d
-          (reads_optional (sees "with") _ d (reads_after d (reads_keyword d "with") (reads_after d (reads_keyword d "flags") reads_a_flag)))
-          (Optional (IsFlag free)) (λ n flag. (flag, after_flag n flag)) (λ flag ks rest h. h) (λ flag ks rest h. h) flag_placed
+      (reads_optional (sees "with") _ d (reads_after d (reads_keyword d "with") (reads_after d (reads_keyword d "flags") reads_a_flag)))
+      (Optional (IsFlag free)) (λ n flag. (flag, after_flag n flag)) (λ flag ks rest h. h) (λ flag ks rest h. h) flag_placed
 
   -- a dictionary
   abbrev pub IsDictSpec : Spec → Part
@@ -295,9 +296,9 @@ module _ (d : ℕ) where
   reads_dict_parts : Reads (keyword "dictionary" ▷ a_dictionary ⊗ read_flag ⊗ keyword "on" ▷ read_column ⊗ read_output) DictParts placed_dict_parts d Always
   reads_dict_parts =
       reads_after d (reads_keyword d "dictionary") (reads_pair d (reads_dictionary d)
-          (reads_pair d reads_flag (reads_after d (reads_keyword d "on") (reads_pair d (reads_column d) reads_output (λ b ks rest stops h. tt)))
-              (λ b ks rest stops h. (tt, on_no_flag ks h.0 h.1)))
-          (λ b ks rest stops h. tt))
+      (reads_pair d reads_flag (reads_after d (reads_keyword d "on") (reads_pair d (reads_column d) reads_output (λ b ks rest stops h. tt)))
+      (λ b ks rest stops h. (tt, on_no_flag ks h.0 h.1)))
+      (λ b ks rest stops h. tt))
 
   dict_made : (spec : Spec) (ks rest : List Kind) → IsDictSpec spec ks rest → Made made_dict DictParts placed_dict_parts placed_spec spec ks rest
   dict_made (dict table flag alias name out) ks rest h =
@@ -344,9 +345,9 @@ module _ (d : ℕ) where
   reads_unit : Reads tokens_or_characters (λ b. Keyword free (unit_of b)) placed_unit d Always
   reads_unit =
       reads_choice (sees "tokens") _ _ d
-          (reads_value (sees "tokens") d (takes_keyword "tokens") true IsTokens (λ ks rest h. h) tokens_value)
-          (reads_mapped d (λ u. false) (reads_keyword d "characters") IsCharacters placed_unit (λ u ks rest h. h) characters_made)
-          (λ b. Keyword free (unit_of b)) unit_tokens unit_characters unit_split
+      (reads_value (sees "tokens") d (takes_keyword "tokens") true IsTokens (λ ks rest h. h) tokens_value)
+      (reads_mapped d (λ u. false) (reads_keyword d "characters") IsCharacters placed_unit (λ u ks rest h. h) characters_made)
+      (λ b. Keyword free (unit_of b)) unit_tokens unit_characters unit_split
 
   abbrev pub IsBlocksSpec : Spec → Part
   IsBlocksSpec (blocks count gap tokens alias name out) = IsBlocks free count gap tokens alias name out
@@ -372,9 +373,9 @@ module _ (d : ℕ) where
   reads_blocks_parts : Reads (keyword "blocks" ▷ keyword "with" ▷ keyword "count" ▷ read_range ⊗ read_separation ⊗ keyword "on" ▷ read_column ⊗ read_output) BlocksParts placed_blocks_parts d Always
   reads_blocks_parts =
       reads_after d (reads_keyword d "blocks") (reads_after d (reads_keyword d "with") (reads_after d (reads_keyword d "count")
-          (reads_pair d reads_range (reads_pair d reads_separation
-              (reads_after d (reads_keyword d "on") (reads_pair d (reads_column d) reads_output (λ b ks rest stops h. tt)))
-              (λ b ks rest stops h. tt)) (λ b ks rest stops h. tt))))
+      (reads_pair d reads_range (reads_pair d reads_separation
+      (reads_after d (reads_keyword d "on") (reads_pair d (reads_column d) reads_output (λ b ks rest stops h. tt)))
+      (λ b ks rest stops h. tt)) (λ b ks rest stops h. tt))))
 
   -- the parts of blocks, as the grammar has them
   blocks_into : (parts : Range × ((Range × Bool) × ((Name × Name) × Name))) (ks rest : List Kind) → BlocksParts parts ks rest → IsBlocksSpec (made_blocks parts) ks rest
@@ -387,7 +388,8 @@ module _ (d : ℕ) where
         of = (count, ((gap, tokens), ((alias, name), out)));
         part = (a, h1, (b, h2, (c, h3, (e, h4, (f, (g, h5, (i, h6, (j, h7, h8))), h9)))));
         places = λ n. refl;
-        next = λ n. refl }
+        next = λ n. refl;
+      }
   blocks_made (pattern text bound alias name groups) ks rest h = absurd h
   blocks_made (dict table flag alias name out) ks rest h = absurd h
 

@@ -90,7 +90,8 @@ item_complete d n ks t (Some name) rest stops within h =
     record {
       reads = rw (one.reads, seen.0) (as_read (placed_term n t).0 (placed_term n t).1 h.0 name rest seen.0 two.reads);
       within = two.within;
-      shorter = omega (arith, one.shorter, two.shorter) }
+      shorter = omega (arith, one.shorter, two.shorter);
+    }
   where
     as_read : (t : Term) (m : ℕ) (mid : List Kind) (name : Name) (rest : List Kind) → sees "as" mid ≡ true → (keyword "as" ▷ a_name) m mid ≡ Some ((placed_name (m + 1) name).0, m + 1 + 1, rest) → mapped {B = Item} (λ name. record { expr = t; name = Some name }) a_name (m + 1) (after mid) ≡ Some (record { expr = t; name = Some (placed_name (m + 1) name).0 }, m + 1 + 1, rest)
     as_read t m mid name rest seen h = let here : a_name (m + 1) (after mid) ≡ Some ((placed_name (m + 1) name).0, m + 1 + 1, rest) = rw seen at h in rw here refl
@@ -100,7 +101,8 @@ item_complete d n ks t None rest stops within h =
     record {
       reads = rw (one.reads, stops.1, placed_column t n ∙ is.0) refl;
       within = one.within;
-      shorter = one.shorter }
+      shorter = one.shorter;
+    }
   where
     placed_column : (t : Term) (n : ℕ) → is_column (placed_term n t).0 ≡ is_column t
     placed_column (column at alias name) n = refl
@@ -117,14 +119,15 @@ reads_item d = record {
       let one = bind (read_term d n ks) _ _ h in
       let ht = (reads_term d).sound n ks one.0 one.1 one.2 one.3 in
       ⊎_elim
-        (λ c.
-          let two = bind (a_name (one.1 + 1) (after one.2)) _ _ c.1 in
-          let same = some_parts _ _ _ _ _ _ two.4 in
-          carried (IsItem free) (record { expr = one.0; name = Some two.0 }) item ks two.2 rest same.0 same.2
-              (one.2, ht, (after one.2, sees_word_is (codes "as") one.2 c.0, name_sound (one.1 + 1) (after one.2) two.0 two.1 two.2 two.3)))
-        (λ c. unnamed_sound (is_column one.0) one.0 refl one.1 ks one.2 item m rest ht c.1)
-        (chosen (sees "as" one.2) _ _ _ one.4);
-  complete = λ n ks item rest stops within h. item_complete d n ks item.expr item.name rest stops within h }
+      (λ c.
+      let two = bind (a_name (one.1 + 1) (after one.2)) _ _ c.1 in
+      let same = some_parts _ _ _ _ _ _ two.4 in
+      carried (IsItem free) (record { expr = one.0; name = Some two.0 }) item ks two.2 rest same.0 same.2
+      (one.2, ht, (after one.2, sees_word_is (codes "as") one.2 c.0, name_sound (one.1 + 1) (after one.2) two.0 two.1 two.2 two.3)))
+      (λ c. unnamed_sound (is_column one.0) one.0 refl one.1 ks one.2 item m rest ht c.1)
+      (chosen (sees "as" one.2) _ _ _ one.4);
+  complete = λ n ks item rest stops within h. item_complete d n ks item.expr item.name rest stops within h;
+}
 
 -- a name is no reserved keyword
 pub name_no_keyword : (w : String) → is_reserved (codes w) ≡ true → (name : Name) (ks rest : List Kind) → IsName free name ks rest → sees w ks ≡ false

@@ -10,3 +10,4 @@ pub mod EndRules
 pub mod ClauseRules
 pub mod SoughtRules
 pub mod QueryRules
+pub mod StatementRules

@@ -22,15 +22,15 @@ module _ {A : Type 0} (sep : List Kind → Bool) {Sep : Part} {item : Reader A} 
       let one = bind (item n ks) _ _ h in
       let first = reader.sound n ks one.0 one.1 one.2 one.3 in
       ⊎_elim
-        (λ c.
-          let more = prefixed_some (one.0 ∷ []) _ xs m rest c.1 in
-          let others = listed_sound turns (one.1 + 1) (after one.2) more.0 more.1 more.2 more.3 in
-          carried (Separated Sep P) (one.0 ∷ more.0) xs ks more.2 rest more.4 more.5
-              (joined Sep P one.0 more.0 ks one.2 (after one.2) more.2 first (takes.found one.2 c.0) others))
-        (λ c.
-          let same = some_parts _ _ _ _ _ _ c.1 in
-          carried (Separated Sep P) (one.0 ∷ []) xs ks one.2 rest same.0 same.2 (one.2, first, refl))
-        (chosen (sep one.2) _ _ _ one.4)
+      (λ c.
+      let more = prefixed_some (one.0 ∷ []) _ xs m rest c.1 in
+      let others = listed_sound turns (one.1 + 1) (after one.2) more.0 more.1 more.2 more.3 in
+      carried (Separated Sep P) (one.0 ∷ more.0) xs ks more.2 rest more.4 more.5
+      (joined Sep P one.0 more.0 ks one.2 (after one.2) more.2 first (takes.found one.2 c.0) others))
+      (λ c.
+      let same = some_parts _ _ _ _ _ _ c.1 in
+      carried (Separated Sep P) (one.0 ∷ []) xs ks one.2 rest same.0 same.2 (one.2, first, refl))
+      (chosen (sep one.2) _ _ _ one.4)
 
   listed_complete : (x : A) (xs : List A) (turns n : ℕ) (ks rest : List Kind) → length ks < turns → S rest → sep rest ≡ false → IsWithin d ks → Separated Sep P (x ∷ xs) ks rest → Found (listed sep item turns) (placed_separated place) d n ks (x ∷ xs) rest
   listed_complete x xs zero n ks rest few stops ends within h = absurd (omega arith)
@@ -40,7 +40,8 @@ module _ {A : Type 0} (sep : List Kind → Bool) {Sep : Part} {item : Reader A} 
       record {
         reads = rw (one.reads, ends) refl;
         within = one.within;
-        shorter = one.shorter }
+        shorter = one.shorter;
+      }
   listed_complete x (y ∷ ys) (suc turns) n ks rest few stops ends within h =
       let token = takes.tested h.0 h.2.1.0 h.2.1.1 in
       let one = reader.complete n ks x h.0 (stops_at h.0 token.0) within h.1 in
@@ -52,13 +53,15 @@ module _ {A : Type 0} (sep : List Kind → Bool) {Sep : Part} {item : Reader A} 
       record {
         reads = rw (one.reads, token.0, next, two.reads) refl;
         within = two.within;
-        shorter = omega (arith, one.shorter, shorter, two.shorter) }
+        shorter = omega (arith, one.shorter, shorter, two.shorter);
+      }
 
   pub reads_separated : Reads (separated sep item) (Separated Sep P) (placed_separated place) d (λ ks. S ks × (sep ks ≡ false))
   unfolding separated
   reads_separated = record {
     sound = λ n ks xs m rest h. listed_sound (length ks + 1) n ks xs m rest h;
-    complete = separated_complete }
+    complete = separated_complete;
+  }
     where
       separated_complete : (n : ℕ) (ks : List Kind) (xs : List A) (rest : List Kind) → S rest × (sep rest ≡ false) → IsWithin d ks → Separated Sep P xs ks rest → Found (separated sep item) (placed_separated place) d n ks xs rest
       separated_complete n ks [] rest stops within h = absurd h
@@ -73,10 +76,11 @@ module _ {A : Type 0} (begin : List Kind → Bool) (r : Reader (List A)) {B Sep 
     sound = λ n ks xs m rest h. ⊎_elim
         (λ c. written xs ks rest (reader.sound n ks xs m rest (rw c.0 c.1)))
         (λ c.
-            let same = some_parts _ _ _ _ _ _ c.1 in
-            carried (Clause B Sep P) [] xs ks ks rest same.0 same.2 refl)
+        let same = some_parts _ _ _ _ _ _ c.1 in
+        carried (Clause B Sep P) [] xs ks ks rest same.0 same.2 refl)
         (chosen (begin ks) _ _ _ h);
-    complete = clause_complete }
+    complete = clause_complete;
+  }
     where
       written : (xs : List A) (ks rest : List Kind) → (B ▸ Separated Sep P xs) ks rest → Clause B Sep P xs ks rest
       written [] ks rest h = absurd h.2
@@ -86,14 +90,16 @@ module _ {A : Type 0} (begin : List Kind → Bool) (r : Reader (List A)) {B Sep 
       clause_complete n ks [] rest stops within h = record {
         reads = rw h (rw stops.1 refl);
         within = rw h at within;
-        shorter = rw h (omega arith) }
+        shorter = rw h (omega arith);
+      }
       clause_complete n ks (x ∷ xs) rest stops within h =
           let one = reader.complete n ks (x ∷ xs) rest stops.0 within h in
           let passed = eaten_true begin r n ks _ one.reads in
           record {
             reads = rw passed (rw passed at one.reads);
             within = one.within;
-            shorter = one.shorter }
+            shorter = one.shorter;
+          }
 
 -- items up to where the test sees their end; each takes a token
 module _ {A : Type 0} (ends : List Kind → Bool) {item : Reader A} {P : A → Part} {place : Placing A} (d : ℕ) (reader : Reads item P place d Always) (goes_on : (a : A) (ks rest : List Kind) → P a ks rest → ends ks ≡ false) (takes : (a : A) (ks rest : List Kind) → IsWithin d ks → P a ks rest → length rest < length ks) where
@@ -101,13 +107,13 @@ module _ {A : Type 0} (ends : List Kind → Bool) {item : Reader A} {P : A → P
   until_sound zero n ks xs m rest h = absurd (none_some _ h)
   until_sound (suc turns) n ks xs m rest h = ⊎_elim
       (λ c.
-        let same = some_parts _ _ _ _ _ _ c.1 in
-        carried (Each P) [] xs ks ks rest same.0 same.2 refl)
+      let same = some_parts _ _ _ _ _ _ c.1 in
+      carried (Each P) [] xs ks ks rest same.0 same.2 refl)
       (λ c.
-        let one = bind (item n ks) _ _ c.1 in
-        let more = prefixed_some (one.0 ∷ []) _ xs m rest one.4 in
-        carried (Each P) (one.0 ∷ more.0) xs ks more.2 rest more.4 more.5
-            (one.2, reader.sound n ks one.0 one.1 one.2 one.3, until_sound turns one.1 one.2 more.0 more.1 more.2 more.3))
+      let one = bind (item n ks) _ _ c.1 in
+      let more = prefixed_some (one.0 ∷ []) _ xs m rest one.4 in
+      carried (Each P) (one.0 ∷ more.0) xs ks more.2 rest more.4 more.5
+      (one.2, reader.sound n ks one.0 one.1 one.2 one.3, until_sound turns one.1 one.2 more.0 more.1 more.2 more.3))
       (chosen (ends ks) _ _ _ h)
 
   until_complete : (xs : List A) (turns n : ℕ) (ks rest : List Kind) → length ks < turns → ends rest ≡ true → IsWithin d ks → Each P xs ks rest → Found (until ends item turns) (placed_each place) d n ks xs rest
@@ -115,7 +121,8 @@ module _ {A : Type 0} (ends : List Kind → Bool) {item : Reader A} {P : A → P
   until_complete [] (suc turns) n ks rest few ended within h = record {
     reads = rw h (rw ended refl);
     within = rw h at within;
-    shorter = rw h (omega arith) }
+    shorter = rw h (omega arith);
+  }
   until_complete (x ∷ xs) (suc turns) n ks rest few ended within h =
       let one = reader.complete n ks x h.0 tt within h.1 in
       let strict = takes x ks h.0 within h.1 in
@@ -123,7 +130,8 @@ module _ {A : Type 0} (ends : List Kind → Bool) {item : Reader A} {P : A → P
       record {
         reads = rw (goes_on x ks h.0 h.1, one.reads, two.reads) refl;
         within = two.within;
-        shorter = omega (arith, strict, two.shorter) }
+        shorter = omega (arith, strict, two.shorter);
+      }
 
   pub reads_repeated : Reads (repeated ends item) (Each P) (placed_each place) d (λ ks. ends ks ≡ true)
   unfolding repeated
@@ -131,4 +139,5 @@ module _ {A : Type 0} (ends : List Kind → Bool) {item : Reader A} {P : A → P
     sound = λ n ks xs m rest h. until_sound (length ks + 1) n ks xs m rest h;
     complete = λ n ks xs rest ended within h.
         let all = until_complete xs (length ks + 1) n ks rest (omega arith) ended within h in
-        record { reads = all.reads; within = all.within; shorter = all.shorter } }
+        record { reads = all.reads; within = all.within; shorter = all.shorter };
+  }

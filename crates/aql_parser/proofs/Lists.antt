@@ -90,7 +90,7 @@ module _ {X A : Type 0} (view : X → A) (ends : List Kind → Bool) (item : Rea
     items_continue new x next pushed reads =
         let seen : map view new ≡ map view old ++ view x ∷ [] = ap (map view) pushed ∙ map-append view old (x ∷ []) in
         let turned : prefixed (map view old) (until ends item (end - turn) left.at left.kinds) ≡ prefixed (map view old ++ view x ∷ []) (until ends item (end - (turn + 1)) next.at next.kinds) =
-            rw (this_turn, goes_on, reads) (prefixed_append (map view old) (view x ∷ []) (until ends item (end - (turn + 1)) next.at next.kinds)) in
+        rw (this_turn, goes_on, reads) (prefixed_append (map view old) (view x ∷ []) (until ends item (end - (turn + 1)) next.at next.kinds)) in
         rw seen (sym turned ∙ so_far)
 
 -- the same of a loop that pushes what it reads as it is

@@ -18,15 +18,16 @@ module _ {A : Type 0} {read : Reader A} {place : Placing A} (d n : ℕ) (kind : 
   found_token no_open no_close reads = record {
     reads = reads;
     within = within_after d kind rest no_open no_close within;
-    shorter = omega arith }
+    shorter = omega arith;
+  }
 
 pub name_sound : (n : ℕ) (ks : List Kind) (a : Name) (m : ℕ) (rest : List Kind) → a_name n ks ≡ Some (a, m, rest) → IsName free a ks rest
 name_sound n [] a m rest h = absurd (none_some _ h)
 name_sound n (k.word w ∷ ks) a m rest h = ⊎_elim
     (λ c. absurd (none_some _ c.1))
     (λ c.
-      let same = some_parts _ _ _ _ _ _ c.1 in
-      carried (IsName free) (record { text = w; at = n }) a (k.word w ∷ ks) ks rest same.0 same.2 (k.word w, refl, (refl, c.0)))
+    let same = some_parts _ _ _ _ _ _ c.1 in
+    carried (IsName free) (record { text = w; at = n }) a (k.word w ∷ ks) ks rest same.0 same.2 (k.word w, refl, (refl, c.0)))
     (chosen (is_reserved w) _ _ _ h)
 name_sound n (k.name t ∷ ks) a m rest h =
     let same = some_parts _ _ _ _ _ _ h in
@@ -48,7 +49,8 @@ pub reads_name : (d : ℕ) → Reads a_name (IsName free) placed_name d Always
 reads_name d = record {
   sound = name_sound;
   complete = λ n ks a rest stops within h.
-      rw h.1 (name_found d n h.0 a rest (rw h.1 at within) h.2) }
+      rw h.1 (name_found d n h.0 a rest (rw h.1 at within) h.2);
+}
 
 -- a name is seen where it begins
 pub name_seen : (a : Name) (ks rest : List Kind) → IsName free a ks rest → sees_name ks ≡ true
@@ -70,8 +72,8 @@ dictionary_sound n (k.str t ∷ ks) a m rest h =
 dictionary_sound n (k.word w ∷ ks) a m rest h = ⊎_elim
     (λ c. absurd (none_some _ c.1))
     (λ c.
-      let same = some_parts _ _ _ _ _ _ c.1 in
-      carried (IsDictionaryName free) (record { text = w; at = n }) a (k.word w ∷ ks) ks rest same.0 same.2 (k.word w, refl, (refl, c.0)))
+    let same = some_parts _ _ _ _ _ _ c.1 in
+    carried (IsDictionaryName free) (record { text = w; at = n }) a (k.word w ∷ ks) ks rest same.0 same.2 (k.word w, refl, (refl, c.0)))
     (chosen (is_reserved w) _ _ _ h)
 dictionary_sound n (k.name t ∷ ks) a m rest h =
     let same = some_parts _ _ _ _ _ _ h in
@@ -92,7 +94,8 @@ pub reads_dictionary : (d : ℕ) → Reads a_dictionary (IsDictionaryName free) 
 reads_dictionary d = record {
   sound = dictionary_sound;
   complete = λ n ks a rest stops within h.
-      rw h.1 (dictionary_found d n h.0 a rest (rw h.1 at within) h.2) }
+      rw h.1 (dictionary_found d n h.0 a rest (rw h.1 at within) h.2);
+}
 
 string_sound : (n : ℕ) (ks : List Kind) (a : Name) (m : ℕ) (rest : List Kind) → a_string n ks ≡ Some (a, m, rest) → Token (k.str a.text) ks rest
 string_sound n (k.str t ∷ ks) a m rest h =
@@ -108,7 +111,8 @@ string_sound n (k.symbol c ∷ ks) a m rest h = absurd (none_some _ h)
 pub reads_string : (d : ℕ) → Reads a_string (λ a. Token (k.str a.text)) placed_name d Always
 reads_string d = record {
   sound = string_sound;
-  complete = λ n ks a rest stops within h. rw h (found_token d n (k.str a.text) a rest (rw h at within) refl refl refl) }
+  complete = λ n ks a rest stops within h. rw h (found_token d n (k.str a.text) a rest (rw h at within) refl refl refl);
+}
 
 pattern_sound : (n : ℕ) (ks : List Kind) (a : Name) (m : ℕ) (rest : List Kind) → a_pattern n ks ≡ Some (a, m, rest) → Token (k.regex a.text) ks rest
 pattern_sound n (k.regex t ∷ ks) a m rest h =
@@ -124,7 +128,8 @@ pattern_sound n (k.symbol c ∷ ks) a m rest h = absurd (none_some _ h)
 pub reads_pattern_text : (d : ℕ) → Reads a_pattern (λ a. Token (k.regex a.text)) placed_name d Always
 reads_pattern_text d = record {
   sound = pattern_sound;
-  complete = λ n ks a rest stops within h. rw h (found_token d n (k.regex a.text) a rest (rw h at within) refl refl refl) }
+  complete = λ n ks a rest stops within h. rw h (found_token d n (k.regex a.text) a rest (rw h at within) refl refl refl);
+}
 
 int_sound : (n : ℕ) (ks : List Kind) (a : Number) (m : ℕ) (rest : List Kind) → an_int n ks ≡ Some (a, m, rest) → IsInt a ks rest
 int_sound n (k.int i ∷ ks) a m rest h =
@@ -140,4 +145,5 @@ int_sound n (k.symbol c ∷ ks) a m rest h = absurd (none_some _ h)
 pub reads_int : (d : ℕ) → Reads an_int IsInt placed_number d Always
 reads_int d = record {
   sound = int_sound;
-  complete = λ n ks a rest stops within h. rw h (found_token d n (k.int a.value) a rest (rw h at within) refl refl refl) }
+  complete = λ n ks a rest stops within h. rw h (found_token d n (k.int a.value) a rest (rw h at within) refl refl refl);
+}

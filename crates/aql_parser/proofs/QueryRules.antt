@@ -48,7 +48,8 @@ no_parens : Reads (symbol "(" ▷ within 0) IsClosed placed_closed 0 Always
 unfolding within
 no_parens = record {
   sound = λ n ks q m rest h. let one = bind (symbol "(" n ks) _ _ h in absurd (none_some _ one.4);
-  complete = λ n ks q rest stops inside h. no_room ks h.0 h.1 inside }
+  complete = λ n ks q rest stops inside h. no_room ks h.0 h.1 inside;
+}
   where
     no_room : {P : Type 0} (ks mid : List Kind) → ks ≡ k.symbol 40 ∷ mid → IsWithin 0 ks → P
     no_room ks mid is inside = let one = within_open 0 mid (rw is at inside) in absurd (omega (arith, one.1))
@@ -73,7 +74,9 @@ more_parens e inner = record {
       record {
         reads = rw h.1 (rw (one.reads, h.2.2) refl);
         within = within_close e rest (rw h.2.2 at one.within);
-        shorter = omega (arith, one.shorter, opened, close) } }
+        shorter = omega (arith, one.shorter, opened, close);
+      };
+}
   where
     open_sound : (n : ℕ) (ks : List Kind) (u : Unit {0}) (m : ℕ) (rest : List Kind) → symbol "(" n ks ≡ Some (u, m, rest) → ks ≡ k.symbol 40 ∷ rest
     open_sound n ks u m rest h = ⊎_elim
@@ -146,8 +149,8 @@ module _ (d : ℕ) (parens : Reads (symbol "(" ▷ within d) IsClosed placed_clo
   unfolding read_view
   reads_view =
       reads_mapped d made_view
-          (reads_pair d (reads_name d) (reads_where_seen sees_name a_name d (reads_name d) name_seen) (λ b ks rest stops h. tt))
-          IsViewSource placed_source (λ pair ks rest h. h) view_made
+      (reads_pair d (reads_name d) (reads_where_seen sees_name a_name d (reads_name d) name_seen) (λ b ks rest stops h. tt))
+      IsViewSource placed_source (λ pair ks rest h. h) view_made
 
   nested_source : (s : Source) (ks rest : List Kind) → IsNestedSource s ks rest → IsSource free s ks rest
   nested_source (nested q alias) ks rest h = h
@@ -165,12 +168,12 @@ module _ (d : ℕ) (parens : Reads (symbol "(" ▷ within d) IsClosed placed_clo
   unfolding source_with
   reads_source =
       reads_choice (sees_sign "(") _ _ d
-          (reads_where d
-              (reads_after_mapped (symbol "(") _ d made_nested
-                  (reads_passed_pair (symbol "(") (within d) a_name d (reads_pair d parens (reads_name d) (λ b ks rest stops h. tt)))
-                  IsNestedSource placed_source (λ pair ks rest h. h) nested_made)
-              (λ ks stops. tt))
-          reads_view (IsSource free) nested_source view_source source_split
+      (reads_where d
+      (reads_after_mapped (symbol "(") _ d made_nested
+      (reads_passed_pair (symbol "(") (within d) a_name d (reads_pair d parens (reads_name d) (λ b ks rest stops h. tt)))
+      IsNestedSource placed_source (λ pair ks rest h. h) nested_made)
+      (λ ks stops. tt))
+      reads_view (IsSource free) nested_source view_source source_split
 
   comma_stops_source : (ks : List Kind) → sees_sign "," ks ≡ true → StopsSource ks
   comma_stops_source ks h = rw (sees_symbol_is 44 ks h) (tt, refl)
@@ -201,10 +204,10 @@ module _ (d : ℕ) (parens : Reads (symbol "(" ▷ within d) IsClosed placed_clo
   reads_select_parts : Reads (keyword "select" ▷ separated (sees_sign ",") (read_item d) ⊗ keyword "from" ▷ separated (sees_sign ",") (read_source d) ⊗ read_clauses d) SelectParts placed_select_parts d (Ends 5)
   reads_select_parts =
       reads_after d (reads_keyword d "select")
-          (reads_pair d (reads_separated (sees_sign ",") d (takes_sign 44 refl refl) (reads_item d) comma_stops_item)
-              (reads_after d (reads_keyword d "from") (reads_pair d reads_sources (reads_clauses d)
-                  (λ b ks rest e h. let ends = clauses_end d b ks rest e h in ((tt, ends_no_name ends), ends_no_comma ends))))
-              (λ b ks rest e h. from_stops_items ks h.0 h.1))
+      (reads_pair d (reads_separated (sees_sign ",") d (takes_sign 44 refl refl) (reads_item d) comma_stops_item)
+      (reads_after d (reads_keyword d "from") (reads_pair d reads_sources (reads_clauses d)
+      (λ b ks rest e h. let ends = clauses_end d b ks rest e h in ((tt, ends_no_name ends), ends_no_comma ends))))
+      (λ b ks rest e h. from_stops_items ks h.0 h.1))
 
   -- the places of a selection whose first token has the number `at`
   abbrev placed_as_select : ℕ → Placing Query
@@ -218,7 +221,8 @@ module _ (d : ℕ) (parens : Reads (symbol "(" ▷ within d) IsClosed placed_clo
         of = (items, (sources_list froms, clauses));
         part = (a, h1, (b, h2, (c, h3, (e, sources_listed froms c e h4, h5))));
         places = λ n. refl;
-        next = λ n. refl }
+        next = λ n. refl;
+      }
   select_made at (extract other items spec source tail) ks rest h = absurd h
   select_made at (union sides) ks rest h = absurd h
   select_made at (minus left right) ks rest h = absurd h
@@ -252,10 +256,10 @@ module _ (d : ℕ) (parens : Reads (symbol "(" ▷ within d) IsClosed placed_clo
   reads_extract_parts : Reads (keyword "extract" ▷ read_extracted d ⊗ keyword "from" ▷ read_source d ⊗ read_tail d) ExtractParts placed_extract_parts d (Ends 5)
   reads_extract_parts =
       reads_after d (reads_keyword d "extract")
-          (reads_pair d (reads_extracted d)
-              (reads_after d (reads_keyword d "from") (reads_pair d reads_source (reads_tail d)
-                  (λ b ks rest e h. let ends = tail_ends d b ks rest e h in (tt, ends_no_name ends))))
-              (λ b ks rest e h. from_no_and ks h.0 h.1))
+      (reads_pair d (reads_extracted d)
+      (reads_after d (reads_keyword d "from") (reads_pair d reads_source (reads_tail d)
+      (λ b ks rest e h. let ends = tail_ends d b ks rest e h in (tt, ends_no_name ends))))
+      (λ b ks rest e h. from_no_and ks h.0 h.1))
 
   abbrev placed_as_extract : ℕ → Placing Query
   placed_as_extract at n (extract other items spec source tail) =
@@ -323,9 +327,9 @@ module _ (d : ℕ) (parens : Reads (symbol "(" ▷ within d) IsClosed placed_clo
   reads_plain_at : (at : ℕ) → Reads (eaten (sees "select") (selection d (within d) at) (keyword "extract" ▷ extraction d (within d) at)) IsPlain (placed_plain at) d (Ends 5)
   reads_plain_at at =
       reads_choice (sees "select") _ _ d
-          (reads_recast d (reads_select at) IsSelect (placed_plain at) (λ q ks rest h. h) (λ q ks rest h. h) (select_placed at))
-          (reads_recast d (reads_extract at) IsExtract (placed_plain at) (λ q ks rest h. h) (λ q ks rest h. h) (extract_placed at))
-          IsPlain select_plain extract_plain plain_split
+      (reads_recast d (reads_select at) IsSelect (placed_plain at) (λ q ks rest h. h) (λ q ks rest h. h) (select_placed at))
+      (reads_recast d (reads_extract at) IsExtract (placed_plain at) (λ q ks rest h. h) (λ q ks rest h. h) (extract_placed at))
+      IsPlain select_plain extract_plain plain_split
 
   -- the places of a query that begins here
   plain_placed : (q : Query) (ks rest : List Kind) → IsPlain q ks rest → (n : ℕ) → placed_query n q ≡ placed_plain n n q
@@ -338,7 +342,7 @@ module _ (d : ℕ) (parens : Reads (symbol "(" ▷ within d) IsClosed placed_clo
   reads_plain : Reads (λ n ks. eaten (sees "select") (selection d (within d) n) (keyword "extract" ▷ extraction d (within d) n) n ks) IsPlain placed_query d (Ends 5)
   reads_plain =
       reads_recast d (reads_at (λ at. eaten (sees "select") (selection d (within d) at) (keyword "extract" ▷ extraction d (within d) at)) placed_plain d reads_plain_at)
-          IsPlain placed_query (λ q ks rest h. h) (λ q ks rest h. h) plain_placed
+      IsPlain placed_query (λ q ks rest h. h) (λ q ks rest h. h) plain_placed
 
   -- queries put together
   abbrev IsTogether : Query → Part
@@ -400,15 +404,15 @@ module _ (d : ℕ) (parens : Reads (symbol "(" ▷ within d) IsClosed placed_clo
   unfolding put_together
   put_sound first ks n mid q m rest closed h = ⊎_elim
       (λ c.
-        let one = bind ((symbol "(" ▷ within d) (n + 1) (after mid)) _ _ c.1 in
-        let same = some_parts _ _ _ _ _ _ one.4 in
-        carried IsTogether (minus first one.0) q ks one.2 rest same.0 same.2
-            (mid, closed, (after mid, (takes_keyword "minus").found mid c.0, parens.sound (n + 1) (after mid) one.0 one.1 one.2 one.3)))
+      let one = bind ((symbol "(" ▷ within d) (n + 1) (after mid)) _ _ c.1 in
+      let same = some_parts _ _ _ _ _ _ one.4 in
+      carried IsTogether (minus first one.0) q ks one.2 rest same.0 same.2
+      (mid, closed, (after mid, (takes_keyword "minus").found mid c.0, parens.sound (n + 1) (after mid) one.0 one.1 one.2 one.3)))
       (λ c.
-        let one = bind ((keyword "union" ▷ separated (sees "union") (side d (within d))) n mid) _ _ c.1 in
-        let same = some_parts _ _ _ _ _ _ one.4 in
-        carried IsTogether (union (as_queries (first ∷ one.0))) q ks one.2 rest same.0 same.2
-            (mid, closed, listed_other_sides one.0 mid one.2 (reads_sides.sound n mid one.0 one.1 one.2 one.3)))
+      let one = bind ((keyword "union" ▷ separated (sees "union") (side d (within d))) n mid) _ _ c.1 in
+      let same = some_parts _ _ _ _ _ _ one.4 in
+      carried IsTogether (union (as_queries (first ∷ one.0))) q ks one.2 rest same.0 same.2
+      (mid, closed, listed_other_sides one.0 mid one.2 (reads_sides.sound n mid one.0 one.1 one.2 one.3)))
       (chosen (sees "minus" mid) _ _ _ h)
 
   put_minus : (first second : Query) (n : ℕ) (mid : List Kind) (q : Query) (m : ℕ) (rest : List Kind) → sees "minus" mid ≡ true → (keyword "minus" ▷ symbol "(" ▷ within d) n mid ≡ Some (q, m, rest) → put_together d (within d) first n mid ≡ Some (minus first q, m, rest)
@@ -432,7 +436,8 @@ module _ (d : ℕ) (parens : Reads (symbol "(" ▷ within d) IsClosed placed_clo
       record {
         reads = passed_on (symbol "(" n ks) (within d) (put_together d (within d)) ∙ rw one.reads (put_minus (placed_closed n left).0 right (placed_closed n left).1 h.0 _ _ rest seen.0 two.reads);
         within = two.within;
-        shorter = omega (arith, one.shorter, two.shorter) }
+        shorter = omega (arith, one.shorter, two.shorter);
+      }
   together_complete n ks (union no_queries) rest e inside h = absurd h
   together_complete n ks (union (more_queries first no_queries)) rest e inside h = absurd h.2
   together_complete n ks (union (more_queries first (more_queries second others))) rest e inside h =
@@ -442,7 +447,8 @@ module _ (d : ℕ) (parens : Reads (symbol "(" ▷ within d) IsClosed placed_clo
       record {
         reads = passed_on (symbol "(" n ks) (within d) (put_together d (within d)) ∙ rw one.reads (put ∙ ap (λ placed. Some (union (more_queries (placed_closed n first).0 placed.0), placed.1, rest)) (sym (placed_other_sides-list (placed_closed n first).1 second others)));
         within = two.within;
-        shorter = omega (arith, one.shorter, two.shorter) }
+        shorter = omega (arith, one.shorter, two.shorter);
+      }
   together_complete n ks (select at items froms clauses) rest e inside h = absurd h
   together_complete n ks (extract at items spec source tail) rest e inside h = absurd h
 
@@ -451,7 +457,8 @@ module _ (d : ℕ) (parens : Reads (symbol "(" ▷ within d) IsClosed placed_clo
     sound = λ n ks q m rest h.
         let one = bind ((symbol "(" ▷ within d) n ks) _ _ (sym (passed_on (symbol "(" n ks) (within d) (put_together d (within d))) ∙ h) in
         put_sound one.0 ks one.1 one.2 q m rest (parens.sound n ks one.0 one.1 one.2 one.3) one.4;
-    complete = together_complete }
+    complete = together_complete;
+  }
 
   together_query : (q : Query) (ks rest : List Kind) → IsTogether q ks rest → IsQuery free q ks rest
   together_query (union sides) ks rest h = h
@@ -474,7 +481,7 @@ module _ (d : ℕ) (parens : Reads (symbol "(" ▷ within d) IsClosed placed_clo
   reads_query_with : Reads (query_with d (within d)) (IsQuery free) placed_query d (Ends 5)
   reads_query_with =
       reads_choice (sees_sign "(") together (λ n ks. eaten (sees "select") (selection d (within d) n) (keyword "extract" ▷ extraction d (within d) n) n ks) d
-          reads_together reads_plain (IsQuery free) together_query plain_query query_split
+      reads_together reads_plain (IsQuery free) together_query plain_query query_split
 
 -- a query is read within any number of parentheses
 pub reads_query : (d : ℕ) → Reads (read_query d) (IsQuery free) placed_query d (Ends 5)

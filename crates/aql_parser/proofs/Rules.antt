@@ -69,10 +69,14 @@ within_open zero rest h =
     let o = counted (is_sign "(") true 0 (k.symbol 40) rest refl in
     let c = counted (is_sign ")") false 0 (k.symbol 40) rest refl in
     absurd (omega (arith, o, c, h 1))
-within_open (suc e) rest h = (e, refl, λ i.
-    let o = counted (is_sign "(") true i (k.symbol 40) rest refl in
-    let c = counted (is_sign ")") false i (k.symbol 40) rest refl in
-    omega (arith, o, c, h (suc i)))
+within_open (suc e) rest h = (
+  e,
+  refl,
+  λ i.
+      let o = counted (is_sign "(") true i (k.symbol 40) rest refl in
+      let c = counted (is_sign ")") false i (k.symbol 40) rest refl in
+      omega (arith, o, c, h (suc i)),
+)
 
 -- and a closed one gives it back
 pub within_close : (d : ℕ) (rest : List Kind) → IsWithin d (k.symbol 41 ∷ rest) → IsWithin (suc d) rest
@@ -110,7 +114,9 @@ reads_token {test} {P} d takes = record {
       record {
         reads = rw (seen.0, seen.2) refl;
         within = within_after d seen.1 rest seen.3 seen.4 there;
-        shorter = rw seen.2 (omega arith) } }
+        shorter = rw seen.2 (omega arith);
+      };
+}
 
 -- keywords and signs
 pub sees_word_is : (w : List ℕ) (ks : List Kind) → sees_word w ks ≡ true → (v : List ℕ) × (ks ≡ k.word v ∷ after ks) × (same_word v w ≡ true)
@@ -125,7 +131,8 @@ sees_word_is w (k.symbol c ∷ ks) h = absurd (false≢true h)
 pub takes_keyword : (w : String) → Takes (sees w) (Keyword free w)
 takes_keyword w = record {
   found = λ ks h. sees_word_is (codes w) ks h;
-  tested = λ ks rest h. (rw h.1 h.2, k.word h.0, h.1, refl, refl) }
+  tested = λ ks rest h. (rw h.1 h.2, k.word h.0, h.1, refl, refl);
+}
 
 pub sees_symbol_is : (c : ℕ) (ks : List Kind) → sees_symbol c ks ≡ true → ks ≡ k.symbol c ∷ after ks
 sees_symbol_is c (k.symbol b ∷ ks) h = ap (λ (d : ℕ). k.symbol d ∷ ks) (eqb-true b c h)
@@ -140,7 +147,8 @@ sees_symbol_is c (k.regex t ∷ ks) h = absurd (false≢true h)
 pub takes_sign : (c : ℕ) → is_sign "(" (k.symbol c) ≡ false → is_sign ")" (k.symbol c) ≡ false → Takes (sees_symbol c) (Token (k.symbol c))
 takes_sign c no_open no_close = record {
   found = λ ks h. sees_symbol_is c ks h;
-  tested = λ ks rest h. (rw h (eq-eqb c c refl), k.symbol c, h, no_open, no_close) }
+  tested = λ ks rest h. (rw h (eq-eqb c c refl), k.symbol c, h, no_open, no_close);
+}
 
 pub reads_keyword : (d : ℕ) (w : String) → Reads (keyword w) (λ u. Keyword free w) one d Always
 reads_keyword d w = reads_token d (takes_keyword w)
@@ -158,14 +166,16 @@ module _ {A B : Type 0} {r : Reader A} {P : A → Part} {p : Placing A} {q : Rea
         let two = bind (q one.1 one.2) _ _ one.4 in
         let same = some_parts _ _ _ _ _ _ two.4 in
         carried (λ ab. P ab.0 ▸ Q ab.1) (one.0, two.0) ab ks two.2 rest same.0 same.2
-            (one.2, first.sound n ks one.0 one.1 one.2 one.3, second.sound one.1 one.2 two.0 two.1 two.2 two.3);
+        (one.2, first.sound n ks one.0 one.1 one.2 one.3, second.sound one.1 one.2 two.0 two.1 two.2 two.3);
     complete = λ n ks ab rest stops within h.
         let one = first.complete n ks ab.0 h.0 (follows ab.1 h.0 rest stops h.2) within h.1 in
         let two = second.complete (p n ab.0).1 h.0 ab.1 rest stops one.within h.2 in
         record {
           reads = rw (one.reads, two.reads) refl;
           within = two.within;
-          shorter = omega (arith, one.shorter, two.shorter) } }
+          shorter = omega (arith, one.shorter, two.shorter);
+        };
+  }
 
 -- a part that is only passed over, and then a part
 module _ {B : Type 0} {w : Reader (Unit {0})} {W : Part} {step : ℕ → ℕ} {q : Reader B} {Q : B → Part} {q' : Placing B} {T : List Kind → Type 0} (d : ℕ) (first : Reads w (λ u. W) (passing step) d Always) (second : Reads q Q q' d T) where
@@ -180,7 +190,9 @@ module _ {B : Type 0} {w : Reader (Unit {0})} {W : Part} {step : ℕ → ℕ} {q
         record {
           reads = rw one.reads two.reads;
           within = two.within;
-          shorter = omega (arith, one.shorter, two.shorter) } }
+          shorter = omega (arith, one.shorter, two.shorter);
+        };
+  }
 
 -- a part, and then one that is only passed over
 module _ {A : Type 0} {r : Reader A} {P : A → Part} {p : Placing A} {w : Reader (Unit {0})} {W : Part} {step : ℕ → ℕ} {S : List Kind → Type 0} (d : ℕ) (first : Reads r P p d S) (second : Reads w (λ u. W) (passing step) d Always) where
@@ -191,14 +203,16 @@ module _ {A : Type 0} {r : Reader A} {P : A → Part} {p : Placing A} {w : Reade
         let two = bind (w one.1 one.2) _ _ one.4 in
         let same = some_parts _ _ _ _ _ _ two.4 in
         carried (λ a. P a ▸ W) one.0 a ks two.2 rest same.0 same.2
-            (one.2, first.sound n ks one.0 one.1 one.2 one.3, second.sound one.1 one.2 two.0 two.1 two.2 two.3);
+        (one.2, first.sound n ks one.0 one.1 one.2 one.3, second.sound one.1 one.2 two.0 two.1 two.2 two.3);
     complete = λ n ks a rest stops within h.
         let one = first.complete n ks a h.0 (follows h.0 rest h.2) within h.1 in
         let two = second.complete (p n a).1 h.0 tt rest tt one.within h.2 in
         record {
           reads = rw (one.reads, two.reads) refl;
           within = two.within;
-          shorter = omega (arith, one.shorter, two.shorter) } }
+          shorter = omega (arith, one.shorter, two.shorter);
+        };
+  }
 
 -- what a reader reads, made into something else
 pub record Made {A B : Type 0} (f : A → B) (P : A → Part) (p : Placing A) (place : Placing B) (b : B) (ks rest : List Kind) : Type 0 where
@@ -220,13 +234,16 @@ module _ {A B : Type 0} {r : Reader A} {P : A → Part} {p : Placing A} {S : Lis
         record {
           reads = rw (one.reads, was.places n, was.next n) refl;
           within = one.within;
-          shorter = one.shorter } }
+          shorter = one.shorter;
+        };
+  }
 
 -- a reader where less stops it
 pub reads_where : {A : Type 0} {r : Reader A} {P : A → Part} {p : Placing A} {S T : List Kind → Type 0} (d : ℕ) → Reads r P p d S → ((ks : List Kind) → T ks → S ks) → Reads r P p d T
 reads_where d reader stops = record {
   sound = reader.sound;
-  complete = λ n ks a rest stop within h. reader.complete n ks a rest (stops rest stop) within h }
+  complete = λ n ks a rest stop within h. reader.complete n ks a rest (stops rest stop) within h;
+}
 
 -- the test is passed where the token is taken
 pub eaten_true : {A : Type 0} (test : List Kind → Bool) (r : Reader A) (n : ℕ) (ks : List Kind) (x : A × ℕ × List Kind) → (take_if test ▷ r) n ks ≡ Some x → test ks ≡ true
@@ -246,13 +263,14 @@ module _ {A : Type 0} (test : List Kind → Bool) (r s : Reader A) {P1 P2 : A �
         (chosen (test ks) _ _ _ h);
     complete = λ n ks a rest stops within h. ⊎_elim
         (λ h1.
-            let one = first.complete n ks a rest stops within h1 in
-            let passed = eaten_true test r n ks _ one.reads in
-            record { reads = rw passed (rw passed at one.reads); within = one.within; shorter = one.shorter })
+        let one = first.complete n ks a rest stops within h1 in
+        let passed = eaten_true test r n ks _ one.reads in
+        record { reads = rw passed (rw passed at one.reads); within = one.within; shorter = one.shorter })
         (λ c.
-            let two = second.complete n ks a rest stops within c.1 in
-            record { reads = rw c.0 two.reads; within = two.within; shorter = two.shorter })
-        (split a ks rest stops h) }
+        let two = second.complete n ks a rest stops within c.1 in
+        record { reads = rw c.0 two.reads; within = two.within; shorter = two.shorter })
+        (split a ks rest stops h);
+  }
 
 -- a part that may be left out, where the next token tells
 module _ {A : Type 0} (test : List Kind → Bool) (r : Reader A) {P : A → Part} {place : Placing A} {S : List Kind → Type 0} (d : ℕ) where
@@ -260,59 +278,66 @@ module _ {A : Type 0} (test : List Kind → Bool) (r : Reader A) {P : A → Part
   reads_optional reader = record {
     sound = λ n ks o m rest h. ⊎_elim
         (λ c.
-            let one = bind (r (n + 1) (after ks)) _ _ c.1 in
-            let same = some_parts _ _ _ _ _ _ one.4 in
-            carried (Optional P) (Some one.0) o ks one.2 rest same.0 same.2 (reader.sound n ks one.0 one.1 one.2 (rw c.0 one.3)))
+        let one = bind (r (n + 1) (after ks)) _ _ c.1 in
+        let same = some_parts _ _ _ _ _ _ one.4 in
+        carried (Optional P) (Some one.0) o ks one.2 rest same.0 same.2 (reader.sound n ks one.0 one.1 one.2 (rw c.0 one.3)))
         (λ c.
-            let same = some_parts _ _ _ _ _ _ c.1 in
-            carried (Optional P) None o ks ks rest same.0 same.2 refl)
+        let same = some_parts _ _ _ _ _ _ c.1 in
+        carried (Optional P) None o ks ks rest same.0 same.2 refl)
         (chosen (test ks) _ _ _ h);
-    complete = λ n ks o rest stops within h. optional_complete n ks o rest stops.0 stops.1 within h }
+    complete = λ n ks o rest stops within h. optional_complete n ks o rest stops.0 stops.1 within h;
+  }
     where
       optional_complete : (n : ℕ) (ks : List Kind) (o : Option A) (rest : List Kind) → S rest → test rest ≡ false → IsWithin d ks → Optional P o ks rest → Found (optional test r) (placed_optional place) d n ks o rest
       optional_complete n ks None rest stops unseen within h = record {
         reads = rw h (rw unseen refl);
         within = rw h at within;
-        shorter = rw h (omega arith) }
+        shorter = rw h (omega arith);
+      }
       optional_complete n ks (Some a) rest stops unseen within h =
           let one = reader.complete n ks a rest stops within h in
           let passed = eaten_true test r n ks _ one.reads in
           record {
             reads = rw (passed, rw passed at one.reads) refl;
             within = one.within;
-            shorter = one.shorter }
+            shorter = one.shorter;
+          }
 
   -- the same where the token belongs to the part
   pub reads_where_seen : Reads r P place d S → ((a : A) (ks rest : List Kind) → P a ks rest → test ks ≡ true) → Reads (where_seen test r) (Optional P) (placed_optional place) d (λ ks. S ks × (test ks ≡ false))
   reads_where_seen reader begins = record {
     sound = λ n ks o m rest h. ⊎_elim
         (λ c.
-            let one = bind (r n ks) _ _ c.1 in
-            let same = some_parts _ _ _ _ _ _ one.4 in
-            carried (Optional P) (Some one.0) o ks one.2 rest same.0 same.2 (reader.sound n ks one.0 one.1 one.2 one.3))
+        let one = bind (r n ks) _ _ c.1 in
+        let same = some_parts _ _ _ _ _ _ one.4 in
+        carried (Optional P) (Some one.0) o ks one.2 rest same.0 same.2 (reader.sound n ks one.0 one.1 one.2 one.3))
         (λ c.
-            let same = some_parts _ _ _ _ _ _ c.1 in
-            carried (Optional P) None o ks ks rest same.0 same.2 refl)
+        let same = some_parts _ _ _ _ _ _ c.1 in
+        carried (Optional P) None o ks ks rest same.0 same.2 refl)
         (chosen (test ks) _ _ _ h);
-    complete = λ n ks o rest stops within h. seen_complete n ks o rest stops.0 stops.1 within h }
+    complete = λ n ks o rest stops within h. seen_complete n ks o rest stops.0 stops.1 within h;
+  }
     where
       seen_complete : (n : ℕ) (ks : List Kind) (o : Option A) (rest : List Kind) → S rest → test rest ≡ false → IsWithin d ks → Optional P o ks rest → Found (where_seen test r) (placed_optional place) d n ks o rest
       seen_complete n ks None rest stops unseen within h = record {
         reads = rw h (rw unseen refl);
         within = rw h at within;
-        shorter = rw h (omega arith) }
+        shorter = rw h (omega arith);
+      }
       seen_complete n ks (Some a) rest stops unseen within h =
           let one = reader.complete n ks a rest stops within h in
           record {
             reads = rw (begins a ks rest h, one.reads) refl;
             within = one.within;
-            shorter = one.shorter }
+            shorter = one.shorter;
+          }
 
 -- the same part, said otherwise
 pub reads_as : {A : Type 0} {r : Reader A} {P : A → Part} {p : Placing A} {S : List Kind → Type 0} (d : ℕ) → Reads r P p d S → (Q : A → Part) → ((a : A) (ks rest : List Kind) → P a ks rest → Q a ks rest) → ((a : A) (ks rest : List Kind) → Q a ks rest → P a ks rest) → Reads r Q p d S
 reads_as d reader Q into out = record {
   sound = λ n ks a m rest h. into a ks rest (reader.sound n ks a m rest h);
-  complete = λ n ks a rest stops within h. reader.complete n ks a rest stops within (out a ks rest h) }
+  complete = λ n ks a rest stops within h. reader.complete n ks a rest stops within (out a ks rest h);
+}
 
 -- the same of what is made after a part that is passed over
 skipped_made : {A B : Type 0} (f : A → B) (o : Option (Unit {0} × ℕ × List Kind)) (r : Reader A) (a : A) (m : ℕ) (rest : List Kind) → and_then o (λ u l mid. r l mid) ≡ Some (a, m, rest) → and_then o (λ u l mid. mapped f r l mid) ≡ Some (f a, m, rest)
@@ -338,7 +363,9 @@ module _ {A B : Type 0} (w : Reader (Unit {0})) (r : Reader A) {P : A → Part} 
         record {
           reads = rw (was.places n, was.next n) (skipped_made f (w n ks) r _ _ rest one.reads);
           within = one.within;
-          shorter = one.shorter } }
+          shorter = one.shorter;
+        };
+  }
 
 -- a token that stands for a value
 module _ {B : Type 0} (test : List Kind → Bool) {W : Part} (d : ℕ) (takes : Takes test W) (value : B) (P : B → Part) where
@@ -355,7 +382,9 @@ module _ {B : Type 0} (test : List Kind → Bool) {W : Part} (d : ℕ) (takes : 
         record {
           reads = rw one.reads (ap (λ v. Some (v, n + 1, rest)) was.0);
           within = one.within;
-          shorter = one.shorter } }
+          shorter = one.shorter;
+        };
+  }
 
 -- the same part and places, said otherwise
 module _ {A : Type 0} {r : Reader A} {P : A → Part} {p : Placing A} {S : List Kind → Type 0} (d : ℕ) (reader : Reads r P p d S) (Q : A → Part) (place : Placing A) where
@@ -367,7 +396,9 @@ module _ {A : Type 0} {r : Reader A} {P : A → Part} {p : Placing A} {S : List 
         record {
           reads = rw (places a ks rest h n) one.reads;
           within = one.within;
-          shorter = one.shorter } }
+          shorter = one.shorter;
+        };
+  }
 
 -- a choice by a test that takes no token
 module _ {A : Type 0} (test : List Kind → Bool) {r s : Reader A} {P1 P2 : A → Part} {place : Placing A} {S : List Kind → Type 0} (d : ℕ) (first : Reads r P1 place d S) (second : Reads s P2 place d S) (P : A → Part) where
@@ -379,12 +410,13 @@ module _ {A : Type 0} (test : List Kind → Bool) {r s : Reader A} {P1 P2 : A �
         (chosen (test ks) _ _ _ h);
     complete = λ n ks a rest stops within h. ⊎_elim
         (λ c.
-            let one = first.complete n ks a rest stops within c.1 in
-            record { reads = rw c.0 one.reads; within = one.within; shorter = one.shorter })
+        let one = first.complete n ks a rest stops within c.1 in
+        record { reads = rw c.0 one.reads; within = one.within; shorter = one.shorter })
         (λ c.
-            let two = second.complete n ks a rest stops within c.1 in
-            record { reads = rw c.0 two.reads; within = two.within; shorter = two.shorter })
-        (split a ks rest h) }
+        let two = second.complete n ks a rest stops within c.1 in
+        record { reads = rw c.0 two.reads; within = two.within; shorter = two.shorter })
+        (split a ks rest h);
+  }
 
 -- readers that read the same
 pub reads_same : {A : Type 0} (r s : Reader A) {P : A → Part} {p : Placing A} {S : List Kind → Type 0} (d : ℕ) → Reads r P p d S → ((n : ℕ) (ks : List Kind) → s n ks ≡ r n ks) → Reads s P p d S
@@ -392,7 +424,8 @@ reads_same r s d reader same = record {
   sound = λ n ks a m rest h. reader.sound n ks a m rest (sym (same n ks) ∙ h);
   complete = λ n ks a rest stops within h.
       let one = reader.complete n ks a rest stops within h in
-      record { reads = same n ks ∙ one.reads; within = one.within; shorter = one.shorter } }
+      record { reads = same n ks ∙ one.reads; within = one.within; shorter = one.shorter };
+}
 
 -- what is passed over, and then a pair
 passed_pair : {A B : Type 0} (o : Option (Unit {0} × ℕ × List Kind)) (r : Reader A) (q : Reader B) → and_then o (λ u l mid. (r ⊗ q) l mid) ≡ and_then (and_then o (λ u l mid. r l mid)) (λ a m mid. and_then (q m mid) (λ b l rest. Some ((a, b), l, rest)))
@@ -413,4 +446,5 @@ reads_at r p d readers = record {
   sound = λ n ks a m rest h. (readers n).sound n ks a m rest h;
   complete = λ n ks a rest stops within h.
       let one = (readers n).complete n ks a rest stops within h in
-      record { reads = one.reads; within = one.within; shorter = one.shorter } }
+      record { reads = one.reads; within = one.within; shorter = one.shorter };
+}

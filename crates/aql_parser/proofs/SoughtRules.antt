@@ -217,6 +217,6 @@ module _ (d : ℕ) where
   unfolding read_extracted
   reads_extracted =
       reads_tested begins_blocks d
-          (reads_where d (reads_mapped d (λ spec. ([], spec)) (reads_blocks d) IsBlocksAlone placed_extracted (λ spec ks rest h. h) alone_made) (λ ks stops. tt))
-          (reads_pair d reads_items_before reads_sought (λ spec ks rest stops h. sought_begins spec ks rest h))
-          IsExtractedPair alone_extracted sought_extracted extracted_split
+      (reads_where d (reads_mapped d (λ spec. ([], spec)) (reads_blocks d) IsBlocksAlone placed_extracted (λ spec ks rest h. h) alone_made) (λ ks stops. tt))
+      (reads_pair d reads_items_before reads_sought (λ spec ks rest stops h. sought_begins spec ks rest h))
+      IsExtractedPair alone_extracted sought_extracted extracted_split

@@ -11,10 +11,12 @@ select_clauses clauses = record {
   cons = option_map cons_of clauses.cons;
   group = map term_of clauses.group.items;
   order = map term_of clauses.order.items;
-  limit = option_map number_of clauses.limit }
+  limit = option_map number_of clauses.limit;
+}
 
 abbrev pub extract_tail : ExtractTail → Tail
 extract_tail tail = record {
   conds = map term_of tail.conds.items;
   cons = option_map cons_of tail.cons;
-  limit = option_map number_of tail.limit }
+  limit = option_map number_of tail.limit;
+}

@@ -107,11 +107,7 @@ pub fn limit(toks: &mut Cursor<'_>) -> Result<Option<Number>, Refused>
 
 /// The clauses of a selection.
 #[tactic(auto, unfolding(crate::specs::Reading::Queries::read_clauses))]
-pub fn clauses(
-    alloc: Global,
-    depth: u32,
-    toks: &mut Cursor<'_>,
-) -> Result<SelectClauses, Refused>
+pub fn clauses(alloc: Global, depth: u32, toks: &mut Cursor<'_>) -> Result<SelectClauses, Refused>
     ensures { Gives select_clauses (spec.read_clauses depth toks.old.at toks.old.kinds) result toks.new }
 {
     let conds = conds(alloc, depth, toks, "where")?;

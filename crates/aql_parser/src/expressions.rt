@@ -166,11 +166,7 @@ pub fn arguments(alloc: Global, depth: u32, toks: &mut Cursor<'_>) -> Result<Vec
 }
 
 /// Conditions with `and` between them.
-pub fn conditions(
-    alloc: Global,
-    depth: u32,
-    toks: &mut Cursor<'_>,
-) -> Result<Vec<Ast>, Refused>
+pub fn conditions(alloc: Global, depth: u32, toks: &mut Cursor<'_>) -> Result<Vec<Ast>, Refused>
     ensures { Gives (λ conds. map term_of conds.items) (separated (sees "and") (spec.read_term depth) toks.old.at toks.old.kinds) result toks.new }
 {
     let mut conds = Vec::new(alloc);

@@ -61,10 +61,7 @@ fn output(alloc: Global, toks: &mut Cursor<'_>) -> Result<Ident, Refused>
     toks.name(alloc)
 }
 
-fn numbered(
-    alloc: Global,
-    toks: &mut Cursor<'_>,
-) -> Result<(Option<Number>, Ident), Refused>
+fn numbered(alloc: Global, toks: &mut Cursor<'_>) -> Result<(Option<Number>, Ident), Refused>
     ensures { Gives group_of (spec.read_numbered toks.old.at toks.old.kinds) result toks.new }
 {
     toks.expect_word("group")?;
@@ -100,10 +97,7 @@ fn only(alloc: Global, name: Ident) -> Result<Vec<(Option<Number>, Ident)>, OutO
 }
 
 /// The groups that a match gives: one that is only named, or numbered ones.
-fn groups(
-    alloc: Global,
-    toks: &mut Cursor<'_>,
-) -> Result<Vec<(Option<Number>, Ident)>, Refused>
+fn groups(alloc: Global, toks: &mut Cursor<'_>) -> Result<Vec<(Option<Number>, Ident)>, Refused>
     ensures { Gives (λ groups. map group_of groups.items) (spec.read_groups toks.old.at toks.old.kinds) result toks.new }
 {
     if toks.eat_word("as") {

@@ -31,11 +31,7 @@ fn item_before(alloc: Global, depth: u32, toks: &mut Cursor<'_>) -> Result<Item,
 }
 
 /// Items with a comma after each, up to what the extraction looks for.
-fn items_before(
-    alloc: Global,
-    depth: u32,
-    toks: &mut Cursor<'_>,
-) -> Result<Vec<Item>, Refused>
+fn items_before(alloc: Global, depth: u32, toks: &mut Cursor<'_>) -> Result<Vec<Item>, Refused>
     ensures { Gives (λ items. map item_of items.items) (spec.read_items_before depth toks.old.at toks.old.kinds) result toks.new }
 {
     let mut items = Vec::new(alloc);
@@ -51,11 +47,7 @@ fn items_before(
 
 /// The items of an extraction, and what it looks for.
 #[tactic(auto, unfolding(crate::specs::Reading::Queries::read_extracted))]
-fn extracted(
-    alloc: Global,
-    depth: u32,
-    toks: &mut Cursor<'_>,
-) -> Result<(Vec<Item>, Spec), Refused>
+fn extracted(alloc: Global, depth: u32, toks: &mut Cursor<'_>) -> Result<(Vec<Item>, Spec), Refused>
     ensures { Gives (λ pair. (map item_of pair.0.items, spec_of pair.1)) (spec.read_extracted depth toks.old.at toks.old.kinds) result toks.new }
 {
     if toks.begins_blocks() {
@@ -235,12 +227,7 @@ fn sources(alloc: Global, depth: u32, toks: &mut Cursor<'_>) -> Result<Vec<FromP
 /// A selection, after its `select`, which has the number `at`.
 #[cycle(query)]
 #[tactic(auto, unfolding(crate::specs::Reading::Queries::selection))]
-fn selection(
-    alloc: Global,
-    depth: u32,
-    toks: &mut Cursor<'_>,
-    at: u32,
-) -> Result<Query, Refused>
+fn selection(alloc: Global, depth: u32, toks: &mut Cursor<'_>, at: u32) -> Result<Query, Refused>
     ensures { Gives query_of (spec.selection depth (spec.within depth) at toks.old.at toks.old.kinds) result toks.new }
 {
     let items = items(alloc, depth, toks)?;
@@ -275,12 +262,7 @@ fn select(at: u32, items: Vec<Item>, sources: Vec<FromPart>, clauses: SelectClau
 /// An extraction, after its `extract`, which has the number `at`.
 #[cycle(query)]
 #[tactic(auto, unfolding(crate::specs::Reading::Queries::extraction))]
-fn extraction(
-    alloc: Global,
-    depth: u32,
-    toks: &mut Cursor<'_>,
-    at: u32,
-) -> Result<Query, Refused>
+fn extraction(alloc: Global, depth: u32, toks: &mut Cursor<'_>, at: u32) -> Result<Query, Refused>
     ensures { Gives query_of (spec.extraction depth (spec.within depth) at toks.old.at toks.old.kinds) result toks.new }
 {
     let (items, spec) = extracted(alloc, depth, toks)?;

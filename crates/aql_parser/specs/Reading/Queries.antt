@@ -27,7 +27,12 @@ read_limit = optional (sees "limit") an_int
 
 abbrev pub made_clauses : List Term × (Option Cons × (List Term × (List Term × Option Number))) → Clauses
 made_clauses parts = record {
-  conds = parts.0; cons = parts.1.0; group = parts.1.1.0; order = parts.1.1.1.0; limit = parts.1.1.1.1 }
+  conds = parts.0;
+  cons = parts.1.0;
+  group = parts.1.1.0;
+  order = parts.1.1.1.0;
+  limit = parts.1.1.1.1;
+}
 
 unfoldable pub read_clauses : ℕ → Reader Clauses
 read_clauses depth =

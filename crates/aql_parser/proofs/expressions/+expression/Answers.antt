@@ -10,12 +10,12 @@ use Rattle.aql_parser.proofs.expressions.+expression.Goals as goal
 pub arguments-returns-then-not-eat : goal.arguments-returns-then-not-eat
 arguments-returns-then-not-eat t c =
     list_returns term_of (sees_sign ",") (read_term c.args.depth) _ _ _ c.in_ok-arg.arg _ _ _ _ _
-        c.loop-turn.invariant c.loop-turn-test.true c.in_ok-push.ensures.items c.in_ok-arg.ensures c.if-not-eat.ensures
+    c.loop-turn.invariant c.loop-turn-test.true c.in_ok-push.ensures.items c.in_ok-arg.ensures c.if-not-eat.ensures
 
 pub arguments-loop-turn-preserved : goal.arguments-loop-turn-preserved
 arguments-loop-turn-preserved t c =
     list_continues term_of (sees_sign ",") (read_term c.args.depth) _ _ _ c.in_ok-arg.arg _ _ _ _ _
-        c.loop-turn.invariant c.loop-turn-test.true c.in_ok-push.ensures.items c.in_ok-arg.ensures c.if-not-eat.ensures
+    c.loop-turn.invariant c.loop-turn-test.true c.in_ok-push.ensures.items c.in_ok-arg.ensures c.if-not-eat.ensures
 
 pub arguments-loop-turn-init : goal.arguments-loop-turn-init
 arguments-loop-turn-init t c =
@@ -24,4 +24,4 @@ arguments-loop-turn-init t c =
 pub call-returns : goal.call-returns
 call-returns t c =
     subst (λ (calls : ℕ → List ℕ → Reader Term). Gives term_of (calls c.args.at c.args.word.now c.args.toks.now.at c.args.toks.now.kinds) c.after_paren.result c.after_paren.new.toks)
-        (sym (calls_more c.args.depth (omega arith))) c.after_paren.ensures
+    (sym (calls_more c.args.depth (omega arith))) c.after_paren.ensures

@@ -12,9 +12,9 @@ loop-turn-init c =
 pub returns-then-not-eat : goal.returns-then-not-eat
 returns-then-not-eat c =
     list_returns item_of (sees_sign ",") (read_item c.args.depth) _ _ _ c.in_ok-one.one _ _ _ _ _
-        c.loop-turn.invariant c.loop-turn-test.true c.in_ok-push.ensures.items c.in_ok-one.ensures c.if-not-eat.ensures
+    c.loop-turn.invariant c.loop-turn-test.true c.in_ok-push.ensures.items c.in_ok-one.ensures c.if-not-eat.ensures
 
 pub loop-turn-preserved : goal.loop-turn-preserved
 loop-turn-preserved c =
     list_continues item_of (sees_sign ",") (read_item c.args.depth) _ _ _ c.in_ok-one.one _ _ _ _ _
-        c.loop-turn.invariant c.loop-turn-test.true c.in_ok-push.ensures.items c.in_ok-one.ensures c.if-not-eat.ensures
+    c.loop-turn.invariant c.loop-turn-test.true c.in_ok-push.ensures.items c.in_ok-one.ensures c.if-not-eat.ensures

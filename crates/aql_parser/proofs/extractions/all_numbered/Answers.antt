@@ -12,9 +12,9 @@ loop-turn-init c =
 pub returns-then-not-eat_word : goal.returns-then-not-eat_word
 returns-then-not-eat_word c =
     list_returns group_of (sees "and") (read_numbered) _ _ _ c.in_ok-group.group _ _ _ _ _
-        c.loop-turn.invariant c.loop-turn-test.true c.in_ok-push.ensures.items c.in_ok-group.ensures c.if-not-eat_word.ensures
+    c.loop-turn.invariant c.loop-turn-test.true c.in_ok-push.ensures.items c.in_ok-group.ensures c.if-not-eat_word.ensures
 
 pub loop-turn-preserved : goal.loop-turn-preserved
 loop-turn-preserved c =
     list_continues group_of (sees "and") (read_numbered) _ _ _ c.in_ok-group.group _ _ _ _ _
-        c.loop-turn.invariant c.loop-turn-test.true c.in_ok-push.ensures.items c.in_ok-group.ensures c.if-not-eat_word.ensures
+    c.loop-turn.invariant c.loop-turn-test.true c.in_ok-push.ensures.items c.in_ok-group.ensures c.if-not-eat_word.ensures

@@ -16,4 +16,4 @@ returns-then-begins_sought c =
 pub loop-turn-preserved : goal.loop-turn-preserved
 loop-turn-preserved c =
     items_continue item_of begins_sought (item_before c.args.depth) _ _ _ _ _ c.loop-turn.invariant c.loop-turn-test.true (sym c.if-begins_sought.ensures)
-        _ c.in_ok-one.one _ c.in_ok-push.ensures.items c.in_ok-one.ensures
+    _ c.in_ok-one.one _ c.in_ok-push.ensures.items c.in_ok-one.ensures

@@ -1,5 +1,4 @@
 use Rattle.std.proofs.Common.{◌≡◌, ◌-◌}
-
 use Rattle.aql_parser.specs.Readers.{prefixed, listed, separated, sees_sign}
 use Rattle.aql_parser.specs.Reading.Statements.{a_text}
 use Rattle.aql_parser.proofs.statements.texts.Given as goal
