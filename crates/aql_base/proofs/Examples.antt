@@ -1,5 +1,5 @@
 -- Rows of the definitions, computed.
-use Rattle.std.proofs.Common.{◌≡◌, ℕ, List, [], ◌∷◌, refl, nat_cmp}
+use Rattle.std.proofs.Common.{◌≡◌, ℕ, [], ◌∷◌, refl, nat_cmp}
 use Rattle.std.specs.Ordering.{on}
 use Rattle.aql_base.specs.Bags.{count_of}
 use Rattle.aql_base.specs.Sorting.{put_in_order, sorted_by}
