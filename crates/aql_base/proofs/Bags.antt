@@ -1,5 +1,5 @@
 -- Laws of bags: an equivalence that append, map, filter and flat map keep.
-use Rattle.std.proofs.Common.{◌≡◌, ℕ, zero, suc, ◌<◌, Bool, true, false, cond, List, [], ◌∷◌, ◌++◌, map, length, get_or, set, filter, flat_map, refl, subst, append_assoc, arith}
+use Rattle.std.proofs.Common.{sym, ◌≡◌, ℕ, zero, suc, ◌<◌, Bool, true, false, cond, List, [], ◌∷◌, ◌++◌, map, length, get_or, set, filter, flat_map, refl, subst, append_assoc, arith}
 use Rattle.std.specs.List as holes
 use Rattle.std.proofs.lemmas.List.Sorted.{IsPermutation-refl, IsPermutation-sym, IsPermutation-trans, IsPermutation-append, IsPermutation-append_comm, IsPermutation-append_left, IsPermutation-append_right, IsPermutation-map, IsPermutation-keeps}
 use Rattle.aql_base.specs.Bags.{SameBag}
@@ -79,3 +79,29 @@ module _ {X : Type 0} (p : X → Bool) where
 
   pub SameBag-filter : (xs ys : List X) → SameBag xs ys → SameBag (filter p xs) (filter p ys)
   SameBag-filter xs ys h = rw (← filter_is xs, ← filter_is ys) (SameBag-flat_map kept xs ys h)
+
+module _ {Y Z : Type 0} where
+  -- what each element gives to two lists may stand together
+  pub SameBag-flat_map_append : (f g : Y → List Z) (ys : List Y) → SameBag (flat_map f ys ++ flat_map g ys) (flat_map (λ y. f y ++ g y) ys)
+  SameBag-flat_map_append f g [] = SameBag-refl []
+  SameBag-flat_map_append f g (y ∷ ys) =
+      let fs = flat_map f ys in
+      let gs = flat_map g ys in
+      let first : SameBag ((f y ++ fs) ++ (g y ++ gs)) (f y ++ (fs ++ (g y ++ gs))) = SameBag-is _ _ (append_assoc (f y) fs (g y ++ gs)) in
+      let exchanged : SameBag (f y ++ (fs ++ (g y ++ gs))) (f y ++ (g y ++ (fs ++ gs))) = IsPermutation-append_right (f y) (fs ++ (g y ++ gs)) (g y ++ (fs ++ gs)) (SameBag-exchange fs (g y) gs) in
+      let together : SameBag (f y ++ (g y ++ (fs ++ gs))) ((f y ++ g y) ++ (fs ++ gs)) = SameBag-is _ _ (sym (append_assoc (f y) (g y) (fs ++ gs))) in
+      let rest : SameBag ((f y ++ g y) ++ (fs ++ gs)) ((f y ++ g y) ++ flat_map (λ z. f z ++ g z) ys) = IsPermutation-append_right (f y ++ g y) (fs ++ gs) (flat_map (λ z. f z ++ g z) ys) (SameBag-flat_map_append f g ys) in
+      SameBag-trans _ _ _ first (SameBag-trans _ _ _ exchanged (SameBag-trans _ _ _ together rest))
+
+abbrev none_of : {Y : Type 0} (Z : Type 0) → Y → List Z
+none_of Z y = []
+
+nothing : {Y : Type 0} (Z : Type 0) (ys : List Y) → flat_map (none_of Z) ys ≡ []
+nothing Z [] = refl
+nothing Z (y ∷ ys) = nothing Z ys
+
+-- the pairs of two lists are one bag, whichever list is gone through first
+pub SameBag-pairs : {X Y Z : Type 0} (f : X → Y → List Z) (xs : List X) (ys : List Y) → SameBag (flat_map (λ x. flat_map (f x) ys) xs) (flat_map (λ y. flat_map (λ x. f x y) xs) ys)
+SameBag-pairs {X} {Y} {Z} f [] ys = SameBag-is _ _ (sym (nothing Z ys))
+SameBag-pairs f (x ∷ xs) ys =
+    SameBag-trans _ _ _ (IsPermutation-append_right (flat_map (f x) ys) _ _ (SameBag-pairs f xs ys)) (SameBag-flat_map_append (f x) (λ y. flat_map (λ z. f z y) xs) ys)

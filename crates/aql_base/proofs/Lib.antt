@@ -5,3 +5,5 @@ pub mod Counts
 pub mod Sorting
 -- lists in which no value occurs twice
 pub mod Distinct
+-- rows of the definitions
+mod Examples

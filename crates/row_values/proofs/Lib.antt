@@ -4,3 +4,5 @@ pub mod Sorted
 mod Kept
 -- the order of an output's columns
 mod ColumnOrder
+-- rows of the definitions
+mod Examples

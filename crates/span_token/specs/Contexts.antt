@@ -17,18 +17,20 @@ left_of s n = record { begin = s.begin - how_many n; end = s.begin }
 abbrev pub right_of : ℕ → Extent → ℤ → Extent
 right_of len s n = record { begin = s.end; end = min len (s.end + how_many n) }
 
--- the tokens that end at or before a place, and those that begin at or after it
+-- the tokens that end at or before a place
 abbrev pub ended_by : List Extent → ℕ → List Extent
 ended_by tokens place = filter (λ t. nat_le t.end place) tokens
 
+-- the tokens that begin at or after a place
 abbrev pub begun_from : List Extent → ℕ → List Extent
 begun_from tokens place = filter (λ t. nat_le place t.begin) tokens
 
--- the begin of the first of some tokens, and the end of the last; `place` where there is none
+-- the begin of the first of some tokens, or `place` where there is none
 abbrev pub first_begin : ℕ → List Extent → ℕ
 first_begin place [] = place
 first_begin place (t ∷ ts) = t.begin
 
+-- the end of the last of some tokens, or `place` where there is none
 abbrev pub last_end : ℕ → List Extent → ℕ
 last_end place [] = place
 last_end place (t ∷ ts) = last_end t.end ts

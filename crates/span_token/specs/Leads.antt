@@ -1,6 +1,5 @@
 -- Where characters begin among the bytes of a text.
-use Rattle.std.specs.Prelude.{ℕ, ◌≡◌, Bool, ◌||◌, List, take, count_by, IsCharBoundary}
-use Rattle.std.specs.Prelude.{nat_lt, nat_le}
+use Rattle.std.specs.Prelude.{ℕ, ◌≡◌, Bool, ◌||◌, List, take, count_by, nat_lt, nat_le, IsCharBoundary}
 
 -- a byte that begins a character
 abbrev pub begins_char : ℕ → Bool

@@ -35,18 +35,21 @@ combined a b = record { begin = min a.begin b.begin; end = max a.end b.end }
 abbrev pub gap_of : Extent → Extent → Extent
 gap_of a b = record { begin = a.end; end = max a.end b.begin }
 
--- the relations as tests
+-- `Follows` as a test
 abbrev pub does_follow : Extent → Extent → ℤ → ℤ → Bool
 does_follow a b low high =
     nat_le a.end b.begin && (int_le low (pos (b.begin - a.end)) && int_le (pos (b.begin - a.end)) high)
 
+-- `FollowsTok` as a test
 abbrev pub does_follow_tok : List Extent → Extent → Extent → ℤ → ℤ → Bool
 does_follow_tok tokens a b low high =
     nat_le a.end b.begin
     && (int_le low (pos (tokens_between tokens a.end b.begin)) && int_le (pos (tokens_between tokens a.end b.begin)) high)
 
+-- `Overlaps` as a test
 abbrev pub do_overlap : Extent → Extent → Bool
 do_overlap a b = (nat_lt a.begin b.end && nat_lt b.begin a.end) || (a.begin == b.begin && a.end == b.end)
 
+-- `ContainsExtent` as a test
 abbrev pub does_contain : Extent → Extent → Bool
 does_contain a b = nat_le a.begin b.begin && nat_le b.end a.end

@@ -20,6 +20,7 @@ pub record IsMark (cs : List ℕ) (e : Extent) : Type 0 where
   pub no_word_char : is_word_char (slice_index cs e.begin) ≡ false
   pub no_space : is_white_space (slice_index cs e.begin) ≡ false
 
+-- a word, or a single other character
 abbrev pub IsToken : List ℕ → Extent → Type 0
 IsToken cs e = IsWord cs e ⊎ IsMark cs e
 

@@ -21,7 +21,6 @@ pub(crate) fn ascii_tokens(alloc: Global, bytes: &[u8]) -> Result<Vec<Span>, Out
         at = span.end as usize;
         spans.push(span)?;
     }
-    spans.shrink_to_fit();
     Ok(spans)
 }
 

@@ -42,8 +42,8 @@ impl<'d> Model for Document<'d> {
 impl<'d> Document<'d> {
     /// The document of `text`, which has at most 16,777,216 bytes, with its label.
     ///
-    /// Finds the tokens and keeps them, 8 bytes each. Where the text isn't ASCII, a table of 4 bytes
-    /// for each 64 bytes of text tells its characters from its bytes.
+    /// Finds the tokens and keeps them, 8 bytes each, in a list that grows by doubling. Where the text
+    /// isn't ASCII, a table of 4 bytes for each 64 bytes of text tells its characters from its bytes.
     pub fn new(
         alloc: Global,
         text: &'d str,

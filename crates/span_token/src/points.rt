@@ -35,6 +35,7 @@ pub(crate) fn step(text: &str, at: Point) -> Option<(Class, Point)>
 }
 
 /// The same by decoding the character.
+#[inline(never)]
 fn step_beyond(text: &str, at: Point) -> Option<(Class, Point)>
     requires point { IsPoint text.now at }
     requires short { length text.now ≤ 16777216 }

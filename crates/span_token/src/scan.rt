@@ -39,6 +39,7 @@ impl<'a> TokenScan<'a> {
     }
 
     /// The next token.
+    #[inline(always)]
     pub(crate) fn next(&mut self) -> Option<Span>
         ensures { MatchOption result (self.old ≡ []) (λ span. self.old ≡ extent_of span ∷ self.new) }
     {
@@ -49,6 +50,7 @@ impl<'a> TokenScan<'a> {
 }
 
 /// The first token from a point on, and the point after it.
+#[inline(always)]
 fn next_token(text: &str, from: Point) -> Option<(Span, Point)>
     requires point { IsPoint text.now from }
     requires seam { IsSeam (chars text.now) from.place }

@@ -4,9 +4,11 @@ ghost use Rattle.span_token.specs.Extents.{extent_of};
 ghost use Rattle.span_token.specs.Documents.{LiesIn};
 
 use crate::{
-    Document, Span, between, combine, contains, follows, follows_tok, left_context,
-    left_context_tok, overlaps, right_context, right_context_tok, tokens_of_text,
+    Document, Failure, OutOfMemory, OwnedList, OwnedText, Span, between, combine, contains,
+    follows, follows_tok, left_context, left_context_tok, overlaps, right_context,
+    right_context_tok, tokens_of_text,
 };
+use std::alloc::Global;
 use std::process::Abort;
 use std::test::Fail;
 use std::thread;
@@ -348,6 +350,15 @@ fn a_document_is_shared_among_threads(rt: HostRuntime) -> Result<(), Fail> {
     Ok(())
 }
 
+#[test]
+fn a_document_is_sent_to_a_thread(rt: HostRuntime) -> Result<(), Fail> {
+    let here = Document::new(rt.alloc(), "Zoë met Bo.", None)?;
+    let sent = Document::new(rt.alloc(), "no one", None)?;
+    let counts = thread::join(&rt, || here.token_count(), move || sent.token_count());
+    assert_eq!(rt; counts, (4, 2));
+    Ok(())
+}
+
 /// The documents of texts, in a list.
 fn documents<'d>(rt: &impl AllocGlobal, texts: &[&'d str]) -> Result<Vec<Document<'d>>, Fail> {
     let mut docs = Vec::new(rt.alloc());
@@ -372,5 +383,43 @@ fn documents_are_kept_in_a_list(rt: HostRuntime) -> Result<(), Fail> {
     let docs = documents(&rt, &["one two", "three"])?;
     assert_eq!(rt; docs.len(), 2);
     assert_eq!(rt; most_tokens(&docs), 2);
+    Ok(())
+}
+
+#[test]
+fn owned_texts_and_lists_keep_what_they_are_given(rt: HostRuntime) -> Result<(), Fail> {
+    let text = OwnedText::copied(rt.alloc(), "né")?;
+    assert_eq!(rt; text.as_str(), "né");
+    let again = OwnedText::from(text.into_string());
+    assert_eq!(rt; again.as_str(), "né");
+    let mut list = OwnedList::new(rt.alloc());
+    list.push(7)?;
+    list.push(5)?;
+    assert_eq!(rt; list.len(), 2);
+    assert_eq!(rt; list.as_slice(), [7, 5].as_slice());
+    let again = OwnedList::from(list.into_vec());
+    assert_eq!(rt; again.as_slice(), [7, 5].as_slice());
+    Ok(())
+}
+
+/// A call with a cause of its own, and its want of memory.
+fn first_word(alloc: Global, text: &str) -> Result<OwnedText, Failure<u8>> {
+    let Some((word, _)) = text.split_once(' ') else {
+        return Err(Failure::Fault(1));
+    };
+    let mut copy = String::from_str(alloc, word)?;
+    copy.push('.')?;
+    Ok(OwnedText::copied(alloc, copy.as_str())?)
+}
+
+#[test]
+fn a_failure_names_its_cause(rt: HostRuntime) -> Result<(), Fail> {
+    assert_eq!(rt; first_word(rt.alloc(), "one two")?.as_str(), "one.");
+    let Err(failure) = first_word(rt.alloc(), "one") else {
+        return Err(Fail::from("a word"));
+    };
+    assert!(rt; failure == Failure::Fault(1));
+    let shown = format!(in rt.alloc(); "{}", OutOfMemory)?;
+    assert_eq!(rt; shown.as_str(), "out of memory");
     Ok(())
 }

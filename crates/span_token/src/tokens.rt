@@ -35,7 +35,6 @@ fn decoded_tokens(alloc: Global, text: &str) -> Result<Vec<Span>, OutOfMemory>
     while let Some(span) = scan.next() {
         spans.push(span)?;
     }
-    spans.shrink_to_fit();
     Ok(spans)
 }
 
