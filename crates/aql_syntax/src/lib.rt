@@ -4,6 +4,7 @@
 //! Stands on `aql_lexer` for tokens and on `span_token` for owned text.
 #![tactic(auto)]
 
+mod making;
 mod names;
 mod printing;
 mod tree;
