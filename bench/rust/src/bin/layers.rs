@@ -1,0 +1,313 @@
+//! The work of the benches of `aql_bench`, written by hand over the crate `regex` and std. For comparison only.
+//!
+//! usage: layers NAME FILE ROUNDS
+use std::time::{Duration, Instant};
+
+/// A span of characters, half-open, from 0.
+#[derive(Clone, Copy, PartialEq, Eq, PartialOrd, Ord)]
+struct Span {
+    begin: u32,
+    end: u32,
+}
+
+/// A value of a row.
+#[derive(Clone, Copy, PartialEq, Eq, PartialOrd, Ord)]
+#[allow(dead_code)]
+enum Value<'d> {
+    Null,
+    Int(i64),
+    Bool(bool),
+    Text(&'d str),
+    Span(Span),
+}
+
+#[derive(Clone, Copy, PartialEq, Eq)]
+enum Class {
+    Space,
+    Word,
+    Other,
+}
+
+const fn class_of_byte(byte: u8) -> Class {
+    match byte {
+        b' ' | b'\t' | b'\n' | b'\r' | 0x0b | 0x0c => Class::Space,
+        b'0'..=b'9' | b'A'..=b'Z' | b'a'..=b'z' => Class::Word,
+        _ => Class::Other,
+    }
+}
+
+const CLASSES: [Class; 128] = {
+    let mut classes = [Class::Other; 128];
+    let mut byte = 0;
+    while byte < 128 {
+        classes[byte] = class_of_byte(byte as u8);
+        byte += 1;
+    }
+    classes
+};
+
+/// std's own tables: alphabetic, numeric and white space; it has none for marks.
+fn class_of_char(c: char) -> Class {
+    if c.is_ascii() {
+        CLASSES[c as usize]
+    } else if c.is_alphanumeric() {
+        Class::Word
+    } else if c.is_whitespace() {
+        Class::Space
+    } else {
+        Class::Other
+    }
+}
+
+fn ascii_tokens(bytes: &[u8]) -> Vec<Span> {
+    let mut spans = Vec::new();
+    let mut at = 0;
+    while at < bytes.len() {
+        match CLASSES[bytes[at] as usize] {
+            Class::Space => at += 1,
+            Class::Other => {
+                spans.push(Span { begin: at as u32, end: at as u32 + 1 });
+                at += 1;
+            }
+            Class::Word => {
+                let begin = at;
+                while at < bytes.len() && CLASSES[bytes[at] as usize] == Class::Word {
+                    at += 1;
+                }
+                spans.push(Span { begin: begin as u32, end: at as u32 });
+            }
+        }
+    }
+    spans
+}
+
+fn decoded_tokens(text: &str) -> Vec<Span> {
+    let mut spans = Vec::new();
+    let mut word = None;
+    let mut place = 0;
+    for c in text.chars() {
+        match (class_of_char(c), word) {
+            (Class::Word, None) => word = Some(place),
+            (Class::Word, Some(_)) => {}
+            (class, before) => {
+                if let Some(begin) = before {
+                    spans.push(Span { begin, end: place });
+                    word = None;
+                }
+                if class == Class::Other {
+                    spans.push(Span { begin: place, end: place + 1 });
+                }
+            }
+        }
+        place += 1;
+    }
+    if let Some(begin) = word {
+        spans.push(Span { begin, end: place });
+    }
+    spans
+}
+
+/// The number of characters before each block of 64 bytes.
+fn blocks(text: &str) -> Vec<u32> {
+    let mut counts = Vec::with_capacity(text.len() / 64 + 1);
+    let mut count = 0;
+    for block in text.as_bytes().chunks(64) {
+        counts.push(count);
+        count += block.iter().filter(|byte| (**byte & 0xc0) != 0x80).count() as u32;
+    }
+    counts
+}
+
+/// A text with what a document keeps of it.
+struct Document<'t> {
+    text: &'t str,
+    tokens: Vec<Span>,
+    blocks: Option<Vec<u32>>,
+}
+
+impl<'t> Document<'t> {
+    fn new(text: &'t str) -> Document<'t> {
+        if text.is_ascii() {
+            Document { text, tokens: ascii_tokens(text.as_bytes()), blocks: None }
+        } else {
+            Document { text, tokens: decoded_tokens(text), blocks: Some(blocks(text)) }
+        }
+    }
+
+    /// The number of characters before a byte.
+    fn place(&self, byte: usize) -> u32 {
+        match &self.blocks {
+            None => byte as u32,
+            Some(blocks) => {
+                let block = byte / 64;
+                let (before, from) = match blocks.get(block) {
+                    Some(count) => (*count, block * 64),
+                    None => (*blocks.last().unwrap_or(&0), (blocks.len().max(1) - 1) * 64),
+                };
+                let bytes = &self.text.as_bytes()[from..byte];
+                before + bytes.iter().filter(|byte| (**byte & 0xc0) != 0x80).count() as u32
+            }
+        }
+    }
+
+    /// The byte at which a character begins.
+    fn byte(&self, place: u32) -> usize {
+        match &self.blocks {
+            None => place as usize,
+            Some(blocks) => {
+                let block = blocks.partition_point(|count| *count <= place).max(1) - 1;
+                let mut at = block * 64;
+                let bytes = self.text.as_bytes();
+                while at < bytes.len() && (bytes[at] & 0xc0) == 0x80 {
+                    at += 1;
+                }
+                let mut count = blocks.get(block).copied().unwrap_or(0);
+                while count < place {
+                    at += 1;
+                    while at < bytes.len() && (bytes[at] & 0xc0) == 0x80 {
+                        at += 1;
+                    }
+                    count += 1;
+                }
+                at
+            }
+        }
+    }
+}
+
+fn documents(text: &str) -> Vec<Document<'_>> {
+    text.lines().map(Document::new).collect()
+}
+
+/// Runs a bench so many times and prints the speed of its best round.
+fn run(name: &str, bytes: usize, rounds: u32, mut round: impl FnMut() -> u64) {
+    let mut best = Duration::MAX;
+    let mut came = 0;
+    for _ in 0..rounds.max(1) {
+        let start = Instant::now();
+        came = round();
+        best = best.min(start.elapsed());
+    }
+    let nanos = best.as_nanos().max(1);
+    let speed = bytes as u128 * 1000 / nanos;
+    eprintln!("{name}: {speed} MB/s, best of {rounds}, {} us, came to {came}", nanos / 1000);
+}
+
+fn matches(name: &str, text: &str, rounds: u32, pattern: &str) {
+    let regex = regex::Regex::new(pattern).expect("a pattern");
+    let docs = documents(text);
+    let mut found = Vec::new();
+    run(name, text.len(), rounds, || {
+        let mut count = 0;
+        for doc in &docs {
+            found.clear();
+            for at in regex.find_iter(doc.text) {
+                found.push(Some(Span { begin: doc.place(at.start()), end: doc.place(at.end()) }));
+            }
+            count += found.len() as u64;
+        }
+        count
+    });
+}
+
+fn token_runs(name: &str, text: &str, rounds: u32, pattern: &str) {
+    let regex = regex::Regex::new(&format!("^(?:{pattern})$")).expect("a pattern");
+    let docs = documents(text);
+    let mut found = Vec::new();
+    run(name, text.len(), rounds, || {
+        let mut count = 0;
+        for doc in &docs {
+            found.clear();
+            for i in 0..doc.tokens.len() {
+                let begin = doc.byte(doc.tokens[i].begin);
+                for k in (1..=4.min(doc.tokens.len() - i)).rev() {
+                    let end = doc.byte(doc.tokens[i + k - 1].end);
+                    if regex.is_match(&doc.text[begin..end]) {
+                        found.push(Some(Span { begin: doc.tokens[i].begin, end: doc.tokens[i + k - 1].end }));
+                        break;
+                    }
+                }
+            }
+            count += found.len() as u64;
+        }
+        count
+    });
+}
+
+/// Swaps each place with one far from it.
+fn mix(pairs: &mut [(Span, Span)]) {
+    let count = pairs.len();
+    let mut other = 0usize;
+    for i in 0..count {
+        other = other.wrapping_add(0x9e37_79b9) % count;
+        pairs.swap(i, other);
+    }
+}
+
+/// Rows of two spans in one flat list, made and walked; sorted by their numbers where they aren't in order.
+fn rows(name: &str, text: &str, rounds: u32, order: &str) {
+    let spans = if text.is_ascii() { ascii_tokens(text.as_bytes()) } else { decoded_tokens(text) };
+    let mut pairs: Vec<(Span, Span)> = spans.iter().copied().zip(spans.iter().copied().skip(1)).collect();
+    match order {
+        "falling" => pairs.reverse(),
+        "mixed" => mix(&mut pairs),
+        _ => {}
+    }
+    run(name, text.len(), rounds, || {
+        let mut values: Vec<Value> = Vec::new();
+        for (first, second) in &pairs {
+            values.push(Value::Span(*first));
+            values.push(Value::Span(*second));
+        }
+        let mut sum = 0u64;
+        let mut walk = |row: &[Value]| {
+            for value in row {
+                if let Value::Span(span) = value {
+                    sum = sum.wrapping_mul(31).wrapping_add(u64::from(span.begin));
+                }
+            }
+        };
+        let row = |i: u32| &values[2 * i as usize..2 * i as usize + 2];
+        if values.chunks(2).zip(values.chunks(2).skip(1)).all(|(a, b)| a <= b) {
+            values.chunks(2).for_each(&mut walk);
+        } else {
+            let mut numbers: Vec<u32> = (0..pairs.len() as u32).collect();
+            numbers.sort_unstable_by(|a, b| row(*a).cmp(row(*b)));
+            numbers.iter().for_each(|i| walk(row(*i)));
+        }
+        sum
+    });
+}
+
+fn main() {
+    let words: Vec<String> = std::env::args().collect();
+    let [_, name, file, rounds] = words.as_slice() else {
+        eprintln!("usage: layers NAME FILE ROUNDS");
+        std::process::exit(2);
+    };
+    let text = std::fs::read_to_string(file).expect("the file");
+    let rounds: u32 = rounds.parse().expect("the number of rounds");
+    let found = |pattern| matches(name, &text, rounds, pattern);
+    match name.as_str() {
+        "tokens" => run(name, text.len(), rounds, || {
+            text.lines().map(|line| Document::new(line).tokens.len() as u64).sum()
+        }),
+        "digits" => found("[0-9]+"),
+        "dates" => found(r"\b\d{4}-\d{2}-\d{2}\b"),
+        "addresses" => found(r"[A-Za-z0-9._%+-]+@[A-Za-z0-9.-]+\.[A-Za-z]{2,}"),
+        "words" => found("about|after|again|below|could|every|first|found|great|house|large|never|other|place|right|small|sound|still|their|where"),
+        "folded" => found(r"(?i)\b(meeting|agreement|contract|energy|power)\b"),
+        "names" => token_runs(name, &text, rounds, "[A-Z][a-z]+( [A-Z][a-z]+)*"),
+        "nested-repeat" => found("(a+)+$"),
+        "twofold-choice" => found("(a|a)*b"),
+        "optional-letters" => found("(?:a?){50}a{50}"),
+        "thousand-letters" => found(r"\w{1000}"),
+        "rows-rising" => rows(name, &text, rounds, "rising"),
+        "rows-falling" => rows(name, &text, rounds, "falling"),
+        "rows-mixed" => rows(name, &text, rounds, "mixed"),
+        _ => {
+            eprintln!("no bench has the name {name}");
+            std::process::exit(2);
+        }
+    }
+}

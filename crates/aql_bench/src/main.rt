@@ -1,0 +1,202 @@
+//! Benches of the library crates: the work of each on one text, timed.
+//!
+//! With no words each bench makes one round over a short text, and prints what it came to and nothing
+//! of time, so that the gate runs them all. With the words `NAME FILE ROUNDS` one bench goes over a file
+//! that many times, and the speed of its best round is printed to standard error, in megabytes of the
+//! file a second. `bench/layers` runs them beside the same work in Rust. Stands on the crates that it
+//! measures.
+#![tactic(auto)]
+
+mod bench;
+mod lexing;
+mod patterns;
+mod rows;
+mod tokens;
+
+use anyhow::{Context, Result, bail};
+use aql_regex_extract::{Searcher, WholeSearcher, compile_pattern};
+use bench::{Mode, run};
+use lexing::Lexing;
+use patterns::{Matches, Runs};
+use rows::{Order, RowPairs, pairs};
+use span_token::tokens_of_text;
+use std::io::Eprint;
+use std::rt::{Clock, Files};
+use std::{env, fs};
+use tokens::{Tokens, documents};
+
+/// A bench: what it measures.
+#[derive(Clone, Copy)]
+enum Kind {
+    /// Documents with their tokens.
+    Tokens,
+    /// The successive matches of a pattern.
+    Pattern(&'static str),
+    /// The runs of 1 to 4 tokens of a pattern.
+    TokenRuns(&'static str),
+    /// Rows of two spans, made in an order, sorted and walked.
+    Rows(Order),
+    /// The tokens of a program text.
+    ProgramTokens,
+}
+
+/// The benches with their names.
+const BENCHES: [(&str, Kind); 15] = [
+    ("tokens", Kind::Tokens),
+    ("digits", Kind::Pattern("[0-9]+")),
+    ("dates", Kind::Pattern(r"\b\d{4}-\d{2}-\d{2}\b")),
+    (
+        "addresses",
+        Kind::Pattern(r"[A-Za-z0-9._%+-]+@[A-Za-z0-9.-]+\.[A-Za-z]{2,}"),
+    ),
+    (
+        "words",
+        Kind::Pattern(
+            "about|after|again|below|could|every|first|found|great|house|large|never|other|place|right|small|sound|still|their|where",
+        ),
+    ),
+    (
+        "folded",
+        Kind::Pattern(r"(?i)\b(meeting|agreement|contract|energy|power)\b"),
+    ),
+    ("names", Kind::TokenRuns("[A-Z][a-z]+( [A-Z][a-z]+)*")),
+    ("nested-repeat", Kind::Pattern("(a+)+$")),
+    ("twofold-choice", Kind::Pattern("(a|a)*b")),
+    ("optional-letters", Kind::Pattern("(?:a?){50}a{50}")),
+    ("thousand-letters", Kind::Pattern(r"\w{1000}")),
+    ("rows-rising", Kind::Rows(Order::Rising)),
+    ("rows-falling", Kind::Rows(Order::Falling)),
+    ("rows-mixed", Kind::Rows(Order::Mixed)),
+    ("program-tokens", Kind::ProgramTokens),
+];
+
+/// The text of the rounds with no words.
+const TEXT: &str = "create view Ann as extract regex /[0-9]+/ on d.text as n from Document d;
+output view Ann;
+-- Bo Li met zoë after the Meeting at bo@example.org on 2024-05-17, 12:30
+";
+
+/// Runs one bench over `text`.
+fn run_kind<R: Eprint + Print + Clock + AllocGlobal>(
+    rt: &R,
+    mode: Mode,
+    name: &str,
+    kind: Kind,
+    text: &str,
+) -> Result<()> {
+    let alloc = rt.alloc();
+    match kind {
+        Kind::Tokens => run(rt, mode, name, &mut Tokens { alloc, text }),
+        Kind::Pattern(pattern) => run_matches(rt, mode, name, pattern, text),
+        Kind::TokenRuns(pattern) => run_runs(rt, mode, name, pattern, text),
+        Kind::Rows(order) => run_rows(rt, mode, name, order, text),
+        Kind::ProgramTokens => run(rt, mode, name, &mut Lexing { alloc, text }),
+    }
+}
+
+fn run_matches<R: Eprint + Print + Clock + AllocGlobal>(
+    rt: &R,
+    mode: Mode,
+    name: &str,
+    pattern: &str,
+    text: &str,
+) -> Result<()> {
+    let alloc = rt.alloc();
+    let Ok(pattern) = compile_pattern(alloc, pattern) else {
+        bail!("{name}: no pattern");
+    };
+    let docs = documents(alloc, text)?;
+    let searcher = Searcher::new(alloc, &pattern)?;
+    run(
+        rt,
+        mode,
+        name,
+        &mut Matches {
+            searcher,
+            docs: docs.as_slice(),
+            found: Vec::new(alloc),
+        },
+    )
+}
+
+fn run_runs<R: Eprint + Print + Clock + AllocGlobal>(
+    rt: &R,
+    mode: Mode,
+    name: &str,
+    pattern: &str,
+    text: &str,
+) -> Result<()> {
+    let alloc = rt.alloc();
+    let Ok(pattern) = compile_pattern(alloc, pattern) else {
+        bail!("{name}: no pattern");
+    };
+    let docs = documents(alloc, text)?;
+    let searcher = WholeSearcher::new(alloc, &pattern)?;
+    run(
+        rt,
+        mode,
+        name,
+        &mut Runs {
+            searcher,
+            docs: docs.as_slice(),
+            found: Vec::new(alloc),
+        },
+    )
+}
+
+fn run_rows<R: Eprint + Print + Clock + AllocGlobal>(
+    rt: &R,
+    mode: Mode,
+    name: &str,
+    order: Order,
+    text: &str,
+) -> Result<()> {
+    let alloc = rt.alloc();
+    if text.len() > tokens::LIMIT {
+        bail!("{name}: the file is too long");
+    }
+    let spans = tokens_of_text(alloc, text)?;
+    let pairs = pairs(alloc, spans.as_slice(), order)?;
+    run(rt, mode, name, &mut RowPairs { alloc, pairs })
+}
+
+/// Each bench once over the short text.
+fn run_all<R: Eprint + Print + Clock + AllocGlobal>(rt: &R) -> Result<()> {
+    for (name, kind) in BENCHES {
+        run_kind(rt, Mode::Told, name, kind, TEXT)?;
+    }
+    Ok(())
+}
+
+/// The bench that `name` names, over the file, so many times.
+fn run_named<R: Eprint + Print + Clock + Files + AllocGlobal>(
+    rt: &R,
+    name: &str,
+    file: &str,
+    rounds: &str,
+) -> Result<()> {
+    let Some((_, kind)) = BENCHES.iter().find(|bench| bench.0 == name) else {
+        bail!("no bench has the name {name}");
+    };
+    let rounds = rounds.parse::<u32>().context("the number of rounds")?;
+    let text = fs::read_to_string(rt, file).context("the file")?;
+    run_kind(
+        rt,
+        Mode::Timed {
+            rounds,
+            bytes: text.len(),
+        },
+        name,
+        *kind,
+        text.as_str(),
+    )
+}
+
+fn main(rt: HostRuntime) -> Result<()> {
+    let words = env::args(&rt)?.skip(1).collect::<Vec<String>>(rt.alloc())?;
+    match words.as_slice() {
+        [] => run_all(&rt),
+        [name, file, rounds] => run_named(&rt, name.as_str(), file.as_str(), rounds.as_str()),
+        _ => bail!("usage: aql_bench [NAME FILE ROUNDS]"),
+    }
+}

@@ -1,0 +1,47 @@
+//! Patterns with a kept searcher.
+
+use crate::bench::Bench;
+use aql_regex_extract::{Searcher, WholeSearcher};
+use span_token::{Document, OutOfMemory, Span};
+
+/// The successive matches of a pattern in each document.
+#[derive(Drop)]
+pub(crate) struct Matches<'p, 'd> {
+    pub searcher: Searcher<'p>,
+    pub docs: &'d [Document<'d>],
+    pub found: Vec<Option<Span>>,
+}
+
+impl Bench for Matches<'_, '_> {
+    fn round(&mut self) -> Result<u64, OutOfMemory> {
+        let mut count = 0u64;
+        for doc in self.docs {
+            self.found.clear();
+            self.searcher
+                .find_all(doc, doc.whole(), &[0], &mut self.found)?;
+            count = count.wrapping_add(self.found.len() as u64);
+        }
+        Ok(count)
+    }
+}
+
+/// The runs of 1 to 4 tokens of a pattern in each document.
+#[derive(Drop)]
+pub(crate) struct Runs<'p, 'd> {
+    pub searcher: WholeSearcher<'p>,
+    pub docs: &'d [Document<'d>],
+    pub found: Vec<Option<Span>>,
+}
+
+impl Bench for Runs<'_, '_> {
+    fn round(&mut self) -> Result<u64, OutOfMemory> {
+        let mut count = 0u64;
+        for doc in self.docs {
+            self.found.clear();
+            self.searcher
+                .find_token_runs(doc, doc.whole(), 1, 4, &[0], &mut self.found)?;
+            count = count.wrapping_add(self.found.len() as u64);
+        }
+        Ok(count)
+    }
+}
