@@ -9,3 +9,4 @@ pub mod Chains
 pub mod Products
 pub mod TokenRunLemmas
 pub mod TokenRunLaws
+pub mod RunRowsUnique

@@ -1,6 +1,6 @@
-ghost use Rattle.std.specs.Prelude.{◌≡◌, ◌≤◌, map, IfOk, All};
+ghost use Rattle.std.specs.Prelude.{◌≡◌, ◌≤◌, List, Option, map, IfOk, All};
 ghost use Rattle.span_token.specs.Documents.{LiesIn, text_in};
-ghost use Rattle.span_token.specs.Extents.{extent_of};
+ghost use Rattle.span_token.specs.Extents.{Extent, extent_of};
 ghost use Rattle.aql_regex_extract.specs.Matches.{has_match, match_rows, extents_of_rows, IsInside};
 ghost use Rattle.aql_regex_extract.specs.Patterns.{whole_form};
 ghost use Rattle.aql_regex_extract.specs.TokenRuns.{run_rows, AreRunRows};
@@ -42,7 +42,7 @@ pub fn find_all(
 /// overlap. A run is one entry for each number in `groups`, in that order, as its first match has them,
 /// None for a group that takes no part. Spans count characters of `doc`.
 ///
-/// Meaning: `AreRunRows`, and `run_rows` as a function, `specs/TokenRuns.antt`.
+/// Meaning: `AreRunRows`, `specs/TokenRuns.antt`; just one list of rows has it, `run_rows`.
 pub fn find_token_runs(
     alloc: Global,
     p: &Pattern,
@@ -56,6 +56,8 @@ pub fn find_token_runs(
     requires at_least_one { 1 ≤ low }
     ensures longest { IfOk result (λ rows. AreRunRows p.now doc.now (extent_of source) low high groups.now
         (extents_of_rows rows.items)) }
+    ensures unique { IfOk result (λ rows. (others : List (List (Option Extent)))
+        → AreRunRows p.now doc.now (extent_of source) low high groups.now others → others ≡ extents_of_rows rows.items) }
     ensures runs { IfOk result (λ rows. extents_of_rows rows.items
         ≡ run_rows p.now doc.now (extent_of source) low high groups.now) }
     ensures within { IfOk result (λ rows. All (λ row. All (IsInside (extent_of source)) row.items) rows.items) }
