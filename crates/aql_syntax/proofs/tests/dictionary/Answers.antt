@@ -1,4 +1,4 @@
-use Rattle.std.proofs.Common.{◌≡◌, true, List, [], ◌∷◌, ◌++◌, Option, Some, None, option_map, refl, All}
+use Rattle.std.proofs.Common.{◌≡◌, true, [], ◌∷◌, Option, Some, None, option_map, refl}
 use Rattle.std.proofs.lemmas.List.Elements.{All-nil, All-cons}
 use Rattle.aql_lexer.specs.Kinds as k
 use Rattle.aql_syntax.specs.Spellings.{free, is_word, can_be_name}
@@ -7,7 +7,7 @@ use Rattle.aql_syntax.specs.Grammar.Extractions.{IsFlag, flag_text}
 use Rattle.aql_syntax.specs.Grammar.Queries.{IsExtracted}
 use Rattle.aql_syntax.specs.Trees.{Name, Flag, dict}
 use Rattle.aql_syntax.specs.Printing.{CanStand}
-use Rattle.aql_syntax.specs.Views.{name_of, flag_of, spec_of}
+use Rattle.aql_syntax.specs.Views.{name_of, flag_of}
 use Rattle.aql_syntax.proofs.HasTokens.{Has, has_nothing, has_token, has_then, has_keyword, has_column, has_output}
 use Rattle.aql_syntax.proofs.tests.dictionary.Goals as goal
 

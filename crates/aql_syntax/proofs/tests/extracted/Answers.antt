@@ -1,9 +1,7 @@
-use Rattle.std.proofs.Common.{◌≡◌, true, List, [], ◌∷◌, ◌++◌, Option, Some, None, ap, map, refl, All}
-use Rattle.aql_lexer.specs.Kinds.{Kind}
+use Rattle.std.proofs.Common.{◌≡◌, true, List, [], Some, None, ap, map, refl}
 use Rattle.aql_syntax.specs.Spellings.{free, is_word, can_be_name}
 use Rattle.aql_syntax.specs.Grammar.Queries.{IsExtracted, IsQuery}
 use Rattle.aql_syntax.specs.Trees.{Name, Term, Item, Spec, view, extract}
-use Rattle.aql_syntax.specs.Printing.{CanStand}
 use Rattle.aql_syntax.specs.Views.{name_of, spec_of, item_of, term_of}
 use Rattle.aql_syntax.proofs.HasTokens.{Has, has_nothing, has_then, has_keyword, has_name}
 use Rattle.aql_syntax.proofs.tests.extracted.Goals as goal

@@ -1,10 +1,7 @@
-use Rattle.std.proofs.Common.{◌≡◌, true, List, [], ◌∷◌, ◌++◌, refl, All}
-use Rattle.aql_lexer.specs.Kinds.{Kind}
+use Rattle.std.proofs.Common.{◌≡◌, refl}
 use Rattle.aql_syntax.specs.Spellings.{free, is_word}
-use Rattle.aql_syntax.specs.Parts.{Part, InParens}
 use Rattle.aql_syntax.specs.Grammar.Queries.{IsQuery}
 use Rattle.aql_syntax.specs.Trees.{Query, minus}
-use Rattle.aql_syntax.specs.Printing.{CanStand}
 use Rattle.aql_syntax.specs.Views.{query_of}
 use Rattle.aql_syntax.proofs.HasTokens.{Has, has_then, has_keyword, has_parens}
 use Rattle.aql_syntax.proofs.tests.minus.Goals as goal

@@ -1,13 +1,10 @@
-use Rattle.std.proofs.Common.{◌≡◌, ◌⊎◌, inl, inr, ℕ, Bool, true, List, [], ◌∷◌, ◌++◌, Option, Some, None, ◌∙◌, ap, map, option_map, refl, append_assoc, codes, All}
-use Rattle.std.proofs.lemmas.List.Elements.{All-append, All-nil, All-cons}
-use Rattle.std.specs.Str.{byte}
-use Prim.Native.String.{String}
+use Rattle.std.proofs.Common.{◌≡◌, inr, true, List, [], ◌∷◌, ◌++◌, Option, Some, None, ◌∙◌, ap, map, option_map, refl, codes}
+use Rattle.std.proofs.lemmas.List.Elements.{All-nil, All-cons}
 use Rattle.aql_lexer.specs.Kinds.{Kind}
 use Rattle.aql_lexer.specs.Kinds as k
 use Rattle.aql_syntax.specs.Spellings.{free, is_word, can_be_name}
-use Rattle.aql_syntax.specs.Parts.{Part, ◌▸◌, ◌or◌, Nothing, Token, Symbol, Keyword, IsName, IsInt, Optional}
-use Rattle.aql_syntax.specs.Grammar.Expressions.{IsColumn}
-use Rattle.aql_syntax.specs.Grammar.Extractions.{IsRange, IsBound, IsOutput, IsPattern}
+use Rattle.aql_syntax.specs.Parts.{◌or◌, Keyword, IsInt, Optional}
+use Rattle.aql_syntax.specs.Grammar.Extractions.{IsRange, IsBound}
 use Rattle.aql_syntax.specs.Grammar.Queries.{IsExtracted}
 use Rattle.aql_syntax.specs.Trees.{Name, Number, Range, one, two, Group, pattern}
 use Rattle.aql_syntax.specs.Printing.{CanStand}

@@ -1,10 +1,8 @@
-use Rattle.std.proofs.Common.{◌≡◌, true, List, [], ◌∷◌, ◌++◌, ◌∙◌, ap, refl, All}
-use Rattle.aql_lexer.specs.Kinds.{Kind}
+use Rattle.std.proofs.Common.{◌≡◌, List, [], ◌∷◌, ◌∙◌, ap, refl}
 use Rattle.aql_syntax.specs.Spellings.{free, is_word}
-use Rattle.aql_syntax.specs.Parts.{Part, ◌▸◌, Keyword, InParens}
+use Rattle.aql_syntax.specs.Parts.{Part, ◌▸◌, Keyword}
 use Rattle.aql_syntax.specs.Grammar.Queries.{IsQuery}
 use Rattle.aql_syntax.specs.Trees.{Query, union, as_queries}
-use Rattle.aql_syntax.specs.Printing.{CanStand}
 use Rattle.aql_syntax.specs.Views.{query_of}
 use Rattle.aql_syntax.proofs.HasTokens.{Has, has_nothing, has_then, has_keyword, has_parens}
 use Rattle.aql_syntax.proofs.tests.union.Goals as goal

@@ -1,11 +1,8 @@
-use Rattle.std.proofs.Common.{◌≡◌, true, List, [], ◌∷◌, ◌++◌, refl, All}
-use Rattle.std.proofs.lemmas.List.{append-nil}
-use Rattle.aql_lexer.specs.Kinds.{Kind}
+use Rattle.std.proofs.Common.{◌≡◌, true, refl}
 use Rattle.aql_syntax.specs.Spellings.{free, is_word, can_be_name}
 use Rattle.aql_syntax.specs.Grammar.Queries.{IsQuery}
 use Rattle.aql_syntax.specs.Grammar.Statements.{IsStatement}
-use Rattle.aql_syntax.specs.Trees.{Name, Query, Statement, create}
-use Rattle.aql_syntax.specs.Printing.{CanBePrinted, CanStand}
+use Rattle.aql_syntax.specs.Trees.{Name, Query, create}
 use Rattle.aql_syntax.specs.Views.{name_of, query_of}
 use Rattle.aql_syntax.proofs.HasTokens.{can_be_printed, Has, has_then, has_keyword, has_symbol, has_name}
 use Rattle.aql_syntax.proofs.tests.view.Goals as goal
