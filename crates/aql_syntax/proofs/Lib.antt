@@ -3,3 +3,4 @@ pub mod Writing
 pub mod PrintingViews
 pub mod Prints
 pub mod PrintLaws
+pub mod HasTokens

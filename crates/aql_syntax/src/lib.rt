@@ -7,6 +7,8 @@
 mod making;
 mod names;
 mod printing;
+#[cfg(test)]
+mod tests;
 mod tree;
 
 pub use names::{is_reserved, same_word};
