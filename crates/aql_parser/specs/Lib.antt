@@ -1,0 +1,6 @@
+-- reading
+pub mod Readers
+pub mod Reading
+pub mod ClauseViews
+-- limits
+pub mod Nesting
