@@ -24,3 +24,7 @@ IsWithin depth kinds = (i : ℕ) → opens (take i kinds) ≤ depth + closes (ta
 pub record IsNesting (kinds : List Kind) (depth : ℕ) : Type 0 where
   pub within : All (IsWithin depth) (runs_of kinds)
   pub least : (other : ℕ) → All (IsWithin other) (runs_of kinds) → depth ≤ other
+
+-- no statement of the program nests deeper than `limit`
+abbrev pub NestsWithin : ℕ → List Kind → Type 0
+NestsWithin limit kinds = (depth : ℕ) × IsNesting kinds depth × (depth ≤ limit)
