@@ -1,9 +1,11 @@
 -- One statement's tokens at a time. Not in any public clause.
-use Rattle.std.specs.Prelude.{◌≡◌, ◌+◌, ◌<◌, ◌≤◌, ℕ, Ok, Err, Result, List, ◌∷◌, take, drop, length, ⊤}
+use Rattle.std.specs.Prelude.{◌≡◌, ◌<◌, ◌≤◌, ℕ, Bool, true, false, Ok, Err, Result, List, ◌∷◌, take, drop, length, ⊤}
 use Rattle.span_token.specs.declared.refusal.Failure.{Failure}
 use Rattle.span_token.specs.declared.refusal.Failure.TheVariants.{OutOfMemory, Fault}
 use Rattle.aql_lexer.specs.Kinds.{Kind}
 use Rattle.aql_syntax.specs.declared.tree.Statement.{Statement}
+use Rattle.aql_syntax.specs.Trees.{module_}
+use Rattle.aql_syntax.specs.Trees.{Statement as Tree}
 use Rattle.aql_syntax.specs.Places.{placed_statement}
 use Rattle.aql_syntax.specs.Views.{statement_of}
 use Rattle.aql_syntax.specs.Programs.{HasTokens, runs_of}
@@ -20,6 +22,10 @@ pub record IsFirstRun (kinds : List Kind) (len : ℕ) : Type 0 where
 pub record IsLeastDepth (kinds : List Kind) (depth : ℕ) : Type 0 where
   pub within : IsWithin depth kinds
   pub least : (other : ℕ) → IsWithin other kinds → depth ≤ other
+
+abbrev pub is_module : Tree → Bool
+is_module (module_ name) = true
+is_module _ = false
 
 -- the statement, with `before` others before it, of which `run` is all tokens and the first has the number `at`
 pub record IsTree (at : ℕ) (run : List Kind) (before : ℕ) (tree : Statement) : Type 0 where

@@ -7,10 +7,10 @@ ghost use Rattle.aql_syntax.specs.Views.{statement_of};
 ghost use Rattle.aql_syntax.specs.Programs.{AreTokensOf, placed_in};
 ghost use Rattle.aql_parser.specs.Nesting.{NestsWithin, IsWithin};
 ghost use Rattle.aql_parser.specs.Faults.{IsFaultOf, IsDecided};
-ghost use Rattle.aql_parser.specs.Runs.{IsTreeOf};
+ghost use Rattle.aql_parser.specs.Runs.{IsTreeOf, is_module};
 
 use crate::cursor::{Cursor, NoTree, Refused};
-use crate::measure::{MAX_NESTING, first_run};
+use crate::measuring::{MAX_NESTING, first_run};
 use crate::statements::statement;
 use aql_lexer::Tok;
 use aql_syntax::Statement;
@@ -38,7 +38,9 @@ fn whole(alloc: Global, run: &[Tok], at: u32, before: usize) -> Result<Statement
     Ok(tree)
 }
 
-fn is_module(tree: &Statement) -> bool {
+fn is_module(tree: &Statement) -> bool
+    ensures { result ≡ is_module (statement_of tree.now) }
+{
     match tree {
         Statement::Module(_) => true,
         _ => false,
