@@ -59,10 +59,10 @@ close_is (k.regex t) = refl
 
 -- one token more
 pub opens-push : (front : List Kind) (kind : Kind) → opens (front ++ kind ∷ []) ≡ opens front + cond (is_sign "(" kind) 1 0
-opens-push front kind = sum_by-append (λ x. cond (is_sign "(" x) 1 0) front (kind ∷ [])
+opens-push front kind = omega (arith, sum_by-append (λ x. cond (is_sign "(" x) 1 0) front (kind ∷ []))
 
 pub closes-push : (front : List Kind) (kind : Kind) → closes (front ++ kind ∷ []) ≡ closes front + cond (is_sign ")" kind) 1 0
-closes-push front kind = sum_by-append (λ x. cond (is_sign ")" x) 1 0) front (kind ∷ [])
+closes-push front kind = omega (arith, sum_by-append (λ x. cond (is_sign ")" x) 1 0) front (kind ∷ []))
 
 -- what is within a depth with all its tokens is so with fewer
 within_front : (d : ℕ) (front : List Kind) (kind : Kind) → IsWithin d (front ++ kind ∷ []) → IsWithin d front
@@ -82,10 +82,10 @@ least_push front kind n h =
     let all = front ++ kind ∷ [] in
     record {
       within = λ i. ⊎_elim
-          (λ past.
+          (λ (past : length front < i).
           let same : take i all ≡ all = take_all i all (omega (arith, length_push front kind)) in
           rw same (omega arith))
-          (λ early.
+          (λ (early : i ≤ length front).
           let same : take i all ≡ take i front = take-append-le i front (kind ∷ []) early in
           rw same (omega (arith, h.within i)))
           (cases_lt (length front) i);
@@ -122,10 +122,10 @@ least_end front kind n h ends =
     end_closes (k.regex t) ends = absurd (false≢true ends)
 
 -- the first tokens, of which none ends a statement, with their parentheses
-pub record HasBegun (kinds : List Kind) (i open close nesting : ℕ) : Type 0 where
+pub record HasBegun (kinds : List Kind) (i opened closed nesting : ℕ) : Type 0 where
   pub runs : runs_of kinds ≡ begun (take i kinds) (runs_of (drop i kinds))
-  pub open_are : open ≡ opens (take i kinds)
-  pub close_are : close ≡ closes (take i kinds)
+  pub open_are : opened ≡ opens (take i kinds)
+  pub close_are : closed ≡ closes (take i kinds)
   pub depth : IsLeastDepth (take i kinds) nesting
   pub inside : i ≤ length kinds
 
@@ -138,21 +138,21 @@ pub record IsNext (kinds : List Kind) (i : ℕ) (kind : Kind) : Type 0 where
   pub taken : take (i + 1) kinds ≡ take i kinds ++ kind ∷ []
   pub there : i < length kinds
 
-pub goes_on : (kinds : List Kind) (i open close nesting : ℕ) (kind : Kind) → HasBegun kinds i open close nesting → IsNext kinds i kind → is_end kind ≡ false → HasBegun kinds (i + 1) (open + cond (is_sign "(" kind) 1 0) (close + cond (is_sign ")" kind) 1 0) (max nesting ((open + cond (is_sign "(" kind) 1 0) - (close + cond (is_sign ")" kind) 1 0)))
-goes_on kinds i open close nesting kind h next no_end =
-    let opened : open + cond (is_sign "(" kind) 1 0 ≡ opens (take (i + 1) kinds) = rw next.taken (ap (λ (n : ℕ). n + cond (is_sign "(" kind) 1 0) h.open_are ∙ sym (opens-push (take i kinds) kind)) in
-    let closed : close + cond (is_sign ")" kind) 1 0 ≡ closes (take (i + 1) kinds) = rw next.taken (ap (λ (n : ℕ). n + cond (is_sign ")" kind) 1 0) h.close_are ∙ sym (closes-push (take i kinds) kind)) in
+pub goes_on : (kinds : List Kind) (i opened closed nesting : ℕ) (kind : Kind) → HasBegun kinds i opened closed nesting → IsNext kinds i kind → is_end kind ≡ false → HasBegun kinds (i + 1) (opened + cond (is_sign "(" kind) 1 0) (closed + cond (is_sign ")" kind) 1 0) (max nesting ((opened + cond (is_sign "(" kind) 1 0) - (closed + cond (is_sign ")" kind) 1 0)))
+goes_on kinds i opened closed nesting kind h next no_end =
+    let open_now : opened + cond (is_sign "(" kind) 1 0 ≡ opens (take (i + 1) kinds) = rw next.taken (ap (λ (n : ℕ). n + cond (is_sign "(" kind) 1 0) h.open_are ∙ sym (opens-push (take i kinds) kind)) in
+    let close_now : closed + cond (is_sign ")" kind) 1 0 ≡ closes (take (i + 1) kinds) = rw next.taken (ap (λ (n : ℕ). n + cond (is_sign ")" kind) 1 0) h.close_are ∙ sym (closes-push (take i kinds) kind)) in
     let more : runs_of (drop i kinds) ≡ begun_with kind (runs_of (drop (i + 1) kinds)) = rw (next.dropped, no_end) refl in
     record {
       runs = h.runs ∙ ap (begun (take i kinds)) more ∙ sym (begun-push (take i kinds) kind (runs_of (drop (i + 1) kinds))) ∙ ap (λ (front : List Kind). begun front (runs_of (drop (i + 1) kinds))) (sym next.taken);
-      open_are = opened;
-      close_are = closed;
-      depth = rw (opened, closed, next.taken) (least_push (take i kinds) kind nesting h.depth);
+      open_are = open_now;
+      close_are = close_now;
+      depth = rw (open_now, close_now, next.taken) (least_push (take i kinds) kind nesting h.depth);
       inside = omega (arith, next.there);
     }
 
-pub run_ends : (kinds : List Kind) (i open close nesting : ℕ) (kind : Kind) → HasBegun kinds i open close nesting → IsNext kinds i kind → is_end kind ≡ true → IsFirstRun kinds (i + 1) × IsLeastDepth (take (i + 1) kinds) nesting
-run_ends kinds i open close nesting kind h next ends =
+pub run_ends : (kinds : List Kind) (i opened closed nesting : ℕ) (kind : Kind) → HasBegun kinds i opened closed nesting → IsNext kinds i kind → is_end kind ≡ true → IsFirstRun kinds (i + 1) × IsLeastDepth (take (i + 1) kinds) nesting
+run_ends kinds i opened closed nesting kind h next ends =
     let last : runs_of (drop i kinds) ≡ (kind ∷ []) ∷ runs_of (drop (i + 1) kinds) = rw (next.dropped, ends) refl in
     (
       record {
@@ -163,8 +163,8 @@ run_ends kinds i open close nesting kind h next ends =
       rw next.taken (least_end (take i kinds) kind nesting h.depth ends),
     )
 
-pub run_is_all : (kinds : List Kind) (i open close nesting : ℕ) → HasBegun kinds i open close nesting → length kinds ≤ i → 0 < length kinds → IsFirstRun kinds (length kinds) × IsLeastDepth (take (length kinds) kinds) nesting
-run_is_all kinds i open close nesting h all some =
+pub run_is_all : (kinds : List Kind) (i opened closed nesting : ℕ) → HasBegun kinds i opened closed nesting → length kinds ≤ i → 0 < length kinds → IsFirstRun kinds (length kinds) × IsLeastDepth (take (length kinds) kinds) nesting
+run_is_all kinds i opened closed nesting h all some =
     let taken : take i kinds ≡ kinds = take_all i kinds all in
     let dropped : drop i kinds ≡ [] = drop_all i kinds all in
     let whole : take (length kinds) kinds ≡ kinds = take_all (length kinds) kinds (omega arith) in

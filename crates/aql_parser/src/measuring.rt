@@ -33,16 +33,16 @@ pub fn first_run(toks: &[Tok]) -> Run
     ensures run { IsFirstRun (kinds_of toks.now) result.len }
     ensures nesting { IsLeastDepth (take result.len (kinds_of toks.now)) result.nesting }
 {
-    let mut open = 0;
-    let mut close = 0;
+    let mut opened = 0;
+    let mut closed = 0;
     let mut nesting = 0u32;
     for (i, tok) in toks.iter().enumerate() {
         if is_symbol(&tok.kind, b';') {
             return Run { len: i + 1, nesting };
         }
-        open += u32::from(is_symbol(&tok.kind, b'('));
-        close += u32::from(is_symbol(&tok.kind, b')'));
-        nesting = nesting.max(open.saturating_sub(close));
+        opened += u32::from(is_symbol(&tok.kind, b'('));
+        closed += u32::from(is_symbol(&tok.kind, b')'));
+        nesting = nesting.max(opened.saturating_sub(closed));
     }
     Run { len: toks.len(), nesting }
 }
