@@ -1,9 +1,9 @@
 -- Programs: what their statements are read as, and that they have one list of statements or one fault.
-use Rattle.std.proofs.Common.{◌≡◌, ◌∙◌, ◌⊎◌, inl, inr, ⊎_elim, ℕ, zero, suc, ◌+◌, ◌-◌, ◌<◌, ◌≤◌, Bool, true, false, List, [], ◌∷◌, ◌++◌, length, map, take, drop, Option, Some, None, Ok, Err, Result, MatchResult, refl, ap, sym, subst, arith, append_assoc}
+use Rattle.std.proofs.Common.{◌≡◌, ◌∙◌, ◌⊎◌, inl, inr, ⊎_elim, ℕ, zero, suc, ◌+◌, ◌-◌, ◌<◌, ◌≤◌, Bool, true, false, ◌&&◌, Decides, if◌then◌else◌, List, [], ◌∷◌, ◌++◌, length, map, take, drop, get_or, Option, Some, None, Ok, Err, Result, MatchResult, refl, ap, sym, subst, arith, append_assoc}
 use Rattle.std.specs.Bool.{⊤}
 use Rattle.std.specs.List.{All, AllZip, sum_by}
 use Rattle.std.proofs.lemmas.Bool.{false≢true}
-use Rattle.std.proofs.lemmas.List.{length-drop, length-map, length-take, length_push, drop-map, drop-drop, nil_from_length, append-nil}
+use Rattle.std.proofs.lemmas.List.{length-drop, length-map, length-take, length_push, take-map, drop-map, drop-drop, nil_from_length, append-nil}
 use Rattle.std.proofs.lemmas.List.Elements.{All-nil, All-cons, All-head, All-tail}
 use Rattle.std.proofs.lemmas.List.Sums.{count_by-le-length, sum_by-append, sum_by-cons}
 use Rattle.span_token.specs.declared.refusal.Failure.{Failure}
@@ -16,11 +16,12 @@ use Rattle.aql_syntax.specs.Places.{placed_statement}
 use Rattle.aql_syntax.specs.Trees.{Statement, module_, require, export, dictionary, create, output}
 use Rattle.aql_syntax.specs.Views.{statement_of}
 use Rattle.aql_syntax.specs.Programs.{is_end, begun_with, runs_of, IsNoModule, HasTokens, AreTokensOf, placed_from, placed_in}
-use Rattle.aql_parser.specs.Nesting.{is_sign, opens, closes, IsWithin}
+use Rattle.aql_parser.specs.Nesting.{is_sign, IsWithin, NestsWithin}
 use Rattle.aql_parser.specs.Readers.{Left, Gives}
 use Rattle.aql_parser.specs.Reading.Statements.{read_statement}
-use Rattle.aql_parser.specs.Faults.{kinds_in, MayFollow, HasTree, HaveTrees, IsSyntaxFault, IsDecided}
-use Rattle.aql_parser.specs.Runs.{IsFirstRun, is_module, IsTree, IsTreeOf}
+use Rattle.aql_parser.specs.Faults.{kinds_in, MayFollow, HasTree, HaveTrees, IsSyntaxFault, IsDecided, IsFaultOf}
+use Rattle.aql_parser.specs.declared.parsing.SyntaxFault.{SyntaxFault}
+use Rattle.aql_parser.specs.Runs.{IsFirstRun, may_follow, IsKept, IsNamed, IsTree, IsTreeOf}
 use Rattle.aql_parser.proofs.Rules.{Found, Reads, none_some, some_parts}
 use Rattle.aql_parser.proofs.StatementRules.{placed_whole, reads_statement}
 
@@ -59,35 +60,29 @@ placed_no_module n (dictionary name entries) h = tt
 placed_no_module n (create name query) h = tt
 placed_no_module n (output name alias) h = tt
 
-no_module : (s : Statement) → is_module s ≡ false → IsNoModule s
-no_module (module_ name) h = absurd (false≢true (sym h))
-no_module require h = tt
-no_module (export name) h = tt
-no_module (dictionary name entries) h = tt
-no_module (create name query) h = tt
-no_module (output name alias) h = tt
-
-a_module : (s : Statement) → is_module s ≡ true → ¬ (IsNoModule s)
-a_module (module_ name) h w = w
-a_module require h w = false≢true h
-a_module (export name) h w = false≢true h
-a_module (dictionary name entries) h w = false≢true h
-a_module (create name query) h w = false≢true h
-a_module (output name alias) h w = false≢true h
-
 -- the same statement but for places follows as many
 may_follow_as : (before n : ℕ) (s t : Statement) → placed_statement n s ≡ placed_statement n t → MayFollow before s → MayFollow before t
 may_follow_as zero n s t same h = tt
 may_follow_as (suc before) n s t same h =
     placed_no_module n t (subst IsNoModule same (no_module_placed n s h))
 
-pub may_follow : (before : ℕ) (s : Statement) → is_module s ≡ false → MayFollow before s
-may_follow zero s h = tt
-may_follow (suc before) s h = no_module s h
+does_follow : (before : ℕ) (s : Statement) → may_follow before s ≡ true → MayFollow before s
+does_follow zero s h = tt
+does_follow (suc before) (module_ name) h = absurd (false≢true h)
+does_follow (suc before) require h = tt
+does_follow (suc before) (export name) h = tt
+does_follow (suc before) (dictionary name entries) h = tt
+does_follow (suc before) (create name query) h = tt
+does_follow (suc before) (output name alias) h = tt
 
-may_not_follow : (before : ℕ) (s : Statement) → 0 < before → is_module s ≡ true → ¬ (MayFollow before s)
-may_not_follow zero s some h w = omega arith
-may_not_follow (suc before) s some h w = a_module s h w
+does_not_follow : (before : ℕ) (s : Statement) → may_follow before s ≡ false → ¬ (MayFollow before s)
+does_not_follow zero s h w = false≢true (sym h)
+does_not_follow (suc before) (module_ name) h w = w
+does_not_follow (suc before) require h w = false≢true (sym h)
+does_not_follow (suc before) (export name) h w = false≢true (sym h)
+does_not_follow (suc before) (dictionary name entries) h w = false≢true (sym h)
+does_not_follow (suc before) (create name query) h w = false≢true (sym h)
+does_not_follow (suc before) (output name alias) h w = false≢true (sym h)
 
 -- what the reader refuses has no tree
 none_read : (d n before : ℕ) (run : List Kind) → IsWithin d run → read_statement d n run ≡ None → ¬ (HasTree before run)
@@ -108,64 +103,74 @@ read_whole d n m run s within reads =
     let read = read_is d n run s within tokens in
     (tokens, (some_parts _ _ _ _ _ _ (sym read.1 ∙ reads)).0)
 
--- a `module` that is read later has no tree there
-late_module : (before : ℕ) (run : List Kind) (s : Statement) → HasTokens s run → 0 < before → is_module s ≡ true → ¬ (HasTree before run)
-late_module before run s tokens some is tree =
-    may_not_follow before s some is (may_follow_as before 0 tree.0 s (one_statement 0 run tree.0 s tree.1 tokens) tree.2)
+-- what may not follow has no tree there
+late : (before : ℕ) (run : List Kind) (s : Statement) → HasTokens s run → may_follow before s ≡ false → ¬ (HasTree before run)
+late before run s tokens is tree =
+    does_not_follow before s is (may_follow_as before 0 tree.0 s (one_statement 0 run tree.0 s tree.1 tokens) tree.2)
 
 -- ---- the answers of the call that reads one statement
 
-pub tree_refused : {F : Type 0} (d at before : ℕ) (run : List Kind) (e : Failure F) (left : Left) → IsWithin d run → Gives {X = Written} statement_of (read_statement d at run) (Err e) left → IsTreeOf {F = F} at run before (Err e)
-tree_refused d at before run OutOfMemory left within h = tt
-tree_refused d at before run (Fault f) left within h = none_read d at before run within h
+pub tree_refused : {F : Type 0} (d at before : ℕ) (run : List Kind) (e : Failure F) (from left : Left) → IsWithin d run → from ≡ record { at = at; kinds = run } → Gives {X = Written} statement_of (read_statement d from.at from.kinds) (Err e) left → IsTreeOf {F = F} at run before (Err e)
+tree_refused d at before run OutOfMemory from left within is h = tt
+tree_refused d at before run (Fault f) from left within is h = none_read d at before run within (rw is at h)
 
-pub tree_left_over : (d at before : ℕ) (run : List Kind) (s : Written) (left : Left) → IsWithin d run → read_statement d at run ≡ Some (statement_of s, left.at, left.kinds) → ¬ (left.kinds ≡ []) → ¬ (HasTree before run)
-tree_left_over d at before run s left within h some = left_over d at before left.at run left.kinds (statement_of s) within h some
-
-pub tree_late : (d at before : ℕ) (run : List Kind) (s : Written) (left : Left) → IsWithin d run → read_statement d at run ≡ Some (statement_of s, left.at, left.kinds) → left.kinds ≡ [] → 0 < before → is_module (statement_of s) ≡ true → ¬ (HasTree before run)
-tree_late d at before run s left within h none some is =
-    late_module before run (statement_of s) (read_whole d at left.at run (statement_of s) within (rw none at h)).0 some is
-
-pub tree_read : (d at before : ℕ) (run : List Kind) (s : Written) (left : Left) → IsWithin d run → read_statement d at run ≡ Some (statement_of s, left.at, left.kinds) → left.kinds ≡ [] → MayFollow before (statement_of s) → IsTree at run before s
-tree_read d at before run s left within h none follows =
-    let read = read_whole d at left.at run (statement_of s) within (rw none at h) in
-    record { tokens = read.0; follows = follows; placed = read.1 }
+-- a statement is kept where all tokens are read and it may stand there
+pub tree_kept : {F : Type 0} (d at before : ℕ) (run : List Kind) (s : Written) (left : Left) (read_all follows : Bool) (answer : Result Written (Failure F)) → IsWithin d run → read_statement d at run ≡ Some (statement_of s, left.at, left.kinds) → Decides read_all (left.kinds ≡ []) → follows ≡ may_follow before (statement_of s) → IsKept s (read_all && follows) answer → IsTreeOf at run before answer
+tree_kept d at before run s left true true answer within reads all may h =
+    let none = all.0 refl in
+    let read = read_whole d at left.at run (statement_of s) within (rw none at reads) in
+    rw h (record { tokens = read.0; follows = does_follow before (statement_of s) (sym may); placed = read.1 })
+tree_kept d at before run s left true false (Err (Fault f)) within reads all may h =
+    let none = all.0 refl in
+    late before run (statement_of s) (read_whole d at left.at run (statement_of s) within (rw none at reads)).0 (sym may)
+tree_kept d at before run s left true false (Err OutOfMemory) within reads all may h = absurd h
+tree_kept d at before run s left true false (Ok t) within reads all may h = absurd h
+tree_kept d at before run s left false follows (Err (Fault f)) within reads all may h =
+    left_over d at before left.at run left.kinds (statement_of s) within reads (λ e. false≢true (all.1 e))
+tree_kept d at before run s left false follows (Err OutOfMemory) within reads all may h = absurd h
+tree_kept d at before run s left false follows (Ok t) within reads all may h = absurd h
 
 -- ---- runs
 
--- the runs have all tokens, and each has some
-runs_nonempty : (ks : List Kind) → All (λ run. 0 < length run) (runs_of ks)
-runs_nonempty [] = All-nil (λ run. 0 < length run)
-runs_nonempty (kind ∷ ks) = one_more (is_end kind) refl
-  where
-    joined : (runs : List (List Kind)) → All (λ run. 0 < length run) runs → All (λ run. 0 < length run) (begun_with kind runs)
-    joined [] h = All-cons (λ run. 0 < length run) (kind ∷ []) [] (omega arith) (All-nil (λ run. 0 < length run))
-    joined (run ∷ runs) h = All-cons (λ run. 0 < length run) (kind ∷ run) runs (omega arith) (All-tail (λ run. 0 < length run) run runs h)
-    one_more : (b : Bool) → is_end kind ≡ b → All (λ run. 0 < length run) (runs_of (kind ∷ ks))
-    one_more true is = rw is (All-cons (λ run. 0 < length run) (kind ∷ []) (runs_of ks) (omega arith) (runs_nonempty ks))
-    one_more false is = rw is (joined (runs_of ks) (runs_nonempty ks))
+-- a run with tokens
+abbrev HasSome : List Kind → Type 0
+HasSome run = 0 < length run
+
+some_joined : (kind : Kind) (runs : List (List Kind)) → All HasSome runs → All HasSome (begun_with kind runs)
+some_joined kind [] h = All-cons HasSome (kind ∷ []) [] (omega arith) (All-nil HasSome)
+some_joined kind (run ∷ runs) h = All-cons HasSome (kind ∷ run) runs (omega arith) (All-tail HasSome run runs h)
+
+some_first : (kind : Kind) (runs : List (List Kind)) (b : Bool) → All HasSome runs → All HasSome (if b then (kind ∷ []) ∷ runs else begun_with kind runs)
+some_first kind runs true h = All-cons HasSome (kind ∷ []) runs (omega arith) h
+some_first kind runs false h = some_joined kind runs h
+
+runs_nonempty : (ks : List Kind) → All HasSome (runs_of ks)
+runs_nonempty [] = All-nil HasSome
+runs_nonempty (kind ∷ ks) = some_first kind (runs_of ks) (is_end kind) (runs_nonempty ks)
+
+-- the runs have all tokens
+length_joined : (kind : Kind) (runs : List (List Kind)) → sum_by length (begun_with kind runs) ≡ suc (sum_by length runs)
+length_joined kind [] = refl
+length_joined kind (run ∷ runs) = omega (arith, sum_by-cons length (kind ∷ run) runs, sum_by-cons length run runs)
+
+length_first : (kind : Kind) (runs : List (List Kind)) (b : Bool) → sum_by length (if b then (kind ∷ []) ∷ runs else begun_with kind runs) ≡ suc (sum_by length runs)
+length_first kind runs true = omega (arith, sum_by-cons length (kind ∷ []) runs)
+length_first kind runs false = length_joined kind runs
 
 pub runs_length : (ks : List Kind) → sum_by length (runs_of ks) ≡ length ks
 runs_length [] = refl
-runs_length (kind ∷ ks) = one_more (is_end kind) refl
-  where
-    joined : (runs : List (List Kind)) → sum_by length (begun_with kind runs) ≡ suc (sum_by length runs)
-    joined [] = refl
-    joined (run ∷ runs) = omega (arith, sum_by-cons length (kind ∷ run) runs, sum_by-cons length run runs)
-    one_more : (b : Bool) → is_end kind ≡ b → sum_by length (runs_of (kind ∷ ks)) ≡ suc (length ks)
-    one_more true is = rw is (omega (arith, sum_by-cons length (kind ∷ []) (runs_of ks), runs_length ks))
-    one_more false is = rw is (joined (runs_of ks) ∙ ap suc (runs_length ks))
+runs_length (kind ∷ ks) = length_first kind (runs_of ks) (is_end kind) ∙ ap suc (runs_length ks)
 
 -- a run among others begins and ends within the tokens
 run_inside : (ks : List Kind) (before : List (List Kind)) (run : List Kind) (later : List (List Kind)) → runs_of ks ≡ before ++ run ∷ later → sum_by length before < length ks
 run_inside ks before run later split =
     let all : sum_by length (before ++ run ∷ later) ≡ length ks = sym (ap (sum_by length) split) ∙ runs_length ks in
-    let some : 0 < length run = nonempty before (subst (All (λ run. 0 < length run)) split (runs_nonempty ks)) in
+    let some : 0 < length run = nonempty before (subst (All HasSome) split (runs_nonempty ks)) in
     omega (arith, all, some, sum_by-append length before (run ∷ later), sum_by-cons length run later)
   where
-    nonempty : (before : List (List Kind)) → All (λ run. 0 < length run) (before ++ run ∷ later) → 0 < length run
-    nonempty [] h = All-head (λ run. 0 < length run) run later h
-    nonempty (x ∷ xs) h = nonempty xs (All-tail (λ run. 0 < length run) x (xs ++ run ∷ later) h)
+    nonempty : (before : List (List Kind)) → All HasSome (before ++ run ∷ later) → 0 < length run
+    nonempty [] h = All-head HasSome run later h
+    nonempty (x ∷ xs) h = nonempty xs (All-tail HasSome x (xs ++ run ∷ later) h)
 
 -- ---- all statements
 
@@ -241,7 +246,7 @@ pub record HasParsed (tokens rest : List Token) (ss : List Statement) : Type 0 w
 
 pub begins_parse : (tokens : List Token) → HasParsed tokens tokens []
 begins_parse tokens =
-    record { before = []; split = refl; trees = tt; left = refl; read = refl; few = omega arith }
+    record { before = []; split = refl; trees = tt; left = refl; read = omega arith; few = omega arith }
 
 -- one more statement, read at the number of its first token
 pub parses_run : (tokens rest : List Token) (ss : List Statement) (s : Statement) (at len : ℕ) → HasParsed tokens rest ss → at ≡ length tokens - length rest → IsFirstRun (kinds_in rest) len → HasTokens s (take len (kinds_in rest)) → MayFollow (length ss) s → placed_statement at s ≡ s → HasParsed tokens (drop len rest) (ss ++ s ∷ [])
@@ -335,9 +340,13 @@ program_from kinds h = all (runs_of kinds) refl h
         let more = trees_from 1 runs h.1 in
         (h.0.0 ∷ more.0, record { each = rw is (h.0.1, more.1); module_first = more.2 (omega arith) })
 
+-- the same with as many before
+tree_at : (m n : ℕ) (run : List Kind) → m ≡ n → HasTree m run → HasTree n run
+tree_at m n run same h = subst (λ (k : ℕ). HasTree k run) same h
+
 -- each run among others
 have_at : (n : ℕ) (before : List (List Kind)) (run : List Kind) (later : List (List Kind)) → HaveTrees n (before ++ run ∷ later) → HasTree (n + length before) run
-have_at n [] run later h = h.0
+have_at n [] run later h = tree_at n (n + 0) run (omega arith) h.0
 have_at n (x ∷ xs) run later h =
     let same : n + 1 + length xs ≡ n + suc (length xs) = omega arith in
     subst (λ (m : ℕ). HasTree m run) same (have_at (n + 1) xs run later h.1)
@@ -349,9 +358,9 @@ have_first n x xs h = h.0
 same_first : (n : ℕ) (b c : List (List Kind)) (r s : List Kind) (l m : List (List Kind)) → b ++ r ∷ l ≡ c ++ s ∷ m → HaveTrees n b → HaveTrees n c → ¬ (HasTree (n + length b) r) → ¬ (HasTree (n + length c) s) → b ≡ c
 same_first n [] [] r s l m same hb hc nr ns = refl
 same_first n [] (y ∷ ys) r s l m same hb hc nr ns =
-    let head : r ≡ y = cc in absurd (nr (subst (λ (x : List Kind). HasTree n x) (sym head) hc.0))
+    let head : r ≡ y = cc in absurd (nr (tree_at n (n + 0) r (omega arith) (subst (λ (x : List Kind). HasTree n x) (sym head) hc.0)))
 same_first n (x ∷ xs) [] r s l m same hb hc nr ns =
-    let head : x ≡ s = cc in absurd (ns (subst (λ (z : List Kind). HasTree n z) head hb.0))
+    let head : x ≡ s = cc in absurd (ns (tree_at n (n + 0) s (omega arith) (subst (λ (z : List Kind). HasTree n z) head hb.0)))
 same_first n (x ∷ xs) (y ∷ ys) r s l m same hb hc nr ns =
     let head : x ≡ y = cc in
     let tail : xs ++ r ∷ l ≡ ys ++ s ∷ m = cc in
@@ -364,12 +373,11 @@ same_first n (x ∷ xs) (y ∷ ys) r s l m same hb hc nr ns =
 tree_or_none : (before : ℕ) (run : List Kind) → HasTree before run ⊎ (¬ (HasTree before run))
 tree_or_none before run = by_reading (read_statement (length run) 0 run) refl
   where
-    by_module : (s : Statement) → HasTokens s run → (b : Bool) → is_module s ≡ b → (n : ℕ) → n ≡ before → HasTree before run ⊎ (¬ (HasTree before run))
-    by_module s tokens false is n same = inl (s, tokens, may_follow before s is)
-    by_module s tokens true is zero same = inl (s, tokens, subst (λ (k : ℕ). MayFollow k s) same tt)
-    by_module s tokens true is (suc n) same = inr (late_module before run s tokens (omega arith) is)
+    by_module : (s : Statement) → HasTokens s run → (b : Bool) → may_follow before s ≡ b → HasTree before run ⊎ (¬ (HasTree before run))
+    by_module s tokens true is = inl (s, tokens, does_follow before s is)
+    by_module s tokens false is = inr (late before run s tokens is)
     by_rest : (s : Statement) (m : ℕ) (rest : List Kind) → read_statement (length run) 0 run ≡ Some (s, m, rest) → HasTree before run ⊎ (¬ (HasTree before run))
-    by_rest s m [] reads = by_module s (read_whole (length run) 0 m run s (within_own run) reads).0 (is_module s) refl before refl
+    by_rest s m [] reads = by_module s (read_whole (length run) 0 m run s (within_own run) reads).0 (may_follow before s) refl
     by_rest s m (kind ∷ rest) reads = inr (left_over (length run) 0 before m run (kind ∷ rest) s (within_own run) reads (λ e. cc))
     by_reading : (o : Option (Statement × ℕ × List Kind)) → read_statement (length run) 0 run ≡ o → HasTree before run ⊎ (¬ (HasTree before run))
     by_reading None reads = inr (none_read (length run) 0 before run (within_own run) reads)
@@ -400,7 +408,7 @@ all_or_first n (run ∷ runs) = ⊎_elim
       none = subst (λ (k : ℕ). ¬ (HasTree k w.run)) same w.none;
     }))
     (all_or_first (n + 1) runs))
-    (λ none. inr (record { before = []; run = run; later = runs; split = refl; have = tt; none = none }))
+    (λ none. inr (record { before = []; run = run; later = runs; split = refl; have = tt; none = λ tree. none (tree_at (n + 0) n run (omega arith) tree) }))
     (tree_or_none n run)
 
 -- a list with more than n elements goes on after n
@@ -421,7 +429,7 @@ decided_first tokens (inr w) =
       later = w.later;
       runs = w.split;
       first_without = w.have;
-      no_tree = w.none;
+      no_tree = λ tree. w.none (tree_at (length w.before) (0 + length w.before) w.run (omega arith) tree);
       number = refl;
       first = next.0;
       others = next.1;
@@ -443,12 +451,12 @@ decided tokens = record {
   one_of_two = decided_first tokens (all_or_first 0 (runs_of (kinds_in tokens)));
   one_list = λ xs ys hx hy. lists_same 0 (runs_of (kinds_in tokens)) xs ys hx.each hy.each;
   one_fault = λ s t l m f g.
-      let before = same_first 0 f.before g.before f.run g.run f.later g.later (sym f.runs ∙ g.runs) f.first_without g.first_without f.no_tree g.no_tree in
+      let before = same_first 0 f.before g.before f.run g.run f.later g.later (sym f.runs ∙ g.runs) f.first_without g.first_without (λ tree. f.no_tree (tree_at (0 + length f.before) (length f.before) f.run (omega arith) tree)) (λ tree. g.no_tree (tree_at (0 + length g.before) (length g.before) g.run (omega arith) tree)) in
       let begins : f.first ∷ f.others ≡ g.first ∷ g.others = sym f.begins ∙ ap (λ (b : List (List Kind)). drop (sum_by length b) tokens) before ∙ g.begins in
       let first : f.first ≡ g.first = cc in
       (f.number ∙ ap (λ (b : List (List Kind)). length b + 1) before ∙ sym g.number, f.on_line ∙ ap (λ (t : Token). t.line) first ∙ sym g.on_line);
   not_both = λ ss s l h f.
-      f.no_tree (have_at 0 f.before f.run f.later (subst (HaveTrees 0) f.runs (have_trees (kinds_in tokens) ss h)));
+      f.no_tree (tree_at (0 + length f.before) (length f.before) f.run (omega arith) (have_at 0 f.before f.run f.later (subst (HaveTrees 0) f.runs (have_trees (kinds_in tokens) ss h))));
 }
 
 -- any statements with these tokens are the answer but for places
@@ -460,3 +468,68 @@ only_these toks ss others h other =
 pub no_others : (toks : List Tok) (others : List Statement) (statement line : ℕ) → IsSyntaxFault (map token_of toks) statement line → ¬ (AreTokensOf (kinds_of toks) others)
 no_others toks others statement line fault other =
     (decided (map token_of toks)).not_both others statement line (rw (kinds_seen toks) other) fault
+
+-- the refusal of a statement is the program's
+pub refused_there : {F : Type 0} (tokens rest others : List Token) (first : Token) (ss : List Statement) (statement at len : ℕ) (refused : Failure F) (failure : Failure SyntaxFault) → HasParsed tokens rest ss → rest ≡ first ∷ others → IsFirstRun (kinds_in rest) len → IsTreeOf {F = F} at (take len (kinds_in rest)) (length ss) (Err refused) → statement ≡ length ss + 1 → IsNamed refused statement first.line failure → IsFaultOf tokens failure
+refused_there tokens rest others first ss statement at len OutOfMemory failure h is run tree number named = rw named tt
+refused_there tokens rest others first ss statement at len (Fault f) failure h is run none number named =
+    rw named (stops_at tokens rest others first ss statement len h is run none number)
+
+-- where there are statements, a refusal is want of memory
+pub only_memory : (toks : List Tok) (others : List Statement) (failure : Failure SyntaxFault) → IsFaultOf (map token_of toks) failure → AreTokensOf (kinds_of toks) others → failure ≡ OutOfMemory
+only_memory toks others OutOfMemory fault other = refl
+only_memory toks others (Fault f) fault other = absurd (no_others toks others f.statement f.line fault other)
+
+-- ---- the turns of the loop
+
+seen_kinds : (n : ℕ) (rest : List Tok) → kinds_of (take n rest) ≡ take n (kinds_in (map token_of rest))
+seen_kinds n rest = sym (take-map (λ tok. kind_of tok.kind) n rest) ∙ ap (take n) (sym (kinds_seen rest))
+
+seen_run : (rest : List Tok) (len : ℕ) → IsFirstRun (kinds_of rest) len → IsFirstRun (kinds_in (map token_of rest)) len
+seen_run rest len run = rw (kinds_seen rest) run
+
+-- the next statement nests within the limit
+pub run_nested : (limit : ℕ) (toks rest : List Tok) (ss : List Statement) (len : ℕ) → NestsWithin limit (kinds_of toks) → HasParsed (map token_of toks) (map token_of rest) ss → IsFirstRun (kinds_of rest) len → IsWithin limit (kinds_of (take len rest))
+run_nested limit toks rest ss len nests h run =
+    let first = take len (kinds_of rest) in
+    let split : runs_of (kinds_of toks) ≡ h.before ++ first ∷ runs_of (drop len (kinds_of rest)) =
+    ap runs_of (sym (kinds_seen toks)) ∙ h.split ∙ ap (λ (ks : List Kind). h.before ++ runs_of ks) (kinds_seen rest) ∙ ap (λ (runs : List (List Kind)). h.before ++ runs) run.first in
+    let one = among (IsWithin nests.0) h.before first (runs_of (drop len (kinds_of rest))) (subst (All (IsWithin nests.0)) split nests.1.within) in
+    let same : kinds_of (take len rest) ≡ first = sym (take-map (λ tok. kind_of tok.kind) len rest) in
+    λ i. rw same (omega (arith, one i, nests.2))
+  where
+    among : (P : List Kind → Type 0) (before : List (List Kind)) (run : List Kind) (later : List (List Kind)) → All P (before ++ run ∷ later) → P run
+    among P [] run later h = All-head P run later h
+    among P (x ∷ xs) run later h = among P xs run later (All-tail P x (xs ++ run ∷ later) h)
+
+-- there are as many statements as runs, and no more than tokens
+pub few_parsed : (tokens rest : List Token) (ss : List Statement) → HasParsed tokens rest ss → length ss + length rest ≤ length tokens
+few_parsed tokens rest ss h = omega (arith, h.few, trees_count 0 0 ss h.before h.trees)
+
+first_of : (rest : List Tok) (first : Tok) → 1 ≤ length rest → first ≡ get_or rest 0 first → rest ≡ first ∷ drop 1 rest
+first_of [] first some is = absurd (omega arith)
+first_of (tok ∷ toks) first some is = ap (λ (t : Tok). t ∷ toks) (sym is)
+
+-- the fault of the next statement
+pub fault_is : {F : Type 0} (toks rest : List Tok) (first : Tok) (ss : List Statement) (statement at count len : ℕ) (refused : Failure F) (failure : Failure SyntaxFault) → HasParsed (map token_of toks) (map token_of rest) ss → 1 ≤ length rest → first ≡ get_or rest 0 first → IsFirstRun (kinds_of rest) len → IsTreeOf {F = F} at (kinds_of (take len rest)) count (Err refused) → count ≡ length ss → statement ≡ length ss + 1 → IsNamed refused statement first.line failure → IsFaultOf (map token_of toks) failure
+fault_is {F} toks rest first ss statement at count len refused failure h some is run tree as_many number named =
+    let here = ap (map token_of) (first_of rest first some is) in
+    let tree_there : IsTreeOf {F = F} at (take len (kinds_in (map token_of rest))) (length ss) (Err refused) =
+    subst (λ (n : ℕ). IsTreeOf {F = F} at (take len (kinds_in (map token_of rest))) n (Err refused)) as_many
+    (subst (λ (ks : List Kind). IsTreeOf {F = F} at ks count (Err refused)) (seen_kinds len rest) tree) in
+    refused_there (map token_of toks) (map token_of rest) (map token_of (drop 1 rest)) (token_of first) ss statement at len refused failure h here (seen_run rest len run) tree_there number named
+
+-- one statement more
+pub next_parsed : (toks rest : List Tok) (ss : List Statement) (s : Written) (at count len : ℕ) → HasParsed (map token_of toks) (map token_of rest) ss → IsFirstRun (kinds_of rest) len → IsTree at (kinds_of (take len rest)) count s → count ≡ length ss → at ≡ length toks - length rest → HasParsed (map token_of toks) (map token_of (drop len rest)) (ss ++ statement_of s ∷ [])
+next_parsed toks rest ss s at count len h run tree as_many is_at =
+    let tokens : HasTokens (statement_of s) (take len (kinds_in (map token_of rest))) = subst (λ (ks : List Kind). HasTokens (statement_of s) ks) (seen_kinds len rest) tree.tokens in
+    let follows : MayFollow (length ss) (statement_of s) = subst (λ (n : ℕ). MayFollow n (statement_of s)) as_many tree.follows in
+    let at_is : at ≡ length (map token_of toks) - length (map token_of rest) = omega (arith, is_at, length-map toks token_of, length-map rest token_of) in
+    rw (← drop-map token_of len rest)
+    (parses_run (map token_of toks) (map token_of rest) ss (statement_of s) at len h at_is (seen_run rest len run) tokens follows tree.placed)
+
+-- no token is left
+pub all_parsed : (toks rest : List Tok) (ss : List Statement) → HasParsed (map token_of toks) (map token_of rest) ss → length rest < 1 → AreAllTrees (kinds_of toks) ss
+all_parsed toks rest ss h none =
+    subst (λ (ks : List Kind). AreAllTrees ks ss) (kinds_seen toks)
+    (parsed (map token_of toks) (map token_of rest) ss h (omega (arith, length-map rest token_of)))
