@@ -1,19 +1,18 @@
 -- The clauses of queries are read.
-use Rattle.std.proofs.Common.{◌≡◌, ◌∙◌, ◌⊎◌, inl, inr, ⊎_elim, ℕ, zero, suc, ◌+◌, ◌<◌, ◌≤◌, Bool, true, false, List, [], ◌∷◌, length, Option, Some, None, refl, ap, sym, subst, arith, codes}
+use Rattle.std.proofs.Common.{◌≡◌, ℕ, suc, ◌+◌, false, List, Option, Some, None, refl, arith}
 use Prim.Native.String.{String}
 use Rattle.aql_lexer.specs.Kinds.{Kind}
 use Rattle.aql_lexer.specs.Kinds as k
-use Rattle.aql_syntax.specs.Spellings.{free, is_reserved, same_word}
-use Rattle.aql_syntax.specs.Parts.{Part, ◌▸◌, Nothing, Token, Symbol, Keyword, IsInt, Optional, Separated, Clause}
+use Rattle.aql_syntax.specs.Spellings.{free}
+use Rattle.aql_syntax.specs.Parts.{Part, ◌▸◌, Symbol, Keyword, Optional, Separated}
 use Rattle.aql_syntax.specs.Grammar.Expressions.{IsTerm}
 use Rattle.aql_syntax.specs.Grammar.Queries.{AreConds, IsPolicy, IsCons, IsLimit, AreKeys, AreClauses, IsTail}
-use Rattle.aql_syntax.specs.Places.{Placing, placed_name, placed_number, placed_optional, placed_separated, placed_clause, placed_term, placed_output, placed_cons, placed_limit, placed_clauses, placed_tail}
+use Rattle.aql_syntax.specs.Places.{placed_optional, placed_separated, placed_clause, placed_term, placed_output, placed_cons, placed_limit, placed_clauses, placed_tail}
 use Rattle.aql_syntax.specs.Trees.{Name, Number, Term, Cons, Clauses, Tail}
-use Rattle.aql_parser.specs.Nesting.{IsWithin}
-use Rattle.aql_parser.specs.Readers.{Reader, ◌⊗◌, ◌▷◌, mapped, eaten, optional, separated, clause, sees, sees_sign, keyword, a_string, an_int}
+use Rattle.aql_parser.specs.Readers.{◌▷◌, optional, separated, sees, sees_sign, keyword, a_string}
 use Rattle.aql_parser.specs.Reading.Expressions.{read_term}
-use Rattle.aql_parser.specs.Reading.Queries.{read_conds, read_keys, made_cons, after_consolidate, read_cons, read_limit, made_clauses, read_clauses, made_tail, read_tail}
-use Rattle.aql_parser.proofs.Rules.{Reads, Always, Made, takes_keyword, reads_keyword, reads_pair, reads_after, reads_mapped, reads_after_mapped, reads_where, reads_optional, reads_as, placed_pair}
+use Rattle.aql_parser.specs.Reading.Queries.{read_conds, read_keys, made_cons, read_cons, read_limit, made_clauses, read_clauses, made_tail, read_tail}
+use Rattle.aql_parser.proofs.Rules.{Reads, takes_keyword, reads_keyword, reads_pair, reads_after, reads_mapped, reads_after_mapped, reads_where, reads_optional, reads_as}
 use Rattle.aql_parser.proofs.ListRules.{reads_separated, reads_clause}
 use Rattle.aql_parser.proofs.NameRules.{reads_string, reads_int}
 use Rattle.aql_parser.proofs.ExpressionRules.{StopsTerm, reads_term, reads_arguments}

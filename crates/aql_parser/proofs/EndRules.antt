@@ -1,11 +1,11 @@
 -- What may stand after a query's clauses, and that nothing else goes on there.
-use Rattle.std.proofs.Common.{◌≡◌, ◌∙◌, ℕ, zero, suc, ◌+◌, ◌<◌, ◌≤◌, Bool, true, false, not, List, [], ◌∷◌, Option, Some, None, refl, ap, sym, subst, arith, codes}
+use Rattle.std.proofs.Common.{◌≡◌, ◌∙◌, ℕ, suc, ◌≤◌, true, false, not, List, [], ◌∷◌, Option, Some, None, refl, ap, arith, codes}
 use Prim.Native.String.{String}
 use Rattle.aql_lexer.specs.Kinds.{Kind}
 use Rattle.aql_lexer.specs.Kinds as k
 use Rattle.aql_syntax.specs.Spellings.{free, is_reserved, same_word}
-use Rattle.aql_syntax.specs.Parts.{Part, ◌▸◌, Keyword, Optional, Separated, Clause}
-use Rattle.aql_parser.specs.Readers.{sees, sees_word, sees_sign, sees_symbol, sees_name}
+use Rattle.aql_syntax.specs.Parts.{Part, Keyword, Optional, Clause}
+use Rattle.aql_parser.specs.Readers.{sees, sees_sign, sees_name}
 use Rattle.aql_parser.proofs.ExpressionRules.{StopsTerm}
 use Rattle.aql_parser.proofs.ItemRules.{no_other, reserved_as}
 

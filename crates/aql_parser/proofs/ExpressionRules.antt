@@ -1,17 +1,16 @@
 -- Expressions and items are read.
-use Rattle.std.proofs.Common.{◌≡◌, ◌∙◌, ◌⊎◌, inl, inr, ⊎_elim, ℕ, zero, suc, ◌+◌, ◌<◌, ◌≤◌, Bool, true, false, List, [], ◌∷◌, length, Option, Some, None, refl, ap, sym, subst, arith, codes, if◌then◌else◌}
-use Rattle.std.proofs.lemmas.Bool.{false≢true}
+use Rattle.std.proofs.Common.{◌≡◌, ◌∙◌, ◌⊎◌, ⊎_elim, ℕ, zero, suc, ◌+◌, Bool, true, false, List, [], ◌∷◌, length, Some, refl, ap, sym, subst, arith, if◌then◌else◌}
 use Rattle.aql_lexer.specs.Kinds.{Kind}
 use Rattle.aql_lexer.specs.Kinds as k
-use Rattle.aql_syntax.specs.Spellings.{free, is_reserved, same_word, SpellsName}
-use Rattle.aql_syntax.specs.Parts.{Part, ◌▸◌, Nothing, Nowhere, Token, Symbol, Keyword, IsName, Each, Separated}
-use Rattle.aql_syntax.specs.Grammar.Expressions.{IsColumn, IsTerm, AreArgs, AreLaterArgs, IsNamed, IsItem}
-use Rattle.aql_syntax.specs.Places.{Placing, placed_name, placed_each, placed_separated, placed_term, placed_args, placed_later_args, placed_item, placed_optional, placed_output}
-use Rattle.aql_syntax.specs.Trees.{Name, Term, int, str, regex, column, bare, call, star, Terms, no_terms, more_terms, as_terms, Item}
+use Rattle.aql_syntax.specs.Spellings.{free, is_reserved, SpellsName}
+use Rattle.aql_syntax.specs.Parts.{◌▸◌, Symbol, IsName, Each, Separated}
+use Rattle.aql_syntax.specs.Grammar.Expressions.{IsColumn, IsTerm, AreArgs, AreLaterArgs}
+use Rattle.aql_syntax.specs.Places.{placed_name, placed_each, placed_separated, placed_term, placed_args, placed_later_args}
+use Rattle.aql_syntax.specs.Trees.{Name, Term, int, str, regex, column, bare, call, star, Terms, no_terms, more_terms, as_terms}
 use Rattle.aql_parser.specs.Nesting.{is_sign, IsWithin}
-use Rattle.aql_parser.specs.Readers.{Reader, ◌⊗◌, ◌▷◌, ◌◁◌, mapped, eaten, separated, sees, sees_sign, sees_symbol, symbol, keyword, a_name, after, named}
-use Rattle.aql_parser.specs.Reading.Expressions.{read_column, after_name, after_paren, refused, after_word, term_with, calls_within, read_term, is_column, after_expression, read_item}
-use Rattle.aql_parser.proofs.Rules.{Found, Reads, Always, Takes, within_after, within_open, within_close, bind, none_some, some_parts, chosen, carried, takes_sign, takes_keyword, reads_token, reads_keyword, reads_pair, reads_after, placed_pair, sees_symbol_is}
+use Rattle.aql_parser.specs.Readers.{Reader, ◌◁◌, separated, sees_sign, sees_symbol, symbol, a_name, after}
+use Rattle.aql_parser.specs.Reading.Expressions.{read_column, after_name, after_paren, refused, after_word, term_with, calls_within, read_term}
+use Rattle.aql_parser.proofs.Rules.{Found, Reads, Always, within_after, within_open, within_close, bind, none_some, some_parts, chosen, carried, takes_sign, reads_token, reads_pair, reads_after, placed_pair, sees_symbol_is}
 use Rattle.aql_parser.proofs.ListRules.{reads_separated}
 use Rattle.aql_parser.proofs.NameRules.{reads_name, name_sound, found_token}
 

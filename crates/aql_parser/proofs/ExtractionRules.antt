@@ -1,26 +1,23 @@
 -- What an extraction looks for is read.
-use Rattle.std.proofs.Common.{◌≡◌, ◌∙◌, ◌⊎◌, inl, inr, ⊎_elim, ℕ, zero, suc, ◌+◌, ◌<◌, ◌≤◌, Bool, true, false, ◌&&◌, ◌||◌, not, List, [], ◌∷◌, length, Option, Some, None, refl, ap, sym, subst, arith, codes}
-use Rattle.std.proofs.lemmas.Bool.{false≢true}
+use Rattle.std.proofs.Common.{◌≡◌, ◌∙◌, ◌⊎◌, inl, inr, ⊎_elim, ℕ, ◌+◌, Bool, true, false, List, [], ◌∷◌, Option, Some, None, refl, ap, subst, codes}
 use Rattle.std.proofs.lemmas.Slice.Eq.{bytes_eq-Decides}
 use Rattle.std.specs.Str.{bytes_eq}
-use Prim.Native.String.{String}
 use Rattle.aql_lexer.specs.Kinds.{Kind}
 use Rattle.aql_lexer.specs.Kinds as k
 use Rattle.aql_syntax.specs.Spellings.{free, is_reserved, same_word, SpellsName}
-use Rattle.aql_syntax.specs.Parts.{Part, ◌▸◌, ◌or◌, Nothing, Nowhere, Token, Symbol, Keyword, IsName, IsDictionaryName, IsInt, Optional, Separated}
+use Rattle.aql_syntax.specs.Parts.{Part, ◌▸◌, ◌or◌, Nowhere, Token, Keyword, IsName, IsDictionaryName, IsInt, Optional, Separated}
 use Rattle.aql_syntax.specs.Grammar.Expressions.{IsColumn}
-use Rattle.aql_syntax.specs.Grammar.Extractions.{IsRange, IsBound, IsOutput, IsNumbered, AreNumbered, IsOnlyGroup, AreGroups, IsPattern, flag_text, IsFlag, IsDict, unit_of, IsBlocks}
-use Rattle.aql_syntax.specs.Places.{Placing, placed_name, placed_number, placed_range, placed_bound, placed_optional, placed_separated, placed_output, placed_numbered, placed_only_group, placed_groups, after_flag, placed_spec}
+use Rattle.aql_syntax.specs.Grammar.Extractions.{IsRange, IsBound, IsOutput, IsNumbered, IsOnlyGroup, AreGroups, IsPattern, flag_text, IsFlag, IsDict, unit_of, IsBlocks}
+use Rattle.aql_syntax.specs.Places.{Placing, placed_name, placed_number, placed_range, placed_bound, placed_optional, placed_separated, placed_output, placed_numbered, placed_groups, after_flag, placed_spec}
 use Rattle.aql_syntax.specs.Trees.{Name, Number, Range, one, two, Group, Flag, exact, ignore_case, Spec, pattern, dict, blocks}
-use Rattle.aql_parser.specs.Nesting.{IsWithin}
-use Rattle.aql_parser.specs.Readers.{Reader, pure, ◌⊗◌, ◌▷◌, ◌◁◌, mapped, eaten, optional, where_seen, separated, sees, sees_sign, take_if, keyword, a_name, a_pattern, an_int, after}
+use Rattle.aql_parser.specs.Readers.{◌⊗◌, ◌▷◌, separated, sees, keyword, a_name, a_pattern}
 use Rattle.aql_parser.specs.Reading.Expressions.{read_column}
-use Rattle.aql_parser.specs.Reading.Extractions.{read_range, sees_int, begins_range, token_or_tokens, read_bound, read_output, numbered, unnumbered, read_numbered, read_groups, made_pattern, read_pattern, flag_named, flagged, a_flag, read_flag, a_dictionary, made_dict, read_dict, tokens_or_characters, made_blocks, read_separation, read_blocks, begins_pattern, begins_dict, begins_blocks, read_sought}
-use Rattle.aql_parser.proofs.Rules.{Found, Reads, Always, Takes, Made, passing, bind, none_some, some_is, some_parts, chosen, carried, takes_keyword, reads_token, reads_keyword, reads_pair, reads_after, reads_before, reads_mapped, reads_after_mapped, reads_value, reads_where, reads_choice, reads_optional, reads_where_seen, reads_as, reads_recast, reads_tested, one as one_token, sees_word_is, placed_pair}
+use Rattle.aql_parser.specs.Reading.Extractions.{read_range, sees_int, begins_range, token_or_tokens, read_bound, read_output, numbered, unnumbered, read_numbered, read_groups, made_pattern, read_pattern, flag_named, flagged, a_flag, read_flag, a_dictionary, made_dict, read_dict, tokens_or_characters, made_blocks, read_separation, read_blocks}
+use Rattle.aql_parser.proofs.Rules.{Reads, Always, Made, none_some, some_is, some_parts, chosen, takes_keyword, reads_keyword, reads_pair, reads_after, reads_before, reads_mapped, reads_after_mapped, reads_value, reads_where, reads_choice, reads_optional, reads_where_seen, reads_recast, one as one_token, placed_pair}
 use Rattle.aql_parser.proofs.ListRules.{reads_separated}
 use Rattle.aql_parser.proofs.NameRules.{reads_name, reads_dictionary, reads_pattern_text, reads_int, found_token}
 use Rattle.aql_parser.proofs.ExpressionRules.{reads_column}
-use Rattle.aql_parser.proofs.ItemRules.{keyword_no_other, keyword_no_sign, name_no_keyword}
+use Rattle.aql_parser.proofs.ItemRules.{keyword_no_other, name_no_keyword}
 
 -- one range or the other
 abbrev IsTwo : Range → Part

@@ -1,5 +1,5 @@
 -- Items are read, and what the keywords tell apart.
-use Rattle.std.proofs.Common.{◌≡◌, ◌∙◌, ◌⊎◌, inl, inr, ⊎_elim, ℕ, zero, suc, ◌+◌, ◌<◌, ◌≤◌, Bool, true, false, List, [], ◌∷◌, length, Option, Some, None, refl, ap, sym, subst, arith, codes, if◌then◌else◌}
+use Rattle.std.proofs.Common.{◌≡◌, ◌∙◌, ◌⊎◌, ⊎_elim, ℕ, ◌+◌, Bool, true, false, List, [], ◌∷◌, Option, Some, None, refl, ap, sym, arith, codes, if◌then◌else◌}
 use Rattle.std.proofs.lemmas.Bool.{false≢true}
 use Rattle.std.proofs.lemmas.Slice.Eq.{bytes_eq-Decides}
 use Rattle.std.specs.Str.{bytes_eq, str_to_ascii_lowercase}
@@ -8,14 +8,14 @@ use Prim.Native.String.{String}
 use Rattle.aql_lexer.specs.Kinds.{Kind}
 use Rattle.aql_lexer.specs.Kinds as k
 use Rattle.aql_syntax.specs.Spellings.{free, is_reserved, reserved_words, same_word, SpellsName}
-use Rattle.aql_syntax.specs.Parts.{Part, ◌▸◌, Nothing, Nowhere, Token, Symbol, Keyword, IsName}
-use Rattle.aql_syntax.specs.Grammar.Expressions.{IsColumn, IsTerm, IsNamed, IsItem}
-use Rattle.aql_syntax.specs.Places.{Placing, placed_name, placed_term, placed_item, placed_optional, placed_output}
+use Rattle.aql_syntax.specs.Parts.{Keyword, IsName}
+use Rattle.aql_syntax.specs.Grammar.Expressions.{IsTerm, IsNamed, IsItem}
+use Rattle.aql_syntax.specs.Places.{placed_name, placed_term, placed_item}
 use Rattle.aql_syntax.specs.Trees.{Name, Term, int, str, regex, column, bare, call, star, Item}
 use Rattle.aql_parser.specs.Nesting.{IsWithin}
-use Rattle.aql_parser.specs.Readers.{Reader, ◌▷◌, mapped, keyword, sees, sees_word, sees_sign, sees_symbol, sees_name, a_name, after}
-use Rattle.aql_parser.specs.Reading.Expressions.{refused, read_term, is_column, after_expression, read_item}
-use Rattle.aql_parser.proofs.Rules.{Found, Reads, Always, Takes, bind, none_some, some_parts, chosen, carried, takes_keyword, reads_token, reads_after, sees_word_is}
+use Rattle.aql_parser.specs.Readers.{◌▷◌, mapped, keyword, sees, sees_symbol, sees_name, a_name, after}
+use Rattle.aql_parser.specs.Reading.Expressions.{refused, read_term, is_column, read_item}
+use Rattle.aql_parser.proofs.Rules.{Found, Reads, bind, none_some, some_parts, chosen, carried, takes_keyword, reads_token, reads_after, sees_word_is}
 use Rattle.aql_parser.proofs.NameRules.{reads_name, name_sound}
 use Rattle.aql_parser.proofs.ExpressionRules.{StopsTerm, reads_term}
 

@@ -13,3 +13,4 @@ pub mod QueryRules
 pub mod StatementRules
 pub mod RunRules
 pub mod ProgramRules
+pub mod Standing

@@ -1,11 +1,11 @@
 -- Readers of lists read lists of the grammar.
-use Rattle.std.proofs.Common.{◌≡◌, ◌∙◌, ◌⊎◌, inl, inr, ⊎_elim, ℕ, zero, suc, ◌+◌, ◌<◌, ◌≤◌, Bool, true, false, List, [], ◌∷◌, ◌++◌, length, Option, Some, None, refl, ap, sym, subst, arith}
+use Rattle.std.proofs.Common.{◌≡◌, ◌⊎◌, ⊎_elim, ℕ, zero, suc, ◌+◌, ◌<◌, Bool, true, false, List, [], ◌∷◌, ◌++◌, length, Option, Some, None, refl, ap, arith}
 use Rattle.aql_lexer.specs.Kinds.{Kind}
-use Rattle.aql_syntax.specs.Parts.{Part, ◌▸◌, Nothing, Each, Separated, Clause}
+use Rattle.aql_syntax.specs.Parts.{Part, ◌▸◌, Each, Separated, Clause}
 use Rattle.aql_syntax.specs.Places.{Placing, placed_each, placed_separated, placed_clause}
 use Rattle.aql_parser.specs.Nesting.{IsWithin}
-use Rattle.aql_parser.specs.Readers.{Reader, and_then, ◌▷◌, ◌◁◌, eaten, listed, prefixed, separated, until, repeated, clause, after, take_if}
-use Rattle.aql_parser.proofs.Rules.{Found, Reads, Always, Takes, within_after, bind, none_some, some_is, some_parts, chosen, carried, eaten_true}
+use Rattle.aql_parser.specs.Readers.{Reader, ◌▷◌, listed, prefixed, separated, until, repeated, clause, after, take_if}
+use Rattle.aql_parser.proofs.Rules.{Found, Reads, Always, Takes, within_after, bind, none_some, some_parts, chosen, carried, eaten_true}
 
 prefixed_some : {A : Type 0} (front : List A) (r : Option (List A × ℕ × List Kind)) (xs : List A) (m : ℕ) (rest : List Kind) → prefixed front r ≡ Some (xs, m, rest) → (ys : List A) × (l : ℕ) × (left : List Kind) × (r ≡ Some (ys, l, left)) × (front ++ ys ≡ xs) × (left ≡ rest)
 prefixed_some front None xs m rest h = absurd (none_some _ h)

@@ -1,8 +1,8 @@
 -- A loop that reads a list: what it has and what the rest of the list gives is what all of it gives.
-use Rattle.std.proofs.Common.{◌≡◌, ◌∙◌, ℕ, zero, suc, ◌+◌, ◌-◌, ◌<◌, ◌≤◌, Bool, true, false, List, [], ◌∷◌, ◌++◌, length, Option, Some, None, map, refl, ap, sym, append_assoc, arith}
+use Rattle.std.proofs.Common.{◌≡◌, ◌∙◌, ℕ, suc, ◌+◌, ◌-◌, ◌<◌, ◌≤◌, Bool, true, false, List, [], ◌∷◌, ◌++◌, length, Option, Some, None, map, refl, ap, sym, append_assoc, arith}
 use Rattle.std.proofs.lemmas.List.{map-append, append-nil}
 use Rattle.aql_lexer.specs.Kinds.{Kind}
-use Rattle.aql_parser.specs.Readers.{Left, Eats, Reader, and_then, prefixed, listed, separated, until, repeated, after}
+use Rattle.aql_parser.specs.Readers.{Left, Eats, Reader, prefixed, listed, separated, until, repeated, after}
 
 prefixed_nil : {A : Type 0} (r : Option (List A × ℕ × List Kind)) → prefixed [] r ≡ r
 prefixed_nil None = refl

@@ -1,14 +1,13 @@
 -- Readers of one token: names, strings, patterns and integers.
-use Rattle.std.proofs.Common.{◌≡◌, ◌∙◌, ◌⊎◌, inl, inr, ⊎_elim, ℕ, ◌+◌, ◌<◌, ◌≤◌, Bool, true, false, not, List, [], ◌∷◌, length, Option, Some, None, refl, ap, sym, subst, arith, ℤ}
-use Rattle.std.proofs.lemmas.Bool.{false≢true}
+use Rattle.std.proofs.Common.{◌≡◌, ◌⊎◌, ⊎_elim, ℕ, true, false, List, [], ◌∷◌, Some, refl, arith}
 use Rattle.aql_lexer.specs.Kinds.{Kind}
 use Rattle.aql_lexer.specs.Kinds as k
 use Rattle.aql_syntax.specs.Spellings.{free, is_reserved, SpellsName, SpellsDictionary}
-use Rattle.aql_syntax.specs.Parts.{Part, Token, IsName, IsDictionaryName, IsInt}
+use Rattle.aql_syntax.specs.Parts.{Token, IsName, IsDictionaryName, IsInt}
 use Rattle.aql_syntax.specs.Places.{Placing, placed_name, placed_number}
 use Rattle.aql_syntax.specs.Trees.{Name, Number}
 use Rattle.aql_parser.specs.Nesting.{is_sign, IsWithin}
-use Rattle.aql_parser.specs.Readers.{Reader, named, a_name, sees_name, a_string, a_pattern, an_int}
+use Rattle.aql_parser.specs.Readers.{Reader, a_name, sees_name, a_string, a_pattern, an_int}
 use Rattle.aql_parser.specs.Reading.Extractions.{a_dictionary}
 use Rattle.aql_parser.proofs.Rules.{Found, Reads, Always, within_after, none_some, some_parts, chosen, carried}
 

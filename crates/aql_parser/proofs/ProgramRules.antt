@@ -1,5 +1,5 @@
 -- Programs: what their statements are read as, and that they have one list of statements or one fault.
-use Rattle.std.proofs.Common.{◌≡◌, ◌∙◌, ◌⊎◌, inl, inr, ⊎_elim, ℕ, zero, suc, ◌+◌, ◌-◌, ◌<◌, ◌≤◌, Bool, true, false, ◌&&◌, Decides, if◌then◌else◌, List, [], ◌∷◌, ◌++◌, length, map, take, drop, get_or, Option, Some, None, Ok, Err, Result, MatchResult, refl, ap, sym, subst, arith, append_assoc}
+use Rattle.std.proofs.Common.{◌≡◌, ◌∙◌, ◌⊎◌, inl, inr, ⊎_elim, ℕ, zero, suc, ◌+◌, ◌-◌, ◌<◌, ◌≤◌, Bool, true, false, ◌&&◌, Decides, if◌then◌else◌, List, [], ◌∷◌, ◌++◌, length, map, take, drop, get_or, Option, Some, None, Ok, Err, Result, refl, ap, sym, subst, arith, append_assoc}
 use Rattle.std.specs.Bool.{⊤}
 use Rattle.std.specs.List.{All, AllZip, sum_by}
 use Rattle.std.proofs.lemmas.Bool.{false≢true}
@@ -11,7 +11,6 @@ use Rattle.span_token.specs.declared.refusal.Failure.TheVariants.{OutOfMemory, F
 use Rattle.aql_lexer.specs.Kinds.{Kind, Token, kind_of, token_of, kinds_of}
 use Rattle.aql_lexer.specs.declared.token.Tok.{Tok}
 use Rattle.aql_syntax.specs.declared.tree.Statement.{Statement as Written}
-use Rattle.aql_syntax.specs.Spellings.{free}
 use Rattle.aql_syntax.specs.Places.{placed_statement}
 use Rattle.aql_syntax.specs.Trees.{Statement, module_, require, export, dictionary, create, output}
 use Rattle.aql_syntax.specs.Views.{statement_of}
@@ -22,7 +21,7 @@ use Rattle.aql_parser.specs.Reading.Statements.{read_statement}
 use Rattle.aql_parser.specs.Faults.{kinds_in, MayFollow, HasTree, HaveTrees, IsSyntaxFault, IsDecided, IsFaultOf}
 use Rattle.aql_parser.specs.declared.parsing.SyntaxFault.{SyntaxFault}
 use Rattle.aql_parser.specs.Runs.{IsFirstRun, may_follow, IsKept, IsNamed, IsTree, IsTreeOf}
-use Rattle.aql_parser.proofs.Rules.{Found, Reads, none_some, some_parts}
+use Rattle.aql_parser.proofs.Rules.{none_some, some_parts}
 use Rattle.aql_parser.proofs.StatementRules.{placed_whole, reads_statement}
 
 -- ---- one statement
@@ -376,9 +375,11 @@ tree_or_none before run = by_reading (read_statement (length run) 0 run) refl
     by_module : (s : Statement) → HasTokens s run → (b : Bool) → may_follow before s ≡ b → HasTree before run ⊎ (¬ (HasTree before run))
     by_module s tokens true is = inl (s, tokens, does_follow before s is)
     by_module s tokens false is = inr (late before run s tokens is)
+
     by_rest : (s : Statement) (m : ℕ) (rest : List Kind) → read_statement (length run) 0 run ≡ Some (s, m, rest) → HasTree before run ⊎ (¬ (HasTree before run))
     by_rest s m [] reads = by_module s (read_whole (length run) 0 m run s (within_own run) reads).0 (may_follow before s) refl
     by_rest s m (kind ∷ rest) reads = inr (left_over (length run) 0 before m run (kind ∷ rest) s (within_own run) reads (λ e. cc))
+
     by_reading : (o : Option (Statement × ℕ × List Kind)) → read_statement (length run) 0 run ≡ o → HasTree before run ⊎ (¬ (HasTree before run))
     by_reading None reads = inr (none_read (length run) 0 before run (within_own run) reads)
     by_reading (Some r) reads = by_rest r.0 r.1 r.2 reads
@@ -423,19 +424,23 @@ decided_first tokens (inr w) =
     let inside = run_inside (kinds_in tokens) w.before w.run w.later w.split in
     let as_long = length-map tokens (λ (t : Token). t.kind) in
     let next = goes_on_after tokens (sum_by length w.before) (omega (arith, inside, as_long)) in
-    inr (length w.before + 1, next.0.line, record {
-      before = w.before;
-      run = w.run;
-      later = w.later;
-      runs = w.split;
-      first_without = w.have;
-      no_tree = λ tree. w.none (tree_at (length w.before) (0 + length w.before) w.run (omega arith) tree);
-      number = refl;
-      first = next.0;
-      others = next.1;
-      begins = next.2;
-      on_line = refl;
-    })
+    inr (
+      length w.before + 1,
+      next.0.line,
+      record {
+        before = w.before;
+        run = w.run;
+        later = w.later;
+        runs = w.split;
+        first_without = w.have;
+        no_tree = λ tree. w.none (tree_at (length w.before) (0 + length w.before) w.run (omega arith) tree);
+        number = refl;
+        first = next.0;
+        others = next.1;
+        begins = next.2;
+        on_line = refl;
+      },
+    )
 
 lists_same : (n : ℕ) (runs : List (List Kind)) (xs ys : List Statement) → AllZip HasTokens xs runs → AllZip HasTokens ys runs → placed_from n runs xs ≡ placed_from n runs ys
 lists_same n [] [] [] hx hy = refl

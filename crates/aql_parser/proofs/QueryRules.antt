@@ -1,26 +1,24 @@
 -- Queries are read.
-use Rattle.std.proofs.Common.{◌≡◌, ◌∙◌, ◌⊎◌, inl, inr, ⊎_elim, ℕ, zero, suc, ◌+◌, ◌<◌, ◌≤◌, Bool, true, false, List, [], ◌∷◌, length, Option, Some, None, refl, ap, sym, subst, arith, codes}
-use Rattle.std.proofs.lemmas.Bool.{false≢true}
-use Prim.Native.String.{String}
+use Rattle.std.proofs.Common.{◌≡◌, ◌∙◌, ◌⊎◌, inl, inr, ⊎_elim, ℕ, zero, suc, ◌+◌, true, false, List, [], ◌∷◌, length, Some, refl, ap, sym, subst, arith}
 use Rattle.aql_lexer.specs.Kinds.{Kind}
 use Rattle.aql_lexer.specs.Kinds as k
-use Rattle.aql_syntax.specs.Spellings.{free, is_reserved, same_word, SpellsName}
-use Rattle.aql_syntax.specs.Parts.{Part, ◌▸◌, Nothing, Nowhere, Token, Symbol, InParens, Keyword, IsName, Optional, Each, Separated}
+use Rattle.aql_syntax.specs.Spellings.{free, same_word, SpellsName}
+use Rattle.aql_syntax.specs.Parts.{Part, ◌▸◌, Nowhere, Symbol, InParens, Keyword, IsName, Optional, Each, Separated}
 use Rattle.aql_syntax.specs.Grammar.Expressions.{IsItem}
 use Rattle.aql_syntax.specs.Grammar.Queries.{AreClauses, IsTail, IsExtracted, IsQuery, AreSides, AreOtherSides, AreLaterSides, IsSource, AreSources, AreLaterSources}
-use Rattle.aql_syntax.specs.Places.{Placing, placed_name, placed_optional, placed_each, placed_separated, placed_item, placed_clauses, placed_tail, placed_query, placed_sides, placed_later_sides, placed_source, placed_sources, placed_later_sources}
+use Rattle.aql_syntax.specs.Places.{Placing, placed_name, placed_optional, placed_each, placed_separated, placed_item, placed_clauses, placed_tail, placed_query, placed_later_sides, placed_source, placed_sources, placed_later_sources}
 use Rattle.aql_syntax.specs.Trees.{Name, Item, Clauses, Tail, Spec, Query, select, extract, union, minus, Queries, no_queries, more_queries, as_queries, Source, view, nested, Sources, no_sources, more_sources, as_sources}
 use Rattle.aql_parser.specs.Nesting.{IsWithin}
-use Rattle.aql_parser.specs.Readers.{Reader, and_then, ◌⊗◌, ◌▷◌, ◌◁◌, mapped, eaten, where_seen, separated, sees, sees_sign, sees_symbol, sees_name, take_if, symbol, keyword, a_name, after}
+use Rattle.aql_parser.specs.Readers.{Reader, and_then, ◌⊗◌, ◌▷◌, eaten, separated, sees, sees_sign, sees_symbol, sees_name, take_if, symbol, keyword, a_name, after}
 use Rattle.aql_parser.specs.Reading.Expressions.{read_item}
 use Rattle.aql_parser.specs.Reading.Queries.{read_clauses, read_tail, read_extracted, made_view, made_nested, read_view, made_select, made_extract, source_with, selection, extraction, side, put_together, query_with, within, read_query, read_source}
-use Rattle.aql_parser.proofs.Rules.{Found, Reads, Always, Takes, Made, bind, none_some, some_parts, chosen, carried, within_open, within_close, takes_sign, takes_keyword, reads_token, reads_keyword, reads_pair, reads_after, reads_mapped, reads_after_mapped, reads_where, reads_choice, reads_where_seen, reads_recast, reads_passed_pair, passed_on, reads_at, placed_pair, sees_symbol_is}
+use Rattle.aql_parser.proofs.Rules.{Found, Reads, Always, Made, bind, none_some, some_parts, chosen, carried, within_open, within_close, takes_sign, takes_keyword, reads_keyword, reads_pair, reads_after, reads_mapped, reads_after_mapped, reads_where, reads_choice, reads_where_seen, reads_recast, reads_passed_pair, passed_on, reads_at, placed_pair, sees_symbol_is}
 use Rattle.aql_parser.proofs.ListRules.{reads_separated}
 use Rattle.aql_parser.proofs.NameRules.{reads_name, name_seen}
 use Rattle.aql_parser.proofs.ExpressionRules.{close_sound, within_parens}
-use Rattle.aql_parser.proofs.ItemRules.{StopsItem, reads_item, keyword_no_other, keyword_no_sign, keyword_no_name, keyword_stops_term}
+use Rattle.aql_parser.proofs.ItemRules.{StopsItem, reads_item, keyword_no_other, keyword_no_sign, keyword_stops_term}
 use Rattle.aql_parser.proofs.ExtractionRules.{StopsGroups}
-use Rattle.aql_parser.proofs.SoughtRules.{IsExtractedPair, placed_extracted, reads_extracted}
+use Rattle.aql_parser.proofs.SoughtRules.{placed_extracted, reads_extracted}
 use Rattle.aql_parser.proofs.EndRules.{Ends, at_close, ends_no_name, ends_no_comma, ends_no_union, ends_weaker}
 use Rattle.aql_parser.proofs.ClauseRules.{reads_clauses, reads_tail, clauses_end, tail_ends}
 

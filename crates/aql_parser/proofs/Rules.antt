@@ -1,6 +1,6 @@
 -- A reader reads a part of the grammar: all that it reads has tokens of the part, and it reads whatever
 -- has them, with its places, where what follows stops it and the parentheses fit.
-use Rattle.std.proofs.Common.{◌≡◌, ◌∙◌, ◌⊎◌, inl, inr, ⊎_elim, ℕ, zero, suc, ◌+◌, ◌-◌, ◌<◌, ◌≤◌, Bool, true, false, cond, List, [], ◌∷◌, ◌++◌, length, take, Option, Some, None, refl, ap, sym, subst, codes, arith, if◌then◌else◌}
+use Rattle.std.proofs.Common.{◌≡◌, ◌∙◌, ◌⊎◌, inl, inr, ⊎_elim, ℕ, zero, suc, ◌+◌, ◌-◌, ◌≤◌, Bool, true, false, cond, List, [], ◌∷◌, length, take, Option, Some, None, refl, ap, sym, subst, codes, arith, if◌then◌else◌}
 use Rattle.std.specs.Bool.{⊤}
 use Rattle.std.specs.List.{count_by}
 use Rattle.std.proofs.lemmas.Bool.{false≢true, eqb-true, eq-eqb}
@@ -8,12 +8,11 @@ use Rattle.std.proofs.lemmas.List.Sums.{sum_by-cons}
 use Prim.Native.String.{String}
 use Rattle.aql_lexer.specs.Kinds.{Kind}
 use Rattle.aql_lexer.specs.Kinds as k
-use Rattle.aql_syntax.specs.Spellings.{free, same_word, is_reserved, SpellsName}
-use Rattle.aql_syntax.specs.Parts.{Part, ◌▸◌, Nothing, Nowhere, Token, Symbol, Keyword, IsName, IsInt, Optional, Each, Separated, Clause}
-use Rattle.aql_syntax.specs.Places.{Placing, placed_name, placed_number, placed_optional, placed_each, placed_separated, placed_clause}
-use Rattle.aql_syntax.specs.Trees.{Name, Number}
-use Rattle.aql_parser.specs.Nesting.{is_sign, opens, closes, IsWithin}
-use Rattle.aql_parser.specs.Readers.{Reader, and_then, pure, ◌⊗◌, ◌▷◌, ◌◁◌, mapped, eaten, optional, where_seen, listed, prefixed, separated, clause, after, take_if, sees, sees_word, sees_sign, sees_symbol, symbol, keyword, a_name, an_int, named}
+use Rattle.aql_syntax.specs.Spellings.{free, same_word}
+use Rattle.aql_syntax.specs.Parts.{Part, ◌▸◌, Token, Keyword, Optional}
+use Rattle.aql_syntax.specs.Places.{Placing, placed_optional}
+use Rattle.aql_parser.specs.Nesting.{is_sign, IsWithin}
+use Rattle.aql_parser.specs.Readers.{Reader, and_then, pure, ◌⊗◌, ◌▷◌, ◌◁◌, mapped, eaten, optional, where_seen, after, take_if, sees, sees_word, sees_symbol, symbol, keyword}
 
 -- what is found where a part stands
 pub record Found {A : Type 0} (read : Reader A) (place : Placing A) (d n : ℕ) (ks : List Kind) (a : A) (rest : List Kind) : Type 0 where

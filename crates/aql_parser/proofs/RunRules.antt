@@ -1,6 +1,6 @@
 -- Where the first statement's tokens end, and the least depth within which they are.
-use Rattle.std.proofs.Common.{◌≡◌, ◌∙◌, ◌⊎◌, inl, inr, ⊎_elim, ℕ, zero, suc, ◌+◌, ◌-◌, ◌<◌, ◌≤◌, min, max, Bool, true, false, cond, List, [], ◌∷◌, ◌++◌, length, map, take, drop, get_or, Option, Some, None, refl, ap, sym, subst, arith, append_assoc}
-use Rattle.std.specs.List.{count_by, All}
+use Rattle.std.proofs.Common.{◌≡◌, ◌∙◌, ◌⊎◌, ⊎_elim, ℕ, zero, suc, ◌+◌, ◌-◌, ◌<◌, ◌≤◌, min, max, true, false, cond, List, [], ◌∷◌, ◌++◌, length, map, take, drop, get_or, Some, refl, ap, sym, subst, arith, append_assoc}
+use Rattle.std.specs.List.{All}
 use Rattle.std.proofs.lemmas.Bool.{cases_lt, false≢true, eqb-true}
 use Rattle.std.proofs.lemmas.List.{take_all, drop_all, take-append-le, take_min, take_more, drop_more, take-map, drop-map, map-append, length-map, length-drop, length_push, append-nil, nil_from_length}
 use Rattle.std.proofs.lemmas.List.Elements.{All-nil, All-push, All-pop, All-same, All-weaker}
@@ -113,6 +113,7 @@ least_end front kind n h ends =
     end_opens (k.int i) ends = absurd (false≢true ends)
     end_opens (k.str t) ends = absurd (false≢true ends)
     end_opens (k.regex t) ends = absurd (false≢true ends)
+
     end_closes : (kind : Kind) → is_end kind ≡ true → is_sign ")" kind ≡ false
     end_closes (k.symbol c) ends = rw (eqb-true c 59 ends) refl
     end_closes (k.word w) ends = absurd (false≢true ends)
@@ -153,8 +154,7 @@ goes_on kinds i opened closed nesting kind h next no_end =
 
 pub run_ends : (kinds : List Kind) (i opened closed nesting : ℕ) (kind : Kind) → HasBegun kinds i opened closed nesting → IsNext kinds i kind → is_end kind ≡ true → IsFirstRun kinds (i + 1) × IsLeastDepth (take (i + 1) kinds) nesting
 run_ends kinds i opened closed nesting kind h next ends =
-    let last : runs_of (drop i kinds) ≡ (kind ∷ []) ∷ runs_of (drop (i + 1) kinds) = rw (next.dropped, ends) refl in
-    (
+    let last : runs_of (drop i kinds) ≡ (kind ∷ []) ∷ runs_of (drop (i + 1) kinds) = rw (next.dropped, ends) refl in (
       record {
         some = omega arith;
         inside = omega (arith, next.there);
@@ -168,8 +168,7 @@ run_is_all kinds i opened closed nesting h all some =
     let taken : take i kinds ≡ kinds = take_all i kinds all in
     let dropped : drop i kinds ≡ [] = drop_all i kinds all in
     let whole : take (length kinds) kinds ≡ kinds = take_all (length kinds) kinds (omega arith) in
-    let none : drop (length kinds) kinds ≡ [] = drop_all (length kinds) kinds (omega arith) in
-    (
+    let none : drop (length kinds) kinds ≡ [] = drop_all (length kinds) kinds (omega arith) in (
       record {
         some = some;
         inside = omega arith;
@@ -236,8 +235,7 @@ measures_run whole rest statements nesting len depth h run least =
 pub measured : (whole rest : List Kind) (statements nesting : ℕ) → HasMeasured whole rest statements nesting → length rest ≡ 0 → (statements ≡ length (runs_of whole)) × IsNesting whole nesting
 measured whole rest statements nesting h none =
     let empty : rest ≡ [] = nil_from_length rest none in
-    let split : runs_of whole ≡ h.before = h.split ∙ rw empty (append-nil h.before) in
-    (
+    let split : runs_of whole ≡ h.before = h.split ∙ rw empty (append-nil h.before) in (
       h.counted ∙ ap length (sym split),
       record {
         within = All-same (IsWithin nesting) (runs_of whole) h.before split h.within;

@@ -1,24 +1,22 @@
 -- The items of an extraction, and what it looks for, are read.
-use Rattle.std.proofs.Common.{◌≡◌, ◌∙◌, ◌⊎◌, inl, inr, ⊎_elim, ℕ, zero, suc, ◌+◌, ◌<◌, ◌≤◌, Bool, true, false, ◌&&◌, ◌||◌, not, List, [], ◌∷◌, length, Option, Some, None, refl, ap, sym, subst, arith, codes}
-use Rattle.std.proofs.lemmas.Bool.{false≢true}
+use Rattle.std.proofs.Common.{◌≡◌, ◌⊎◌, inl, inr, ℕ, suc, ◌<◌, Bool, true, false, ◌&&◌, List, [], ◌∷◌, length, Option, Some, None, refl, ap, arith}
 use Prim.Native.String.{String}
 use Rattle.aql_lexer.specs.Kinds.{Kind}
 use Rattle.aql_lexer.specs.Kinds as k
 use Rattle.aql_syntax.specs.Spellings.{free, is_reserved, same_word, SpellsName, SpellsDictionary}
-use Rattle.aql_syntax.specs.Parts.{Part, ◌▸◌, Nothing, Nowhere, Token, Symbol, Keyword, IsName, IsDictionaryName, Each}
-use Rattle.aql_syntax.specs.Grammar.Expressions.{IsColumn, IsTerm, IsNamed, IsItem}
-use Rattle.aql_syntax.specs.Grammar.Extractions.{IsPattern, IsDict, IsBlocks}
+use Rattle.aql_syntax.specs.Parts.{Part, ◌▸◌, Nowhere, Token, Symbol, Keyword, IsName, IsDictionaryName}
+use Rattle.aql_syntax.specs.Grammar.Expressions.{IsTerm, IsNamed, IsItem}
+use Rattle.aql_syntax.specs.Grammar.Extractions.{IsPattern, IsDict}
 use Rattle.aql_syntax.specs.Grammar.Queries.{AreItemsBefore, IsExtracted}
-use Rattle.aql_syntax.specs.Places.{Placing, placed_each, placed_item, placed_item_before, placed_spec}
+use Rattle.aql_syntax.specs.Places.{Placing, placed_each, placed_item_before, placed_spec}
 use Rattle.aql_syntax.specs.Trees.{Name, Term, int, str, regex, column, bare, call, star, Item, Spec, pattern, dict, blocks}
 use Rattle.aql_parser.specs.Nesting.{IsWithin}
-use Rattle.aql_parser.specs.Readers.{Reader, ◌⊗◌, ◌◁◌, mapped, repeated, sees, sees_sign, symbol, after}
-use Rattle.aql_parser.specs.Reading.Expressions.{read_item, is_column}
-use Rattle.aql_parser.specs.Reading.Extractions.{sees_regex, begins_pattern, begins_dict, begins_blocks, read_blocks, read_sought}
+use Rattle.aql_parser.specs.Readers.{sees, sees_sign, symbol, after}
+use Rattle.aql_parser.specs.Reading.Extractions.{sees_regex, begins_pattern, begins_dict, begins_blocks, read_sought}
 use Rattle.aql_parser.specs.Reading.Queries.{begins_sought, item_before, read_items_before, read_extracted}
-use Rattle.aql_parser.proofs.Rules.{Found, Reads, Always, Takes, Made, takes_sign, reads_token, reads_pair, reads_before, reads_mapped, reads_where, reads_tested, placed_pair}
+use Rattle.aql_parser.proofs.Rules.{Reads, Always, Made, takes_sign, reads_token, reads_pair, reads_before, reads_mapped, reads_where, reads_tested, placed_pair}
 use Rattle.aql_parser.proofs.ListRules.{reads_repeated}
-use Rattle.aql_parser.proofs.ItemRules.{StopsItem, reads_item, keyword_no_other, keyword_no_sign, keyword_no_name, name_no_keyword}
+use Rattle.aql_parser.proofs.ItemRules.{StopsItem, reads_item, keyword_no_other, name_no_keyword}
 use Rattle.aql_parser.proofs.ExtractionRules.{IsPatternSpec, IsDictSpec, IsBlocksSpec, StopsGroups, reads_pattern, reads_dict, reads_blocks}
 
 and_false : (b : Bool) → (b && false) ≡ false

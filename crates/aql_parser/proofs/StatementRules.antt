@@ -1,25 +1,23 @@
 -- Statements are read.
-use Rattle.std.proofs.Common.{◌≡◌, ◌∙◌, ◌⊎◌, inl, inr, ⊎_elim, ℕ, zero, suc, ◌+◌, ◌<◌, ◌≤◌, Bool, true, false, List, [], ◌∷◌, length, Option, Some, None, refl, ap, sym, subst, arith, codes}
+use Rattle.std.proofs.Common.{◌≡◌, ◌⊎◌, inl, inr, ⊎_elim, ℕ, suc, ◌+◌, true, false, List, [], ◌∷◌, length, Option, Some, None, refl, ap, sym, subst, arith, codes}
 use Rattle.std.proofs.lemmas.Bool.{false≢true}
 use Rattle.std.proofs.lemmas.Slice.Eq.{bytes_eq-Decides}
-use Rattle.std.specs.Str.{bytes_eq}
 use Prim.Native.String.{String}
 use Rattle.aql_lexer.specs.Kinds.{Kind}
 use Rattle.aql_lexer.specs.Kinds as k
-use Rattle.aql_syntax.specs.Spellings.{free, is_reserved, same_word}
-use Rattle.aql_syntax.specs.Parts.{Part, ◌▸◌, Nothing, Nowhere, Token, Symbol, InParens, Keyword, IsName, Optional, Separated}
+use Rattle.aql_syntax.specs.Spellings.{free, same_word}
+use Rattle.aql_syntax.specs.Parts.{Part, ◌▸◌, Nowhere, Token, Symbol, InParens, Keyword, IsName, Optional, Separated}
 use Rattle.aql_syntax.specs.Grammar.Queries.{IsQuery}
 use Rattle.aql_syntax.specs.Grammar.Statements.{IsText, IsStatement}
 use Rattle.aql_syntax.specs.Places.{Placing, placed_name, placed_optional, placed_each, placed_separated, placed_query, placed_statement}
 use Rattle.aql_syntax.specs.Trees.{Name, Query, Statement, module_, require, export, dictionary, create, output}
-use Rattle.aql_parser.specs.Nesting.{is_sign, IsWithin}
-use Rattle.aql_parser.specs.Readers.{Reader, and_then, ◌⊗◌, ◌▷◌, ◌◁◌, mapped, eaten, optional, separated, sees, sees_sign, sees_symbol, sees_exactly, exactly, take_if, symbol, keyword, a_name, a_string, after}
+use Rattle.aql_parser.specs.Nesting.{IsWithin}
+use Rattle.aql_parser.specs.Readers.{Reader, ◌⊗◌, ◌▷◌, ◌◁◌, eaten, optional, separated, sees, sees_sign, sees_symbol, sees_exactly, exactly, take_if, symbol, keyword, a_name, after}
 use Rattle.aql_parser.specs.Reading.Queries.{read_query}
 use Rattle.aql_parser.specs.Reading.Statements.{a_text, after_module, after_columns, after_require, after_export, made_dictionary, after_dictionary, made_create, after_view, after_create, made_output, after_output, read_statement}
-use Rattle.aql_parser.proofs.Rules.{Found, Reads, Always, Takes, Made, one, bind, none_some, some_parts, chosen, carried, within_after, within_open, within_close, takes_sign, takes_keyword, reads_token, reads_keyword, reads_pair, reads_after, reads_before, reads_mapped, reads_after_mapped, reads_where, reads_choice, reads_optional, reads_recast, reads_as, placed_pair, sees_symbol_is}
+use Rattle.aql_parser.proofs.Rules.{Found, Reads, Always, Takes, Made, one, bind, none_some, some_parts, chosen, within_after, within_open, within_close, takes_sign, reads_token, reads_keyword, reads_pair, reads_after, reads_before, reads_mapped, reads_after_mapped, reads_choice, reads_optional, reads_recast, placed_pair, sees_symbol_is}
 use Rattle.aql_parser.proofs.ListRules.{reads_separated}
 use Rattle.aql_parser.proofs.NameRules.{reads_name, reads_string}
-use Rattle.aql_parser.proofs.ExpressionRules.{close_sound, within_parens}
 use Rattle.aql_parser.proofs.ItemRules.{keyword_no_other}
 use Rattle.aql_parser.proofs.EndRules.{Ends, at_semicolon}
 use Rattle.aql_parser.proofs.QueryRules.{reads_query}

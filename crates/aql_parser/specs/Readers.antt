@@ -1,6 +1,6 @@
 -- Readers: what is read from the tokens that are left, and what is left then. The parser computes
 -- them, and the laws in `proofs/` say that they read the grammar.
-use Rattle.std.specs.Prelude.{◌≡◌, ℕ, zero, suc, ◌+◌, ◌==◌, Bool, true, false, ◌&&◌, ◌||◌, if◌then◌else◌, not, ◌++◌, List, [], ◌∷◌, length, Option, Some, None, Ok, Err, Result, codes, ⊤}
+use Rattle.std.specs.Prelude.{◌≡◌, ℕ, zero, suc, ◌+◌, ◌==◌, Bool, true, false, if◌then◌else◌, not, ◌++◌, List, [], ◌∷◌, length, Option, Some, None, Ok, Err, Result, codes, ⊤}
 use Rattle.std.specs.Str.{byte, bytes_eq}
 use Prim.Native.String.{String}
 use Rattle.span_token.specs.declared.refusal.Failure.{Failure}

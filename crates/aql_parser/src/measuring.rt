@@ -38,13 +38,19 @@ pub fn first_run(toks: &[Tok]) -> Run
     let mut nesting = 0u32;
     for (i, tok) in toks.iter().enumerate() {
         if is_symbol(&tok.kind, b';') {
-            return Run { len: i + 1, nesting };
+            return Run {
+                len: i + 1,
+                nesting,
+            };
         }
         opened += u32::from(is_symbol(&tok.kind, b'('));
         closed += u32::from(is_symbol(&tok.kind, b')'));
         nesting = nesting.max(opened.saturating_sub(closed));
     }
-    Run { len: toks.len(), nesting }
+    Run {
+        len: toks.len(),
+        nesting,
+    }
 }
 
 /// How many statements the tokens are, and the greatest number of `(` without their `)` before one
@@ -68,5 +74,8 @@ pub fn measure(toks: &[Tok]) -> Sizes
         nesting = nesting.max(run.nesting);
         rest = &rest[run.len..];
     }
-    Sizes { statements, nesting }
+    Sizes {
+        statements,
+        nesting,
+    }
 }

@@ -44,7 +44,9 @@ fn may_follow(tree: &Statement, before: usize) -> bool
 fn kept(tree: Statement, read_whole: bool, follows: bool) -> Result<Statement, Refused>
     ensures { IsKept tree (read_whole && follows) result }
 {
-    (read_whole && follows).then_some(tree).ok_or(Failure::Fault(NoTree))
+    (read_whole && follows)
+        .then_some(tree)
+        .ok_or(Failure::Fault(NoTree))
 }
 
 /// The statement whose tokens are all of `run`, where `before` statements stand before it.

@@ -1,10 +1,9 @@
 -- Reading expressions and items.
-use Rattle.std.specs.Prelude.{ℕ, zero, suc, ◌+◌, Bool, true, false, if◌then◌else◌, List, [], ◌∷◌, Option, Some, None}
-use Rattle.aql_lexer.specs.Kinds.{Kind}
+use Rattle.std.specs.Prelude.{ℕ, zero, suc, ◌+◌, Bool, true, false, if◌then◌else◌, List, [], ◌∷◌, Some, None}
 use Rattle.aql_lexer.specs.Kinds as k
 use Rattle.aql_syntax.specs.Spellings.{is_reserved}
 use Rattle.aql_syntax.specs.Trees.{Name, Term, int, str, regex, column, bare, call, star, no_terms, as_terms, Item}
-use Rattle.aql_parser.specs.Readers.{Reader, pure, and_then, ◌⊗◌, ◌▷◌, ◌◁◌, mapped, eaten, optional, separated, sees, sees_sign, symbol, keyword, a_name}
+use Rattle.aql_parser.specs.Readers.{Reader, pure, and_then, ◌⊗◌, ◌▷◌, ◌◁◌, mapped, eaten, separated, sees, sees_sign, symbol, a_name}
 
 abbrev pub read_column : Reader (Name × Name)
 read_column = a_name ⊗ (symbol "." ▷ a_name)

@@ -1,10 +1,10 @@
 -- Reading what an extraction looks for.
-use Rattle.std.specs.Prelude.{◌≡◌, ℕ, ◌+◌, Bool, true, false, ◌&&◌, ◌||◌, not, if◌then◌else◌, List, [], ◌∷◌, Option, Some, None, codes}
+use Rattle.std.specs.Prelude.{ℕ, ◌+◌, Bool, true, false, ◌&&◌, ◌||◌, not, if◌then◌else◌, List, [], ◌∷◌, Option, Some, None, codes}
 use Rattle.std.specs.Str.{bytes_eq}
 use Rattle.aql_lexer.specs.Kinds.{Kind}
 use Rattle.aql_lexer.specs.Kinds as k
 use Rattle.aql_syntax.specs.Trees.{Name, Number, Range, one, two, Group, Flag, exact, ignore_case, Spec, pattern, dict, blocks}
-use Rattle.aql_parser.specs.Readers.{Reader, pure, and_then, ◌⊗◌, ◌▷◌, ◌◁◌, mapped, eaten, optional, where_seen, separated, sees, sees_sign, take_if, keyword, named, a_name, a_pattern, an_int, after}
+use Rattle.aql_parser.specs.Readers.{Reader, pure, ◌⊗◌, ◌▷◌, ◌◁◌, mapped, eaten, optional, where_seen, separated, sees, sees_sign, keyword, named, a_name, a_pattern, an_int, after}
 use Rattle.aql_parser.specs.Reading.Expressions.{read_column}
 
 abbrev pub read_range : Reader Range

@@ -1,9 +1,9 @@
 -- Reading queries.
-use Rattle.std.specs.Prelude.{◌≡◌, ℕ, zero, suc, ◌+◌, Bool, true, false, ◌||◌, if◌then◌else◌, List, [], ◌∷◌, length, Option, Some, None, codes}
+use Rattle.std.specs.Prelude.{ℕ, zero, suc, Bool, ◌||◌, if◌then◌else◌, List, [], ◌∷◌, Option}
 use Prim.Native.String.{String}
 use Rattle.aql_lexer.specs.Kinds.{Kind}
 use Rattle.aql_syntax.specs.Trees.{Name, Number, Term, Item, Cons, Clauses, Tail, Spec, Query, select, extract, union, minus, as_queries, Source, view, nested, as_sources}
-use Rattle.aql_parser.specs.Readers.{Reader, pure, and_then, ◌⊗◌, ◌▷◌, ◌◁◌, mapped, eaten, optional, where_seen, repeated, separated, clause, sees, sees_sign, symbol, keyword, a_name, sees_name, a_string, an_int}
+use Rattle.aql_parser.specs.Readers.{Reader, and_then, ◌⊗◌, ◌▷◌, ◌◁◌, mapped, eaten, optional, where_seen, repeated, separated, clause, sees, sees_sign, symbol, keyword, a_name, sees_name, a_string, an_int}
 use Rattle.aql_parser.specs.Reading.Expressions.{read_term, read_item, refused}
 use Rattle.aql_parser.specs.Reading.Extractions.{begins_pattern, begins_dict, begins_blocks, read_blocks, read_sought}
 

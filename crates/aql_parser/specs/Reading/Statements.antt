@@ -1,7 +1,5 @@
 -- Reading statements.
-use Rattle.std.specs.Prelude.{◌≡◌, ℕ, ◌+◌, Bool, true, false, List, [], ◌∷◌, Option, Some, None, codes}
-use Prim.Native.String.{String}
-use Rattle.aql_lexer.specs.Kinds.{Kind}
+use Rattle.std.specs.Prelude.{ℕ, List, Option}
 use Rattle.aql_lexer.specs.Kinds as k
 use Rattle.aql_syntax.specs.Trees.{Name, Query, Statement, module_, require, export, dictionary, create, output}
 use Rattle.aql_parser.specs.Readers.{Reader, ◌⊗◌, ◌▷◌, ◌◁◌, mapped, eaten, optional, separated, sees, sees_sign, exactly, symbol, keyword, a_name, a_string}

@@ -1,4 +1,4 @@
-use Rattle.std.proofs.Common.{◌≡◌, ℕ, List, map, subst, sym, arith}
+use Rattle.std.proofs.Common.{ℕ, List, subst, sym, arith}
 use Rattle.aql_syntax.specs.Views.{term_of}
 use Rattle.aql_parser.specs.Readers.{Reader, Gives, sees_sign}
 use Rattle.aql_parser.specs.Reading.Expressions.{read_term}

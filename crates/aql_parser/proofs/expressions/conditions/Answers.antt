@@ -1,4 +1,4 @@
-use Rattle.std.proofs.Common.{◌≡◌, arith}
+use Rattle.std.proofs.Common.{arith}
 use Rattle.aql_syntax.specs.Views.{term_of}
 use Rattle.aql_parser.specs.Readers.{sees}
 use Rattle.aql_parser.specs.Reading.Expressions.{read_term}

@@ -1,4 +1,4 @@
-use Rattle.std.proofs.Common.{◌≡◌, arith}
+use Rattle.std.proofs.Common.{arith}
 use Rattle.aql_syntax.specs.Views.{item_of}
 use Rattle.aql_parser.specs.Readers.{sees_sign}
 use Rattle.aql_parser.specs.Reading.Expressions.{read_item}

@@ -1,8 +1,7 @@
-use Rattle.std.proofs.Common.{◌≡◌, ◌∙◌, ◌+◌, ◌-◌, ◌≤◌, [], ◌∷◌, ◌++◌, length, map, take, drop, ap, sym, arith}
+use Rattle.std.proofs.Common.{◌≡◌, ◌∙◌, ◌+◌, ◌-◌, [], ◌∷◌, ◌++◌, length, map, take, drop, ap, arith}
 use Rattle.std.proofs.lemmas.List.{take_rest, length-map, map-append}
-use Rattle.aql_lexer.specs.Kinds.{token_of, kinds_of}
+use Rattle.aql_lexer.specs.Kinds.{token_of}
 use Rattle.aql_syntax.specs.Views.{statement_of}
-use Rattle.aql_parser.specs.Faults.{IsFaultOf}
 use Rattle.aql_parser.proofs.ProgramRules.{decided, few_parsed, run_nested, fault_is, next_parsed, all_parsed, only_these, only_memory}
 use Rattle.aql_parser.proofs.parsing.parse.Goals as goal
 

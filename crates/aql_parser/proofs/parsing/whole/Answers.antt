@@ -1,4 +1,4 @@
-use Rattle.std.proofs.Common.{◌≡◌, Ok, Err, Result, ap, sym}
+use Rattle.std.proofs.Common.{◌≡◌, Ok, Err, Result, ap}
 use Rattle.std.specs.Result.{IsErrAnd}
 use Rattle.aql_lexer.specs.Kinds.{kinds_of}
 use Rattle.aql_parser.proofs.ProgramRules.{tree_refused, tree_kept}

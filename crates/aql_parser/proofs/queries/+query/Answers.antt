@@ -1,5 +1,4 @@
-use Rattle.std.proofs.Common.{◌≡◌, ◌∙◌, ℕ, List, Option, None, subst, sym, arith}
-use Rattle.aql_lexer.specs.Kinds.{Kind}
+use Rattle.std.proofs.Common.{subst, sym, arith}
 use Rattle.aql_syntax.specs.Trees.{Query}
 use Rattle.aql_syntax.specs.Views.{query_of, source_of}
 use Rattle.aql_parser.specs.Readers.{Reader, Gives, sees, sees_sign}

@@ -1,4 +1,4 @@
-use Rattle.std.proofs.Common.{◌≡◌, ◌+◌, ◌-◌, ◌*◌, ◌∷◌, [], map}
+use Rattle.std.proofs.Common.{◌≡◌, ◌+◌, ◌-◌, ◌*◌, map}
 use Rattle.aql_syntax.specs.Views.{query_of, source_of}
 use Rattle.aql_parser.specs.Readers.{prefixed, listed, separated, sees, sees_sign}
 use Rattle.aql_parser.specs.Reading.Queries.{side, within, read_source}

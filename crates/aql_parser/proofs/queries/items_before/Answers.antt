@@ -1,7 +1,7 @@
-use Rattle.std.proofs.Common.{◌≡◌, sym, arith}
+use Rattle.std.proofs.Common.{sym, arith}
 use Rattle.aql_syntax.specs.Views.{item_of}
 use Rattle.aql_parser.specs.Reading.Queries.{begins_sought, item_before, read_items_before}
-use Rattle.aql_parser.proofs.Lists.{items_begin, items_return, items_refused, items_continue}
+use Rattle.aql_parser.proofs.Lists.{items_begin, items_return, items_continue}
 use Rattle.aql_parser.proofs.queries.items_before.Goals as goal
 
 pub loop-turn-init : goal.loop-turn-init

@@ -1,4 +1,4 @@
-use Rattle.std.proofs.Common.{◌≡◌, ◌+◌, ◌-◌, arith}
+use Rattle.std.proofs.Common.{◌+◌, ◌-◌, arith}
 use Rattle.aql_parser.specs.Readers.{sees_sign}
 use Rattle.aql_parser.specs.Reading.Statements.{a_text}
 use Rattle.aql_parser.proofs.Lists.{list_begins, plain_list_returns, plain_list_continues}
