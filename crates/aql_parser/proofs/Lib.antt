@@ -1,0 +1,16 @@
+pub mod Lists
+pub mod Depths
+pub mod Rules
+pub mod ListRules
+pub mod NameRules
+pub mod ExpressionRules
+pub mod ItemRules
+pub mod ExtractionRules
+pub mod EndRules
+pub mod ClauseRules
+pub mod SoughtRules
+pub mod QueryRules
+pub mod StatementRules
+pub mod RunRules
+pub mod ProgramRules
+pub mod Standing

@@ -1,0 +1,19 @@
+use Rattle.std.proofs.Common.{sym, arith}
+use Rattle.aql_syntax.specs.Views.{item_of}
+use Rattle.aql_parser.specs.Reading.Queries.{begins_sought, item_before, read_items_before}
+use Rattle.aql_parser.proofs.Lists.{items_begin, items_return, items_continue}
+use Rattle.aql_parser.proofs.queries.items_before.Goals as goal
+
+pub loop-turn-init : goal.loop-turn-init
+unfolding read_items_before
+loop-turn-init c =
+    rw c.new-items.ensures.items (items_begin begins_sought (item_before c.args.depth) _ _ _ (omega (arith, c.left-turn-end.ensures.value)))
+
+pub returns-then-begins_sought : goal.returns-then-begins_sought
+returns-then-begins_sought c =
+    items_return item_of begins_sought (item_before c.args.depth) _ _ _ _ _ c.loop-turn.invariant c.loop-turn-test.true (sym c.if-begins_sought.ensures)
+
+pub loop-turn-preserved : goal.loop-turn-preserved
+loop-turn-preserved c =
+    items_continue item_of begins_sought (item_before c.args.depth) _ _ _ _ _ c.loop-turn.invariant c.loop-turn-test.true (sym c.if-begins_sought.ensures)
+    _ c.in_ok-one.one _ c.in_ok-push.ensures.items c.in_ok-one.ensures

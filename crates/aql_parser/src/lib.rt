@@ -1,0 +1,21 @@
+//! The parser of programs.
+//!
+//! `parse` answers the trees whose tokens a program's are, with every node's place, or names the first
+//! statement that has no tree. `measure` counts statements and nested parentheses first and takes no
+//! memory. Stands on `aql_lexer` for tokens, on `aql_syntax` for trees and their grammar, and on
+//! `span_token` for owned text and refusals.
+#![tactic(auto)]
+
+mod clauses;
+mod cursor;
+mod expressions;
+mod extractions;
+mod measuring;
+mod parsing;
+mod queries;
+mod statements;
+#[cfg(test)]
+mod tests;
+
+pub use measuring::{MAX_NESTING, Sizes, measure};
+pub use parsing::{SyntaxFault, parse};

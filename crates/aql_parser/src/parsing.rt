@@ -1,0 +1,110 @@
+//! Whole programs.
+
+ghost use Rattle.std.specs.Prelude.{◌≡◌, ◌<◌, ◌^◌, ◌+◌, ◌&&◌, List, length, map, IfOk, IfErr, MatchResult};
+ghost use Rattle.aql_lexer.specs.Kinds.{kinds_of, token_of};
+ghost use Rattle.aql_syntax.specs.Trees.{Statement as Tree};
+ghost use Rattle.aql_syntax.specs.Views.{statement_of};
+ghost use Rattle.aql_syntax.specs.Programs.{AreTokensOf, placed_in};
+ghost use Rattle.aql_parser.specs.Nesting.{NestsWithin, IsWithin};
+ghost use Rattle.aql_parser.specs.Faults.{IsFaultOf, IsDecided};
+ghost use Rattle.aql_parser.specs.Runs.{IsTreeOf, IsKept, IsNamed, is_module, may_follow};
+
+use crate::cursor::{Cursor, NoTree, Refused};
+use crate::measuring::{MAX_NESTING, first_run};
+use crate::statements::statement;
+use aql_lexer::Tok;
+use aql_syntax::Statement;
+use span_token::Failure;
+use std::alloc::Global;
+
+/// The first statement that has no tree: its number, from 1, and the line of its first token, from 1.
+#[derive(Clone, Copy, Debug, PartialEq, Eq)]
+pub struct SyntaxFault {
+    pub statement: u32,
+    pub line: u32,
+}
+
+fn is_module(tree: &Statement) -> bool
+    ensures { result ≡ is_module (statement_of tree.now) }
+{
+    match tree {
+        Statement::Module(_) => true,
+        _ => false,
+    }
+}
+
+/// Whether the statement may have so many before it.
+fn may_follow(tree: &Statement, before: usize) -> bool
+    ensures { result ≡ may_follow before (statement_of tree.now) }
+{
+    before == 0 || !is_module(tree)
+}
+
+/// The statement, where nothing speaks against it.
+fn kept(tree: Statement, read_whole: bool, follows: bool) -> Result<Statement, Refused>
+    ensures { IsKept tree (read_whole && follows) result }
+{
+    (read_whole && follows)
+        .then_some(tree)
+        .ok_or(Failure::Fault(NoTree))
+}
+
+/// The statement whose tokens are all of `run`, where `before` statements stand before it.
+fn whole(alloc: Global, run: &[Tok], at: u32, before: usize) -> Result<Statement, Refused>
+    requires few { at + length run.now < 2 ^ 32 }
+    requires nested { IsWithin MAX_NESTING (kinds_of run.now) }
+    ensures { IsTreeOf at (kinds_of run.now) before result }
+{
+    let mut toks = Cursor::new(run, at);
+    let tree = statement(alloc, MAX_NESTING, &mut toks)?;
+    let follows = may_follow(&tree, before);
+    kept(tree, toks.is_done(), follows)
+}
+
+/// The refusal, with the statement and the line at which it stands.
+fn named(refused: Refused, statement: u32, line: u32) -> Failure<SyntaxFault>
+    ensures { IsNamed refused statement line result }
+{
+    match refused {
+        Failure::OutOfMemory => Failure::OutOfMemory,
+        Failure::Fault(NoTree) => Failure::Fault(SyntaxFault { statement, line }),
+    }
+}
+
+/// The statements whose tokens these are, or the first statement that has no tree.
+///
+/// A statement is the tokens up to and with a `;`; tokens after the last `;` are one more, which has
+/// no tree. `module` is the first statement or none. Each `at` is the number, from 0, of its node's
+/// first token. No statement may nest deeper than `MAX_NESTING`, as `measure` counts.
+///
+/// `SyntaxFault` comes exactly where some statement has no tree, and names the first one. The only
+/// other refusal is want of memory.
+///
+/// Meaning: `AreTokensOf` and `placed_in`, `aql_syntax`'s `specs/Programs.antt`; `IsFaultOf` and
+/// `IsDecided`, `specs/Faults.antt`; the grammar, `aql_syntax`'s `specs/Grammar`.
+pub fn parse(alloc: Global, toks: &[Tok]) -> Result<Vec<Statement>, Failure<SyntaxFault>>
+    requires few { length toks.now < 2 ^ 32 }
+    requires nested { NestsWithin MAX_NESTING (kinds_of toks.now) }
+    ensures trees { IfOk result (λ trees. AreTokensOf (kinds_of toks.now) (map statement_of trees.items)) }
+    ensures placed { IfOk result (λ trees. placed_in (kinds_of toks.now) (map statement_of trees.items)
+        ≡ map statement_of trees.items) }
+    ensures only { (others : List Tree) → AreTokensOf (kinds_of toks.now) others → MatchResult result
+        (λ trees. map statement_of trees.items ≡ placed_in (kinds_of toks.now) others)
+        (λ failure. failure ≡ Failure.OutOfMemory) }
+    ensures fault { IfErr result (IsFaultOf (map token_of toks.now)) }
+    ensures decided { IsDecided (map token_of toks.now) }
+{
+    let mut trees = Vec::new(alloc);
+    let mut rest = toks;
+    while let [first, ..] = rest {
+        let at = toks.len() - rest.len();
+        let len = first_run(rest).len;
+        let tree = match whole(alloc, &rest[..len], at as u32, trees.len()) {
+            Ok(tree) => tree,
+            Err(refused) => return Err(named(refused, trees.len() as u32 + 1, first.line)),
+        };
+        trees.push(tree)?;
+        rest = &rest[len..];
+    }
+    Ok(trees)
+}
