@@ -5,3 +5,5 @@ pub mod TrieLemmas
 pub mod PutLemmas
 pub mod WalkLemmas
 pub mod EntryLemmas
+pub mod RowLemmas
+pub mod SplitLemmas

@@ -1,6 +1,7 @@
 -- The walk over the tokens: what was found up to a token, in order.
-use Rattle.std.proofs.Common.{◌≡◌, ℕ, zero, suc, ◌+◌, ◌-◌, ◌<◌, ◌≤◌, ◌↔◌, ◌⊎◌, inl, inr, List, [], ◌∷◌, ◌++◌, map, length, take, drop, get_or, slice_get, slice_range, Option, Some, None, option_and_then, refl, sym, ap, ap₂, subst, ◌∙◌, arith}
+use Rattle.std.proofs.Common.{◌≡◌, ℕ, zero, suc, ◌+◌, ◌-◌, ◌<◌, ◌≤◌, ◌↔◌, ◌⊎◌, inl, inr, List, [], ◌∷◌, ◌++◌, map, length, take, drop, get_or, slice_get, slice_range, Option, Some, None, option_and_then, Bool, true, false, not, nat_eq, refl, sym, ap, ap₂, subst, ◌∙◌, arith}
 use Rattle.std.specs.List.{AllPairs, Contains}
+use Rattle.std.specs.Cmp.Lexicographic.{pointwise, same_text, other_text}
 use Rattle.std.specs.HashMap.{get_by_text}
 use Rattle.std.proofs.lemmas.Bool.{cases_lt}
 use Rattle.std.proofs.lemmas.List.{length-map, length-take, length-drop, take_more, take-map, get_or-map, get_or-drop, map-append}
@@ -16,6 +17,7 @@ use Rattle.dict_match.specs.Sources.{SomeTokens, InTextOrder}
 use Rattle.dict_match.specs.Tries.{end_of, put_dicts, step, edge_from, Reaches}
 use Rattle.dict_match.specs.Walks.{numbers_of, run_texts, PutsWhere, IsMatchUpto}
 use Rattle.dict_match.proofs.PutLemmas.{agreed-put}
+use Rattle.dict_match.proofs.SourceLemmas.{nth-part}
 
 abbrev Text : Type 0
 Text = List ℕ
@@ -218,10 +220,39 @@ none-longer trie dicts node tokens first last past i dict r none at le lt within
       (r.tree.leads node (key tokens last) begun.0).1 (record { path = keys tokens first last; «from» = r.at; to = begun.1 ∙ ap Some path }) in
     cc
 
--- the number of a token's folding gives the step
-pub step-of : (trie : Trie) (tokens : SomeTokens) (node last : ℕ) (word : Option ℕ) → last < length tokens.tokens → word ≡ get_or (numbers_of trie tokens) last word →
-    option_and_then (edge_from trie node) word ≡ step trie node (key tokens last)
+-- ---- steps of loops
+
+pub numbers-step : (trie : Trie) (tokens : SomeTokens) (i : ℕ) (word : Option ℕ) → i < length tokens.tokens → word ≡ get_by_text trie.words (key tokens i) →
+    take i (numbers_of trie tokens) ++ word ∷ [] ≡ take (i + 1) (numbers_of trie tokens)
+numbers-step trie tokens i word lt is =
+    let f : Extent → Option ℕ = λ t. get_by_text trie.words (folded (text_in tokens.doc t)) in
+    sym (take_more (map f tokens.tokens) i None (omega (arith, length-map tokens.tokens f))
+      ∙ ap (λ (o : Option ℕ). take i (map f tokens.tokens) ++ o ∷ []) (get_or-map f tokens.tokens i (record { begin = 0; end = 0 }) None lt ∙ sym is))
+
+-- the text of a run's token
+pub run_texts-nth : (tokens : SomeTokens) (first past i : ℕ) → i < past - first → past ≤ length tokens.tokens → get_or (run_texts tokens first past) i [] ≡ text_in tokens.doc (nth_token tokens.tokens (first + i))
+run_texts-nth tokens first past i lt within =
+    get_or-map (text_in tokens.doc) (slice_range tokens.tokens first past) i (record { begin = 0; end = 0 }) []
+      (omega (arith, lt, within, length-take (past - first) (drop first tokens.tokens), length-drop first tokens.tokens))
+    ∙ ap (text_in tokens.doc) (nth-part tokens.tokens first past i lt)
+
+-- a run of no token
+pub keys-none : (tokens : SomeTokens) (first : ℕ) → keys tokens first first ≡ []
+keys-none tokens first =
+    let none : first - first ≡ 0 = omega arith in
+    ap (λ (n : ℕ). map folded (texts_of tokens.doc (take n (drop first tokens.tokens)))) none
+
+pub step-at : (trie : Trie) (tokens : SomeTokens) (words : List (Option ℕ)) (node last : ℕ) → last < length tokens.tokens → words ≡ numbers_of trie tokens →
+    option_and_then (edge_from trie node) (get_or words last None) ≡ step trie node (key tokens last)
 unfolding step
-step-of trie tokens node last word lt is =
+step-at trie tokens words node last lt is =
     ap (option_and_then (edge_from trie node))
-    (is ∙ get_or-map (λ (t : Extent). get_by_text trie.words (folded (text_in tokens.doc t))) tokens.tokens last (record { begin = 0; end = 0 }) word lt)
+    (ap (λ (ws : List (Option ℕ)). get_or ws last None) is ∙ get_or-map (λ (t : Extent). get_by_text trie.words (folded (text_in tokens.doc t))) tokens.tokens last (record { begin = 0; end = 0 }) None lt)
+
+-- what `!=` of two texts tells
+told : (xs ys : Text) (p b : Bool) → p ≡ pointwise nat_eq xs ys → b ≡ not p → (b ≡ false → xs ≡ ys) × (b ≡ true → xs ≡ ys → ⊥)
+told xs ys true b e is = (λ _. same_text xs ys e, λ h s. cc)
+told xs ys false b e is = (λ h. cc, λ _ s. other_text xs ys e s)
+
+pub told-ne : (xs ys : Text) (b : Bool) → b ≡ not (pointwise nat_eq xs ys) → (b ≡ false → xs ≡ ys) × (b ≡ true → xs ≡ ys → ⊥)
+told-ne xs ys b is = told xs ys (pointwise nat_eq xs ys) b refl is

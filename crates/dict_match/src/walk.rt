@@ -1,4 +1,4 @@
-ghost use Rattle.std.specs.Prelude.{◌≡◌, ◌≤◌, ◌<◌, ◌+◌, ◌↔◌, ◌++◌, ◌∷◌, [], List, ℕ, Option, length, map, slice_get, Some, option_and_then, IfOk, OnOk, IsTrue, All};
+ghost use Rattle.std.specs.Prelude.{◌≡◌, ◌≤◌, ◌<◌, ◌+◌, ◌-◌, ◌↔◌, ◌++◌, ◌∷◌, [], List, ℕ, Option, length, map, slice_get, slice_index_or, Some, None, option_and_then, IfOk, OnOk, IsTrue, All};
 ghost use Rattle.dict_match.specs.Dictionaries.{IsMatch, AreInOrder, run_extent};
 ghost use Rattle.dict_match.specs.Rows.{said, extents_for};
 ghost use Rattle.dict_match.specs.declared.dict_use.DictUse.{DictUse};
@@ -74,43 +74,44 @@ fn push_matches_from(
 {
     let mut node = 0;
     for last in first..tokens.len() {
-        let Some(next) = step(trie, node, words[last]) else {
+        let Some(next) = step(trie, node, words, last) else {
             return Ok(());
         };
         node = next;
-        push_ends(trie.ends[node].as_slice(), tokens, first, last, into)?;
+        push_ends(trie.ends[node].as_slice(), tokens, first, last + 1, into)?;
     }
     Ok(())
 }
 
-/// The node to which a token leads from `node`.
-fn step(trie: &Trie, node: usize, word: Option<usize>) -> Option<usize>
-    ensures { result ≡ option_and_then (edge_from trie.now node) word }
+/// The node to which token `i` leads from `node`.
+#[inline(always)]
+fn step(trie: &Trie, node: usize, words: &[Option<usize>], i: usize) -> Option<usize>
+    requires { i < length words.now }
+    ensures { result ≡ option_and_then (edge_from trie.now node) (slice_index_or words.now i None) }
 {
-    match word {
-        Some(word) => trie.edges.get(&(node, word)).copied(),
-        None => None,
-    }
+    let word = words[i]?;
+    trie.edges.get(&(node, word)).copied()
 }
 
-/// Puts a match for each of these ends after the others that agrees with the run.
+/// Puts a match for each of these ends after the others that agrees with the run of tokens from
+/// `first` to before `past`.
 fn push_ends(
     ends: &[End],
     tokens: &SourceTokens<'_, '_>,
     first: usize,
-    last: usize,
+    past: usize,
     into: &mut Vec<DictMatch>,
 ) -> Result<(), OutOfMemory>
-    requires in_order { first ≤ last }
-    requires there { last < length tokens.now.tokens }
-    ensures matches { HasOneEach (run_texts tokens.now first (last + 1)) ends.now
-        → (i : ℕ) → OnOk result (PutsWhere (HasEndFor i (run_texts tokens.now first (last + 1)) ends.now) (run_extent tokens.now.tokens first last)
+    requires some { first < past }
+    requires there { past ≤ length tokens.now.tokens }
+    ensures matches { HasOneEach (run_texts tokens.now first past) ends.now
+        → (i : ℕ) → OnOk result (PutsWhere (HasEndFor i (run_texts tokens.now first past) ends.now) (run_extent tokens.now.tokens first (past - 1))
         (extents_for i (map said into.old.items)) (extents_for i (map said into.new.items))) }
     ensures places { (n : ℕ) → All (λ end. end.dict < n) ends.now → All (λ m. m.dict < n) into.old.items → OnOk result (All (λ m. m.dict < n) into.new.items) }
 {
     for end in ends {
-        if does_agree(end, tokens, first, last) {
-            let span = tokens.run(first, last);
+        if does_agree(end, tokens, first, past) {
+            let span = tokens.run(first, past - 1);
             into.push(DictMatch {
                 dict: end.dict,
                 span,
@@ -121,14 +122,14 @@ fn push_ends(
 }
 
 /// Whether an end at the node of a run's foldings agrees with the run.
-fn does_agree(end: &End, tokens: &SourceTokens<'_, '_>, first: usize, last: usize) -> bool
-    requires in_order { first ≤ last }
-    requires there { last < length tokens.now.tokens }
-    ensures { IsTrue result ↔ IsSpelled (run_texts tokens.now first (last + 1)) end.now.spelled }
+fn does_agree(end: &End, tokens: &SourceTokens<'_, '_>, first: usize, past: usize) -> bool
+    requires some { first < past }
+    requires there { past ≤ length tokens.now.tokens }
+    ensures { IsTrue result ↔ IsSpelled (run_texts tokens.now first past) end.now.spelled }
 {
     match &end.spelled {
         None => true,
-        Some(texts) => are_spelled(texts.as_slice(), tokens, first, last),
+        Some(texts) => are_spelled(texts.as_slice(), tokens, first, past),
     }
 }
 
@@ -137,13 +138,13 @@ fn are_spelled(
     texts: &[OwnedText],
     tokens: &SourceTokens<'_, '_>,
     first: usize,
-    last: usize,
+    past: usize,
 ) -> bool
-    requires in_order { first ≤ last }
-    requires there { last < length tokens.now.tokens }
-    ensures { IsTrue result ↔ texts.now ≡ run_texts tokens.now first (last + 1) }
+    requires some { first < past }
+    requires there { past ≤ length tokens.now.tokens }
+    ensures { IsTrue result ↔ texts.now ≡ run_texts tokens.now first past }
 {
-    if texts.len() != last - first + 1 {
+    if texts.len() != past - first {
         return false;
     }
     for (i, text) in texts.iter().enumerate() {
