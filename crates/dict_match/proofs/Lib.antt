@@ -7,3 +7,4 @@ pub mod WalkLemmas
 pub mod EntryLemmas
 pub mod RowLemmas
 pub mod SplitLemmas
+pub mod InsideLemmas

@@ -21,6 +21,10 @@ extents_for dict ms = map (λ m. m.1) (filter (λ m. m.0 == dict) ms)
 abbrev pub extents_of_rows : {A : Type 0} → List (Vec Span A) → List (List Extent)
 extents_of_rows = map (λ row. map extent_of row.items)
 
+-- an extent lies in the source
+abbrev pub IsInside : Extent → Extent → Type 0
+IsInside source e = (source.begin ≤ e.begin) × (e.end ≤ source.end)
+
 -- for each dictionary, exactly its matches
 pub record AreRowsOfEach (dicts : List DictUse) (d : Doc) (source : Extent) (rows : List (List Extent)) : Type 0 where
   pub number : length rows ≡ length dicts

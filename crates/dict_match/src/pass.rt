@@ -3,7 +3,7 @@ ghost use Rattle.span_token.specs.Documents.{LiesIn};
 ghost use Rattle.span_token.specs.Extents.{extent_of};
 ghost use Rattle.dict_match.specs.declared.dict_use.DictUse.{DictUse};
 ghost use Rattle.dict_match.specs.Dictionaries.{AreDictRows};
-ghost use Rattle.dict_match.specs.Rows.{said, extents_for, extents_of_rows, AreRowsOfEach};
+ghost use Rattle.dict_match.specs.Rows.{said, extents_for, extents_of_rows, AreRowsOfEach, IsInside};
 
 use crate::dict_use::{DictUse, copied_dicts};
 use crate::source::SourceTokens;
@@ -13,7 +13,9 @@ use span_token::{Document, OutOfMemory, OwnedList, Span};
 use std::alloc::Global;
 use std::marker::Model;
 
-/// Several dictionaries, made ready to be matched in one walk.
+/// Several dictionaries, made ready to be matched in one walk over a document's tokens.
+///
+/// Contracts see it as these dictionaries. A pass may be shared among threads.
 #[derive(Drop)]
 pub struct DictPass {
     dicts: OwnedList<DictUse>,
@@ -52,6 +54,8 @@ impl DictScratch {
 
 impl DictPass {
     /// A pass for `dicts`, each of whose entries has at most 16,777,216 bytes.
+    ///
+    /// Copies the dictionaries and makes one tree of all their entries' tokens.
     pub fn new(alloc: Global, dicts: &[DictUse]) -> Result<DictPass, OutOfMemory>
         requires short { All (λ dict. All (λ entry. length entry ≤ 16777216) dict.entries) dicts.now }
         ensures { IfOk result (λ pass. pass ≡ dicts.now) }
@@ -65,6 +69,16 @@ impl DictPass {
         Ok(DictPass { dicts, trie })
     }
 
+    /// The matches wholly in `source` of all dictionaries, in the place of what `into` holds.
+    ///
+    /// A match is the place of a dictionary in the pass, from 0, with a span: from the begin of the
+    /// first to the end of the last token of a run of tokens, wholly in `source`, that agrees token by
+    /// token with some entry of that dictionary. For each dictionary each span comes once and in span
+    /// order; the matches of several dictionaries stand among one another. Spans count characters of
+    /// `doc`. Takes memory only where `scratch` or `into` has no room; after want of memory no clause
+    /// says what `into` holds.
+    ///
+    /// Meaning: `AreDictRows`, `specs/Dictionaries.antt`.
     pub fn find_all(
         &self,
         doc: &Document<'_>,
@@ -76,6 +90,7 @@ impl DictPass {
         ensures matches { (i : ℕ) (dict : DictUse) → slice_get self.now i ≡ Some dict
             → OnOk result (AreDictRows dict doc.now (extent_of source) (extents_for i (map said into.new.items))) }
         ensures places { OnOk result (All (λ m. m.dict < length self.now) into.new.items) }
+        ensures within { OnOk result (All (λ m. IsInside (extent_of source) (extent_of m.span)) into.new.items) }
     {
         into.clear();
         let tokens = SourceTokens::of(doc, source);
@@ -88,6 +103,9 @@ impl DictPass {
         push_matches(&self.trie, &tokens, scratch.words.as_slice(), into)
     }
 
+    /// The same as one list for each dictionary, in their order.
+    ///
+    /// Meaning: `AreRowsOfEach`, `specs/Rows.antt`, and `AreDictRows`, `specs/Dictionaries.antt`.
     pub fn matches(
         &self,
         alloc: Global,
@@ -96,6 +114,7 @@ impl DictPass {
     ) -> Result<Vec<Vec<Span>>, OutOfMemory>
         requires in_document { LiesIn (extent_of source) doc.now }
         ensures matches { IfOk result (λ rows. AreRowsOfEach self.now doc.now (extent_of source) (extents_of_rows rows.items)) }
+        ensures within { IfOk result (λ rows. All (λ row. All (λ s. IsInside (extent_of source) (extent_of s)) row.items) rows.items) }
     {
         let mut scratch = DictScratch::new(alloc);
         let mut found = Vec::new(alloc);

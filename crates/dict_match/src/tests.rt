@@ -178,6 +178,7 @@ fn only_tokens_wholly_in_the_source_count(rt: HostRuntime) -> Result<(), Fail> {
 }
 
 /// A text, and how many matches were found in it.
+#[derive(Drop)]
 struct Trial<'t> {
     text: &'t str,
     found: usize,
