@@ -1,5 +1,5 @@
 -- One entry is put into the tree, token by token.
-use Rattle.std.proofs.Common.{◌≡◌, ℕ, ◌+◌, ◌<◌, Bool, true, false, cond, List, [], ◌∷◌, ◌++◌, map, length, take, get_or, Option, Some, None, refl, sym, ap, ap₂, ◌∙◌, arith}
+use Rattle.std.proofs.Common.{◌≡◌, ℕ, ◌+◌, ◌<◌, Bool, cond, List, [], ◌∷◌, ◌++◌, map, length, take, get_or, Option, Some, None, refl, sym, ap, ap₂, ◌∙◌, arith}
 use Rattle.std.specs.List.{flat_map}
 use Rattle.std.proofs.lemmas.List.{length-map, take_more, get_or-map, map-append, append-nil, append_assoc, flat_map_more}
 use Rattle.span_token.specs.Documents.{Doc, text_in}
@@ -12,7 +12,7 @@ use Rattle.dict_match.specs.Tries.{end_of, put_texts, put_dict, put_dicts}
 pub texts-step : (d : Doc) (tokens : List Extent) (i : ℕ) → i < length tokens → take i (texts_of d tokens) ++ text_in d (nth_token tokens i) ∷ [] ≡ take (i + 1) (texts_of d tokens)
 texts-step d tokens i lt =
     sym (take_more (texts_of d tokens) i [] (omega (arith, length-map tokens (text_in d)))
-      ∙ ap (λ (t : List ℕ). take i (texts_of d tokens) ++ t ∷ []) (get_or-map (text_in d) tokens i (record { begin = 0; end = 0 }) [] lt))
+    ∙ ap (λ (t : List ℕ). take i (texts_of d tokens) ++ t ∷ []) (get_or-map (text_in d) tokens i (record { begin = 0; end = 0 }) [] lt))
 
 pub keys-step : (d : Doc) (tokens : List Extent) (i : ℕ) (x : List ℕ) → i < length tokens → x ≡ folded (text_in d (nth_token tokens i)) →
     map folded (take i (texts_of d tokens)) ++ x ∷ [] ≡ map folded (take (i + 1) (texts_of d tokens))

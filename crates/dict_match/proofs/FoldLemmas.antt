@@ -1,5 +1,5 @@
 -- The folding of ASCII text, and text that an iterator adds.
-use Rattle.std.proofs.Common.{◌≡◌, ℕ, zero, suc, ◌<◌, List, [], ◌∷◌, map, length, get_or, All, Option, IsAscii, chars, encode_utf8_all, refl, sym, ap, ap₂, subst, ◌∙◌, arith, suc-le-suc, zero-le}
+use Rattle.std.proofs.Common.{◌≡◌, ℕ, suc, ◌<◌, List, [], ◌∷◌, map, length, get_or, Option, IsAscii, chars, encode_utf8_all, refl, sym, ap, ap₂, subst, ◌∙◌, suc-le-suc, zero-le}
 use Rattle.std.specs.Char.{to_ascii_lowercase}
 use Rattle.std.specs.Iterator.{Drains}
 use Rattle.std.proofs.lemmas.Iterator.{YieldsList, items_from_drains}

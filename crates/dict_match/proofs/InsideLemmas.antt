@@ -13,7 +13,7 @@ use Rattle.span_token.specs.Tokens.{tokens_of}
 use Rattle.span_token.specs.declared.span.Span.{Span}
 use Rattle.dict_match.specs.declared.dict_use.DictUse.{DictUse}
 use Rattle.dict_match.specs.declared.walk.DictMatch.{DictMatch}
-use Rattle.dict_match.specs.Dictionaries.{tokens_in, nth_token, run_extent, IsMatch, AreDictRows}
+use Rattle.dict_match.specs.Dictionaries.{tokens_in, nth_token, IsMatch, AreDictRows}
 use Rattle.dict_match.specs.Rows.{said, extents_for, extents_of_rows, AreRowsOfEach, IsInside}
 
 token-inside : (d : Doc) (source : Extent) (i : ℕ) → i < length (tokens_in d source) →

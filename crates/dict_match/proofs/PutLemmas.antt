@@ -1,8 +1,8 @@
 -- What is put into the tree for some dictionaries, and the ends that a run of tokens finds there.
-use Rattle.std.proofs.Common.{◌≡◌, ◌≢◌, ℕ, zero, suc, ◌+◌, ◌<◌, ◌≤◌, ◌⊎◌, inl, inr, Bool, true, false, cond, List, [], ◌∷◌, ◌++◌, map, length, get_or, slice_get, All, Option, Some, None, refl, sym, ap, ap₂, subst, ◌∙◌, arith, suc-le-suc, le_of_suc-le-suc, zero-le}
+use Rattle.std.proofs.Common.{◌≡◌, ℕ, zero, suc, ◌+◌, ◌<◌, inl, inr, Bool, true, false, cond, List, [], ◌∷◌, map, length, get_or, slice_get, All, Option, Some, None, refl, sym, ap, ap₂, subst, ◌∙◌, arith, suc-le-suc, le_of_suc-le-suc, zero-le}
 use Rattle.std.specs.List.{Contains, flat_map}
 use Rattle.std.proofs.lemmas.List.{length-map}
-use Rattle.std.proofs.lemmas.List.Elements.{Contains-get_or, Contains-append_left, Contains-append_right, Contains-append_cases, Contains-push_cases, Contains-push}
+use Rattle.std.proofs.lemmas.List.Elements.{Contains-get_or, Contains-append_left, Contains-append_right, Contains-append_cases, Contains-push_cases}
 use Rattle.std.proofs.lemmas.Option.{slice_get_within}
 use Rattle.dict_match.specs.declared.dict_use.DictUse.{DictUse}
 use Rattle.dict_match.specs.declared.trie.End.{End}
@@ -93,6 +93,7 @@ put-cases place (dict ∷ dicts) path end c = elim (Contains-append_cases (put_d
 ] where
   place_itself : (n : ℕ) → n ≡ n + 0
   place_itself n = omega arith
+
   place_later : (n k : ℕ) → n + 1 + k ≡ n + suc k
   place_later n k = omega arith
 
@@ -170,11 +171,11 @@ module _ (trie : Trie) (dicts : List DictUse) (node : ℕ) (texts : List Text) (
       let number : put_one.number ≡ put_two.number = omega (arith, put_one.dict_is, put_two.dict_is, same) in
       let dict : put_one.dict ≡ put_two.dict = some_same put_one.dict put_two.dict (sym put_one.at ∙ ap (slice_get dicts) number ∙ put_two.at) in
       let spelled : one.spelled ≡ two.spelled =
-        put_one.spelled_is
-        ∙ spelled-same put_one.dict.exact texts (entry_texts put_one.entry) (subst (IsSpelled texts) put_one.spelled_is a)
-        ∙ ap (λ (x : DictUse). cond x.exact (Some texts) None) dict
-        ∙ sym (spelled-same put_two.dict.exact texts (entry_texts put_two.entry) (subst (IsSpelled texts) put_two.spelled_is b))
-        ∙ sym put_two.spelled_is in
+      put_one.spelled_is
+      ∙ spelled-same put_one.dict.exact texts (entry_texts put_one.entry) (subst (IsSpelled texts) put_one.spelled_is a)
+      ∙ ap (λ (x : DictUse). cond x.exact (Some texts) None) dict
+      ∙ sym (spelled-same put_two.dict.exact texts (entry_texts put_two.entry) (subst (IsSpelled texts) put_two.spelled_is b))
+      ∙ sym put_two.spelled_is in
       r.ends.once node i j d lt low (ap₂ (λ (n : ℕ) (s : Option (List Text)). let e : End = record { dict = n; spelled = s } in e) same spelled)
 
   pub ends-within : All (λ end. end.dict < length dicts) here

@@ -4,7 +4,7 @@ use Rattle.std.specs.List.{Contains, filter}
 use Rattle.std.proofs.lemmas.Bool.{cases_eq}
 use Rattle.std.proofs.lemmas.Bool.Decides.{eqb_tells}
 use Rattle.std.proofs.lemmas.List.{map-append, append-nil, take_more, length-take, get_or-take, get_or_default}
-use Rattle.std.proofs.lemmas.List.Elements.{Contains-append_left, Contains-push, Contains-push_cases, Contains-get_or, filter-append}
+use Rattle.std.proofs.lemmas.List.Elements.{Contains-append_left, Contains-push, Contains-push_cases, filter-append}
 use Rattle.span_token.specs.Extents.{Extent, extent_of}
 use Rattle.dict_match.specs.declared.trie.End.{End}
 use Rattle.dict_match.specs.declared.walk.DictMatch.{DictMatch}
@@ -110,9 +110,9 @@ module _ (i : ℕ) (texts : List (List ℕ)) (ends : List End) (k : ℕ) (end : 
         elim puts [
           | inl put ↦ inl (has-more i texts ends k end lt is put.0, still ∙ put.1)
           | inr kept ↦ inr (
-              λ has. elim (has-cases i texts ends k end lt is has) [ inl a ↦ kept.0 a | inr a ↦ other a.0 ],
-              still ∙ kept.1,
-            )
+            λ has. elim (has-cases i texts ends k end lt is has) [ inl a ↦ kept.0 a | inr a ↦ other a.0 ],
+            still ∙ kept.1,
+          )
         ]
   ]
 

@@ -1,7 +1,7 @@
 -- Matches are put into the row of their dictionary.
-use Rattle.std.proofs.Common.{◌≡◌, ℕ, ◌+◌, ◌<◌, List, [], ◌∷◌, ◌++◌, inl, inr, map, length, take, get_or, replicate, refl, sym, ap, ap₂, ◌∙◌, arith, cond, ◌==◌}
+use Rattle.std.proofs.Common.{◌≡◌, ℕ, ◌+◌, ◌<◌, List, [], ◌∷◌, ◌++◌, inl, inr, map, length, take, get_or, replicate, sym, ap, ◌∙◌, arith}
 use Rattle.std.proofs.lemmas.Bool.{cases_eq}
-use Rattle.std.proofs.lemmas.List.{map-append, append_assoc, take_more, get_or-map, get_or_default, get_or-set_same, get_or-set_other, get_or-replicate, length-replicate, length-map}
+use Rattle.std.proofs.lemmas.List.{map-append, append_assoc, take_more, get_or-map, get_or-set_same, get_or-set_other, get_or-replicate, length-replicate, length-map}
 use Rattle.std.proofs.Math.ListN.{set, length-set}
 use Rattle.std.specs.declared.vec.Vec.{Vec}
 use Rattle.span_token.specs.Extents.{Extent, extent_of}

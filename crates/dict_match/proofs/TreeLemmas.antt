@@ -1,5 +1,5 @@
 -- The tree of all entries, when a node or an end is added.
-use Rattle.std.proofs.Common.{◌≡◌, ◌≢◌, ℕ, zero, suc, ◌+◌, ◌<◌, ◌≤◌, ◌↔◌, ◌⊎◌, inl, inr, List, [], ◌∷◌, ◌++◌, length, take, get_or, slice_get, Option, Some, None, refl, sym, ap, ap₂, subst, ◌∙◌, arith}
+use Rattle.std.proofs.Common.{◌≡◌, ◌≢◌, ℕ, zero, suc, ◌<◌, ◌≤◌, ◌↔◌, ◌⊎◌, inl, inr, List, [], ◌∷◌, ◌++◌, length, take, get_or, slice_get, Option, Some, None, refl, sym, ap, ap₂, subst, ◌∙◌, arith}
 use Rattle.std.specs.List.{AllPairs, Contains}
 use Rattle.std.proofs.lemmas.Bool.{cases_lt, cases_eq}
 use Rattle.std.proofs.lemmas.List.{take-append-le, take_all, length-append, get_or_past, get_or-set_same, get_or-set_other}
@@ -126,7 +126,7 @@ module _ (old new : ℕ → Text → Option ℕ) (paths : List (List Text)) (p :
       | inl b ↦
           let m = tree.closed next (length led.path) (led.path ++ u ∷ []) b in
           let front : take (length led.path) (led.path ++ u ∷ []) ≡ led.path =
-            take-append-le (length led.path) led.path (u ∷ []) (omega arith) ∙ take_all (length led.path) led.path (omega arith) in
+          take-append-le (length led.path) led.path (u ∷ []) (omega arith) ∙ take_all (length led.path) led.path (omega arith) in
           absurd (fresh m.0 (m.1 ∙ ap Some (front ∙ sym a.1)))
       | inr b ↦
           let longer : length (led.path ++ u ∷ []) ≡ length led.path = ap length (sym b.1 ∙ a.1) in
@@ -170,9 +170,10 @@ HasEnds-added ends paths put path fresh has = record {
   listed = λ n x h e. subst (λ (es : List End). Contains es e ↔ Contains put (x, e)) (sym (one_more ends n)) (elim (at_cases paths path n x h) [
     | inl a ↦ has.listed n x a e
     | inr a ↦
-        let past : get_or ends n [] ≡ [] = get_or_past ends n [] (omega (arith, a.0, has.size)) in
-        (λ c. absurd (none_listed e (subst (λ (es : List End). Contains es e) past c)),
-         λ c. let k = has.kept x e c in absurd (fresh k.0 (k.1 ∙ ap Some (sym a.1))))
+        let past : get_or ends n [] ≡ [] = get_or_past ends n [] (omega (arith, a.0, has.size)) in (
+          λ c. absurd (none_listed e (subst (λ (es : List End). Contains es e) past c)),
+          λ c. let k = has.kept x e c in absurd (fresh k.0 (k.1 ∙ ap Some (sym a.1))),
+        )
   ]);
   once = λ n. subst (AllPairs ◌≢◌) (sym (one_more ends n)) (has.once n);
   kept = λ x e c. let k = has.kept x e c in (k.0, at_front paths (path ∷ []) k.0 x k.1);
@@ -193,7 +194,7 @@ HasEnds-again ends paths put node path end one here there has = record {
           let same_end : end ≡ e = ap (λ (p : List Text × End). p.1) a in
           let place = one node n x (here ∙ ap Some same_path) h in
           subst (λ (v : End). Contains (get_or ends n []) v) same_end (subst (λ (m : ℕ). Contains (get_or ends m []) end) place there)
-    ]
+    ],
   );
   once = has.once;
   kept = λ x e c. elim (Contains-push_cases put (path, end) (x, e) c) [
@@ -216,23 +217,25 @@ HasEnds-pushed ends paths put node path end one here within gone has =
       listed = λ n x h e. elim (cases_eq n node) [
         | inl same ↦
             let path_is : path ≡ x = some_same path x (sym here ∙ ap (slice_get paths) (sym same) ∙ h) in
-            let listed = has.listed n x h e in
-            (λ c. elim (Contains-push_cases es end e (subst (λ (l : List End). Contains l e) (ap (λ (m : ℕ). get_or new m []) same ∙ at_node) c)) [
-               | inl a ↦ Contains-append_left put ((path, end) ∷ []) (x, e) (listed.0 (subst (λ (m : ℕ). Contains (get_or ends m []) e) (sym same) a))
-               | inr a ↦ subst (λ (q : List Text × End). Contains (put ++ (path, end) ∷ []) q) (ap₂ (λ (y : List Text) (v : End). let q : List Text × End = (y, v) in q) path_is a) (Contains-push put (path, end))
-             ],
-             λ c. subst (λ (l : List End). Contains l e) (sym (ap (λ (m : ℕ). get_or new m []) same ∙ at_node)) (elim (Contains-push_cases put (path, end) (x, e) c) [
-               | inl a ↦ Contains-append_left es (end ∷ []) e (subst (λ (m : ℕ). Contains (get_or ends m []) e) same (listed.1 a))
-               | inr a ↦ subst (Contains (es ++ end ∷ [])) (ap (λ (q : List Text × End). q.1) a) (Contains-push es end)
-             ]))
+            let listed = has.listed n x h e in (
+              λ c. elim (Contains-push_cases es end e (subst (λ (l : List End). Contains l e) (ap (λ (m : ℕ). get_or new m []) same ∙ at_node) c)) [
+                | inl a ↦ Contains-append_left put ((path, end) ∷ []) (x, e) (listed.0 (subst (λ (m : ℕ). Contains (get_or ends m []) e) (sym same) a))
+                | inr a ↦ subst (λ (q : List Text × End). Contains (put ++ (path, end) ∷ []) q) (ap₂ (λ (y : List Text) (v : End). let q : List Text × End = (y, v) in q) path_is a) (Contains-push put (path, end))
+              ],
+              λ c. subst (λ (l : List End). Contains l e) (sym (ap (λ (m : ℕ). get_or new m []) same ∙ at_node)) (elim (Contains-push_cases put (path, end) (x, e) c) [
+                | inl a ↦ Contains-append_left es (end ∷ []) e (subst (λ (m : ℕ). Contains (get_or ends m []) e) same (listed.1 a))
+                | inr a ↦ subst (Contains (es ++ end ∷ [])) (ap (λ (q : List Text × End). q.1) a) (Contains-push es end)
+              ]),
+            )
         | inr other ↦
             let apart : get_or new n [] ≡ get_or ends n [] = get_or-set_other ends node n (es ++ end ∷ []) [] other in
-            let listed = has.listed n x h e in
-            (λ c. Contains-append_left put ((path, end) ∷ []) (x, e) (listed.0 (subst (λ (l : List End). Contains l e) apart c)),
-             λ c. subst (λ (l : List End). Contains l e) (sym apart) (elim (Contains-push_cases put (path, end) (x, e) c) [
-               | inl a ↦ listed.1 a
-               | inr a ↦ absurd (other (one n node x h (here ∙ ap (λ (q : List Text × End). Some q.0) a)))
-             ]))
+            let listed = has.listed n x h e in (
+              λ c. Contains-append_left put ((path, end) ∷ []) (x, e) (listed.0 (subst (λ (l : List End). Contains l e) apart c)),
+              λ c. subst (λ (l : List End). Contains l e) (sym apart) (elim (Contains-push_cases put (path, end) (x, e) c) [
+                | inl a ↦ listed.1 a
+                | inr a ↦ absurd (other (one n node x h (here ∙ ap (λ (q : List Text × End). Some q.0) a)))
+              ]),
+            )
       ];
       once = λ n. elim (cases_eq n node) [
         | inl same ↦ subst (AllPairs ◌≢◌) (sym (ap (λ (m : ℕ). get_or new m []) same ∙ at_node))

@@ -13,7 +13,7 @@ use Rattle.std.proofs.lemmas.Slice.Eq.{bytes_eq-Decides}
 use Rattle.std.proofs.Math.ListN.{set}
 use Rattle.dict_match.specs.declared.trie.End.{End}
 use Rattle.dict_match.specs.declared.trie.Trie.{Trie}
-use Rattle.dict_match.specs.Tries.{is_same_edge, edge_from, step, IsNumbered, IsTree, HasEnds, Reaches}
+use Rattle.dict_match.specs.Tries.{is_same_edge, edge_from, step, IsNumbered, HasEnds, Reaches}
 use Rattle.dict_match.proofs.TreeLemmas.{at_end, some_same, AddsStep, fresh, IsTree-added, IsTree-same, HasEnds-added, HasEnds-again, HasEnds-pushed}
 
 -- ---- tests
@@ -127,9 +127,9 @@ module _ (old new : Trie) (node word : ℕ) (text : List ℕ) (adds : AddsNode o
   step_by (Some w) q u h = elim (edge_cases q w) [
     | inl same ↦ inl (sym same.0.0, numbered.apart u text word (h ∙ ap Some (sym same.0.1)) has)
     | inr other ↦ inr (
-        λ same. let found : Some w ≡ Some word = sym h ∙ ap (get_by_text old.words) same.1 ∙ has in other.0 (sym same.0, sym (some_same w word found)),
-        other.1,
-      )
+      λ same. let found : Some w ≡ Some word = sym h ∙ ap (get_by_text old.words) same.1 ∙ has in other.0 (sym same.0, sym (some_same w word found)),
+      other.1,
+    )
   ]
 
   adds_step : AddsStep (step old) (step new) node text
@@ -171,7 +171,7 @@ Reaches-node old new put node word text path adds has r =
       numbered = numbered-node old new node word text adds r.numbered has;
       tree = IsTree-added (step old) (step new) r.paths node text path r.tree r.at none some steps;
       ends = subst (λ es. HasEnds es (r.paths ++ (path ++ text ∷ []) ∷ []) put) (sym adds.ends)
-        (HasEnds-added old.ends.items r.paths put (path ++ text ∷ []) (fresh (step old) (step new) r.paths node text path r.tree r.at none some steps) r.ends);
+          (HasEnds-added old.ends.items r.paths put (path ++ text ∷ []) (fresh (step old) (step new) r.paths node text path r.tree r.at none some steps) r.ends);
       at = ap (slice_get (r.paths ++ (path ++ text ∷ []) ∷ [])) r.ends.size ∙ at_end r.paths (path ++ text ∷ []);
     }
 
@@ -227,7 +227,7 @@ Reaches-end old new put node path end words edges ends gone r = record {
   };
   tree = IsTree-same (step old) (step new) r.paths (step-same old new words edges) r.tree;
   ends = subst (λ es. HasEnds es r.paths (put ++ (path, end) ∷ [])) (sym ends)
-    (HasEnds-pushed old.ends.items r.paths put node path end r.tree.once r.at (node-there old put node path r) gone r.ends);
+      (HasEnds-pushed old.ends.items r.paths put node path end r.tree.once r.at (node-there old put node path r) gone r.ends);
   at = r.tree.root;
 }
 

@@ -1,6 +1,6 @@
 -- The walk over the tokens: what was found up to a token, in order.
 use Rattle.std.proofs.Common.{◌≡◌, ℕ, zero, suc, ◌+◌, ◌-◌, ◌<◌, ◌≤◌, ◌↔◌, ◌⊎◌, inl, inr, List, [], ◌∷◌, ◌++◌, map, length, take, drop, get_or, slice_get, slice_range, Option, Some, None, option_and_then, Bool, true, false, not, nat_eq, refl, sym, ap, ap₂, subst, ◌∙◌, arith}
-use Rattle.std.specs.List.{AllPairs, Contains}
+use Rattle.std.specs.List.{Contains}
 use Rattle.std.specs.Cmp.Lexicographic.{pointwise, same_text, other_text}
 use Rattle.std.specs.HashMap.{get_by_text}
 use Rattle.std.proofs.lemmas.Bool.{cases_lt}
@@ -10,7 +10,6 @@ use Rattle.std.proofs.lemmas.List.Quantifiers.{all_pairs_push}
 use Rattle.span_token.specs.Documents.{text_in}
 use Rattle.span_token.specs.Extents.{Extent}
 use Rattle.dict_match.specs.declared.dict_use.DictUse.{DictUse}
-use Rattle.dict_match.specs.declared.trie.End.{End}
 use Rattle.dict_match.specs.declared.trie.Trie.{Trie}
 use Rattle.dict_match.specs.Dictionaries.{folded, entry_texts, texts_of, nth_token, run_extent, AgreesWith, IsMatch, IsBefore, AreInOrder}
 use Rattle.dict_match.specs.Sources.{SomeTokens, InTextOrder}
@@ -65,7 +64,7 @@ pub keys-take : (tokens : SomeTokens) (first last past : ℕ) → first ≤ last
 keys-take tokens first last past le lt =
     take-map folded (last + 1 - first) (run_texts tokens first past)
     ∙ ap (map folded) (take-map (text_in tokens.doc) (last + 1 - first) (slice_range tokens.tokens first past)
-      ∙ ap (texts_of tokens.doc) (take-shorter (drop first tokens.tokens) (last + 1 - first) (past - first) (omega arith)))
+    ∙ ap (texts_of tokens.doc) (take-shorter (drop first tokens.tokens) (last + 1 - first) (past - first) (omega arith)))
 
 -- ---- one more step
 
@@ -215,9 +214,9 @@ none-longer trie dicts node tokens first last past i dict r none at le lt within
     let there = r.ends.kept (keys tokens first past) (end_of i dict.exact (entry_texts agrees.entry)) put in
     let begun = r.tree.closed there.0 (last + 1 - first) (keys tokens first past) there.1 in
     let path : take (last + 1 - first) (keys tokens first past) ≡ keys tokens first last ++ key tokens last ∷ [] =
-      keys-take tokens first last past le lt ∙ keys-more tokens first last le (omega (arith, lt, within)) in
+    keys-take tokens first last past le lt ∙ keys-more tokens first last le (omega (arith, lt, within)) in
     let leads : step trie node (key tokens last) ≡ Some begun.0 =
-      (r.tree.leads node (key tokens last) begun.0).1 (record { path = keys tokens first last; «from» = r.at; to = begun.1 ∙ ap Some path }) in
+    (r.tree.leads node (key tokens last) begun.0).1 (record { path = keys tokens first last; «from» = r.at; to = begun.1 ∙ ap Some path }) in
     cc
 
 -- ---- steps of loops
@@ -227,13 +226,13 @@ pub numbers-step : (trie : Trie) (tokens : SomeTokens) (i : ℕ) (word : Option 
 numbers-step trie tokens i word lt is =
     let f : Extent → Option ℕ = λ t. get_by_text trie.words (folded (text_in tokens.doc t)) in
     sym (take_more (map f tokens.tokens) i None (omega (arith, length-map tokens.tokens f))
-      ∙ ap (λ (o : Option ℕ). take i (map f tokens.tokens) ++ o ∷ []) (get_or-map f tokens.tokens i (record { begin = 0; end = 0 }) None lt ∙ sym is))
+    ∙ ap (λ (o : Option ℕ). take i (map f tokens.tokens) ++ o ∷ []) (get_or-map f tokens.tokens i (record { begin = 0; end = 0 }) None lt ∙ sym is))
 
 -- the text of a run's token
 pub run_texts-nth : (tokens : SomeTokens) (first past i : ℕ) → i < past - first → past ≤ length tokens.tokens → get_or (run_texts tokens first past) i [] ≡ text_in tokens.doc (nth_token tokens.tokens (first + i))
 run_texts-nth tokens first past i lt within =
     get_or-map (text_in tokens.doc) (slice_range tokens.tokens first past) i (record { begin = 0; end = 0 }) []
-      (omega (arith, lt, within, length-take (past - first) (drop first tokens.tokens), length-drop first tokens.tokens))
+    (omega (arith, lt, within, length-take (past - first) (drop first tokens.tokens), length-drop first tokens.tokens))
     ∙ ap (text_in tokens.doc) (nth-part tokens.tokens first past i lt)
 
 -- a run of no token

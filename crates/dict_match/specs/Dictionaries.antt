@@ -1,5 +1,5 @@
 -- What dictionaries match: runs of tokens that agree with an entry, token by token.
-use Rattle.std.specs.Prelude.{◌≡◌, ℕ, ◌<◌, ◌≤◌, ◌-◌, ◌⊎◌, ◌↔◌, Bool, true, false, List, map, length, slice_range, slice_index_or, Option, None, chars, encode_utf8_all}
+use Rattle.std.specs.Prelude.{◌≡◌, ℕ, ◌<◌, ◌≤◌, ◌-◌, ◌⊎◌, ◌↔◌, Bool, true, false, List, map, length, slice_range, slice_index_or, None, chars, encode_utf8_all}
 use Rattle.std.specs.List.{AllPairs, Contains, filter}
 use Rattle.caseless.specs.Caseless.{default_case_fold}
 use Rattle.span_token.specs.Documents.{Doc, characters, text_in}

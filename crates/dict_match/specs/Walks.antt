@@ -2,7 +2,7 @@
 use Rattle.std.specs.Prelude.{◌≡◌, ℕ, ◌<◌, ◌≤◌, ◌⊎◌, List, [], ◌∷◌, ◌++◌, map, length, slice_index_or, slice_range, Option, Some, None}
 use Rattle.std.specs.List.{Contains}
 use Rattle.std.specs.HashMap.{get_by_text}
-use Rattle.span_token.specs.Documents.{Doc, text_in}
+use Rattle.span_token.specs.Documents.{text_in}
 use Rattle.span_token.specs.Extents.{Extent}
 use Rattle.dict_match.specs.declared.dict_use.DictUse.{DictUse}
 use Rattle.dict_match.specs.declared.trie.End.{End}

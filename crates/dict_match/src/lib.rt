@@ -11,11 +11,10 @@ mod dict_use;
 mod fold;
 mod pass;
 mod source;
-mod trie;
-mod walk;
-
 #[cfg(test)]
 mod tests;
+mod trie;
+mod walk;
 
 pub use dict_use::DictUse;
 pub use pass::{DictPass, DictScratch};

@@ -94,12 +94,7 @@ impl DictPass {
     {
         into.clear();
         let tokens = SourceTokens::of(doc, source);
-        number_tokens(
-            &self.trie,
-            &tokens,
-            &mut scratch.folded,
-            &mut scratch.words,
-        )?;
+        number_tokens(&self.trie, &tokens, &mut scratch.folded, &mut scratch.words)?;
         push_matches(&self.trie, &tokens, scratch.words.as_slice(), into)
     }
 

@@ -1,4 +1,4 @@
-ghost use Rattle.std.specs.Prelude.{◌≤◌, length, All, IfOk};
+ghost use Rattle.std.specs.Prelude.{◌≤◌, length, All, IfOk, OnOk};
 
 use super::*;
 use span_token::{Document, OwnedList, OwnedText, Span};
@@ -12,14 +12,24 @@ type Place = (u32, u32);
 /// A dictionary: its entries, and whether case counts.
 type Dict<'a> = (&'a [&'a str], bool);
 
+/// Puts an entry behind the others, unless it is too long for a pass.
+fn put_text(alloc: Global, texts: &mut OwnedList<OwnedText>, entry: &str) -> Result<(), Fail>
+    ensures { All (λ entry. length entry ≤ 16777216) texts.old → OnOk result (All (λ entry. length entry ≤ 16777216) texts.new) }
+{
+    if entry.len() > 16_777_216 {
+        return Ok(());
+    }
+    let text = OwnedText::copied(alloc, entry)?;
+    texts.push(text)?;
+    Ok(())
+}
+
 fn dict_of(alloc: Global, entries: &[&str], exact: bool) -> Result<DictUse, Fail>
     ensures { IfOk result (λ dict. All (λ entry. length entry ≤ 16777216) dict.entries) }
 {
     let mut texts = OwnedList::new(alloc);
     for entry in entries {
-        if entry.len() <= 16_777_216 {
-            texts.push(OwnedText::copied(alloc, entry)?)?;
-        }
+        put_text(alloc, &mut texts, entry)?;
     }
     Ok(DictUse {
         entries: texts,
@@ -29,10 +39,12 @@ fn dict_of(alloc: Global, entries: &[&str], exact: bool) -> Result<DictUse, Fail
 
 fn pass_of(alloc: Global, dicts: &[Dict<'_>]) -> Result<DictPass, Fail> {
     let mut uses = Vec::new(alloc);
-    for dict in dicts {
-        uses.push(dict_of(alloc, dict.0, dict.1)?)?;
+    for given in dicts {
+        let dict = dict_of(alloc, given.0, given.1)?;
+        uses.push(dict)?;
     }
-    Ok(DictPass::new(alloc, &uses)?)
+    let pass = DictPass::new(alloc, uses.as_slice())?;
+    Ok(pass)
 }
 
 fn are_places(spans: &[Span], want: &[Place]) -> bool {
@@ -60,12 +72,7 @@ fn are_rows(rows: &[Vec<Span>], want: &[&[Place]]) -> bool {
 }
 
 /// Whether these are the matches in the whole text, and a scratch that is kept finds as many.
-fn matches(
-    alloc: Global,
-    dicts: &[Dict<'_>],
-    text: &str,
-    want: &[&[Place]],
-) -> Result<bool, Fail> {
+fn matches(alloc: Global, dicts: &[Dict<'_>], text: &str, want: &[&[Place]]) -> Result<bool, Fail> {
     if text.len() > 16_777_216 {
         return Ok(false);
     }
@@ -88,7 +95,14 @@ fn a_span_comes_once_and_over_any_white_space(rt: HostRuntime) -> Result<(), Fai
     let alloc = rt.alloc();
     let dict: Dict<'_> = (&["new york", "NEW YORK"], false);
     assert!(rt; matches(alloc, &[dict], "New  York", &[&[(0, 9)]])?);
-    assert!(rt; matches(alloc, &[dict], "New\n\tYork new york", &[&[(0, 9), (10, 18)]])?);
+    assert!(rt;
+        matches(
+            alloc,
+            &[dict],
+            "New\n\tYork new york",
+            &[&[(0, 9), (10, 18)]]
+        )?
+    );
     assert!(rt; matches(alloc, &[dict], "New, York Newyork", &[&[]])?);
     Ok(())
 }

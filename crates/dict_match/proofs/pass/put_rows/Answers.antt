@@ -1,4 +1,4 @@
-use Rattle.std.proofs.Common.{◌≡◌, ◌∙◌, ◌<◌, [], length, get_or, ap, refl, arith}
+use Rattle.std.proofs.Common.{◌∙◌, ◌<◌, [], length, get_or, ap, refl, arith}
 use Rattle.std.proofs.Math.ListN.{set, length-set}
 use Rattle.dict_match.specs.declared.walk.DictMatch.{DictMatch}
 use Rattle.dict_match.specs.Rows.{extents_of_rows}

@@ -1,4 +1,4 @@
-use Rattle.std.proofs.Common.{◌≡◌, ◌∙◌, ◌-◌, ◌<◌, Bool, true, false, ℕ, List, [], length, get_or, ap, sym, refl, arith, below_more}
+use Rattle.std.proofs.Common.{◌≡◌, ◌∙◌, ◌-◌, ◌<◌, true, false, ℕ, List, [], length, get_or, ap, sym, refl, arith, below_more}
 use Rattle.std.proofs.lemmas.List.{ext_get_or, get_or_default}
 use Rattle.dict_match.specs.Walks.{run_texts}
 use Rattle.dict_match.proofs.WalkLemmas.{run_texts-nth, length-run, told-ne}
@@ -12,8 +12,7 @@ returns-then-ne c =
     let lt : i < length texts = c.loop-i-test.true in
     let in_run : i < c.args.past - c.args.first = omega (arith, lt, c.if-texts-past.false) in
     let spelled : c.as_str.result.now ≡ get_or texts i [] = c.as_str.ensures ∙ c.index-texts-i.is ∙ get_or_default texts i c.index-texts-i.result [] lt in
-    let there = run_texts-nth c.args.tokens.now c.args.first c.args.past i in_run c.requires.there in
-    (
+    let there = run_texts-nth c.args.tokens.now c.args.first c.args.past i in_run c.requires.there in (
       λ h. let no : false ≡ true = h in cc,
       λ e. absurd ((told-ne c.text.result.now c.as_str.result.now c.ne.result c.ne.ensures).1 c.if-ne.true (c.text.ensures ∙ sym there ∙ ap (λ (l : List (List ℕ)). get_or l i []) (sym e) ∙ sym spelled)),
     )

@@ -1,4 +1,4 @@
-use Rattle.std.proofs.Common.{◌≡◌, ◌∙◌, ◌<◌, List, Option, ℕ, [], ◌∷◌, ◌++◌, length, ap, arith}
+use Rattle.std.proofs.Common.{◌∙◌, ◌<◌, List, Option, ℕ, [], ◌∷◌, ◌++◌, length, ap, arith}
 use Rattle.std.specs.HashMap.{get_by_text}
 use Rattle.dict_match.specs.Dictionaries.{folded}
 use Rattle.dict_match.proofs.WalkLemmas.{numbers-step}

@@ -1,6 +1,5 @@
-use Rattle.std.proofs.Common.{◌≡◌, ◌∙◌, ◌<◌, ◌+◌, ◌-◌, ℕ, true, false, length, get_or, map, take, ap, sym, refl, subst, arith, All}
+use Rattle.std.proofs.Common.{◌≡◌, ◌∙◌, ◌<◌, ◌+◌, ◌-◌, true, false, length, get_or, map, take, ap, sym, refl, subst, arith}
 use Rattle.std.proofs.lemmas.List.Elements.{All-push, All-same}
-use Rattle.std.specs.declared.vec.Vec.{Vec}
 use Rattle.dict_match.specs.declared.trie.End.{End}
 use Rattle.dict_match.specs.declared.walk.DictMatch.{DictMatch}
 use Rattle.dict_match.specs.Dictionaries.{run_extent}
@@ -28,8 +27,8 @@ loop-end-preserved c =
         | else-does_agree w ↦
             subst (λ v. PutsWhere (HasEndFor i texts (take (k + 1) ends)) run (extents_for i (map said c.args.into.now.items)) (extents_for i (map said v.items))) (sym w.into-is)
             (puts-passed i texts ends k end run (extents_for i (map said c.args.into.now.items)) lt is (extents_for i (map said c.loop-end.into.items))
-              (λ s. let yes : c.does_agree.result ≡ true = c.does_agree.ensures.1 s in let no : c.does_agree.result ≡ false = w.if-does_agree.false in cc)
-              (c.loop-end.invariant.matches each i))
+            (λ s. let yes : c.does_agree.result ≡ true = c.does_agree.ensures.1 s in let no : c.does_agree.result ≡ false = w.if-does_agree.false in cc)
+            (c.loop-end.invariant.matches each i))
       ];
       places = λ n all old. elim c.if-does_agree.branch [
         | then-does_agree+in_ok-push w ↦

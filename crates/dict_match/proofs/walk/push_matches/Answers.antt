@@ -1,4 +1,4 @@
-use Rattle.std.proofs.Common.{◌≤◌, length, map, arith}
+use Rattle.std.proofs.Common.{map, arith}
 use Rattle.dict_match.specs.Rows.{said, extents_for}
 use Rattle.dict_match.proofs.WalkLemmas.{upto-end}
 use Rattle.dict_match.proofs.walk.push_matches.Goals as goal

@@ -1,4 +1,4 @@
-use Rattle.std.proofs.Common.{◌<◌, ◌≡◌, ◌∙◌, ℕ, List, length, map, slice_get, Some, All, OnOk, ap, subst}
+use Rattle.std.proofs.Common.{◌<◌, ◌∙◌, List, length, map, slice_get, All, OnOk, ap, subst}
 use Rattle.span_token.specs.Documents.{Doc}
 use Rattle.span_token.specs.Extents.{Extent, extent_of}
 use Rattle.dict_match.specs.declared.dict_use.DictUse.{DictUse}

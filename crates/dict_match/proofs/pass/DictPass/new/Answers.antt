@@ -14,9 +14,9 @@ loop-place-preserved c =
     let lt : place < length dicts = c.loop-place-test.true in
     let long : 0 + length (take place dicts) ≡ place = omega (arith, length-take place dicts, lt) in
     let more : put_dicts 0 (take (place + 1) dicts) ≡ put_dicts 0 (take place dicts) ++ put_dict place dict =
-      ap (put_dicts 0) (take_more dicts place dict lt ∙ ap (λ (d : DictUse). take place dicts ++ d ∷ []) (sym c.index-dicts-place.is))
-      ∙ put_dicts-snoc 0 (take place dicts) dict
-      ∙ ap (λ (n : ℕ). put_dicts 0 (take place dicts) ++ put_dict n dict) long in
+    ap (put_dicts 0) (take_more dicts place dict lt ∙ ap (λ (d : DictUse). take place dicts ++ d ∷ []) (sym c.index-dicts-place.is))
+    ∙ put_dicts-snoc 0 (take place dicts) dict
+    ∙ ap (λ (n : ℕ). put_dicts 0 (take place dicts) ++ put_dict n dict) long in
     subst (λ (ps : List (List (List ℕ) × End)). Reaches c.put_dict.new.self ps 0 []) (sym more) (c.in_ok-put_dict.ensures (put_dicts 0 (take place dicts)) c.loop-place.invariant)
 
 pub invariant_of-result : goal.invariant_of-result

@@ -1,4 +1,4 @@
-use Rattle.std.proofs.Common.{◌≡◌, ◌∙◌, ap, sym, refl, subst, ℕ, List, [], ◌∷◌, ◌++◌, length, cond, Some}
+use Rattle.std.proofs.Common.{◌∙◌, ap, sym, refl, subst, ℕ, List, [], ◌∷◌, ◌++◌, cond, Some}
 use Rattle.dict_match.specs.declared.trie.End.{End}
 use Rattle.dict_match.specs.declared.trie.Trie.{Trie}
 use Rattle.std.specs.HashMap.{get}

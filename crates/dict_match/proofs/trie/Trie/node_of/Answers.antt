@@ -1,4 +1,4 @@
-use Rattle.std.proofs.Common.{◌≡◌, ◌∙◌, ◌<◌, List, ℕ, length, map, take, ap, subst, arith}
+use Rattle.std.proofs.Common.{◌∙◌, ◌<◌, List, ℕ, length, map, take, ap, subst, arith}
 use Rattle.dict_match.specs.Dictionaries.{folded, texts_of}
 use Rattle.dict_match.specs.Tries.{Reaches}
 use Rattle.dict_match.proofs.EntryLemmas.{keys-step}

@@ -1,4 +1,4 @@
-use Rattle.std.proofs.Common.{◌≡◌, ◌∙◌, List, [], ◌∷◌, ◌++◌, ap, sym, refl, subst, get_or, Bool, true, false}
+use Rattle.std.proofs.Common.{◌≡◌, ◌∙◌, List, [], ◌∷◌, ◌++◌, ap, sym, refl, subst, get_or, true, false}
 use Rattle.std.specs.List.{Contains}
 use Rattle.std.specs.Vec.{with_item}
 use Rattle.std.proofs.Math.ListN.{set}
@@ -23,5 +23,5 @@ returns c = λ put path r.
     Reaches-end c.args.self.now new put c.args.node path c.args.end refl refl
     (ap (set ends c.args.node) (c.in_ok-push.ensures.ok ∙ ap (λ (es : List End). es ++ c.args.end ∷ []) lent))
     (λ there. let yes : c.is_listed.result ≡ true = c.is_listed.ensures.1 (subst (λ (es : List End). Contains es c.args.end) (sym seen) there) in
-      let no : c.is_listed.result ≡ false = c.if-is_listed.false in cc)
+    let no : c.is_listed.result ≡ false = c.if-is_listed.false in cc)
     r

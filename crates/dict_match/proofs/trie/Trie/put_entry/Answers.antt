@@ -1,9 +1,9 @@
-use Rattle.std.proofs.Common.{◌≡◌, ◌∙◌, ◌<◌, List, ℕ, [], ◌∷◌, ◌++◌, length, map, ap, ap₂, sym, subst, arith, cond, Option, Some, None, OnOk, Bool}
+use Rattle.std.proofs.Common.{◌≡◌, ◌∙◌, ◌<◌, List, ℕ, [], ◌++◌, length, map, ap, ap₂, sym, subst, arith, cond, Some, None, OnOk, Bool}
 use Rattle.std.proofs.lemmas.List.{length-map}
 use Rattle.span_token.specs.Documents.{characters, text_in, Doc}
 use Rattle.span_token.specs.Tokens.{tokens_of}
 use Rattle.dict_match.specs.declared.trie.End.{End}
-use Rattle.dict_match.specs.Dictionaries.{folded, texts_of, entry_texts, entry_doc}
+use Rattle.dict_match.specs.Dictionaries.{folded, texts_of, entry_texts}
 use Rattle.dict_match.specs.Tries.{Reaches}
 use Rattle.dict_match.proofs.EntryLemmas.{put-some, end-is}
 use Rattle.dict_match.proofs.TrieLemmas.{node-there}
@@ -18,9 +18,9 @@ returns c = λ put r.
     let texts : List (List ℕ) = texts_of c.all-tokens.result.doc c.all-tokens.result.tokens in
     let doc = c.all-tokens.ensures.doc ∙ c.in_ok-doc.ensures.document in
     let same : texts ≡ entry_texts c.args.entry.now =
-      ap₂ texts_of doc (c.all-tokens.ensures.tokens ∙ ap (λ (d : Doc). tokens_of (characters d)) c.in_ok-doc.ensures.document) in
+    ap₂ texts_of doc (c.all-tokens.ensures.tokens ∙ ap (λ (d : Doc). tokens_of (characters d)) c.in_ok-doc.ensures.document) in
     let some : 0 < length (entry_texts c.args.entry.now) =
-      omega (arith, ap length same, length-map c.all-tokens.result.tokens (text_in c.all-tokens.result.doc), c.len.ensures.len, c.if-len-eq0.false) in
+    omega (arith, ap length same, length-map c.all-tokens.result.tokens (text_in c.all-tokens.result.doc), c.len.ensures.len, c.if-len-eq0.false) in
     let spelled : c.if-exact.spelled ≡ cond c.args.exact (Some (entry_texts c.args.entry.now)) None = elim c.if-exact.branch [
       | then-exact+in_ok-spelled_out w ↦
           w.spelled-is ∙ ap Some (w.in_ok-spelled_out.ensures ∙ same) ∙ ap (λ (b : Bool). cond b (Some (entry_texts c.args.entry.now)) None) (sym w.if-exact.true)
