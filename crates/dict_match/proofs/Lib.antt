@@ -1,0 +1,10 @@
+pub mod FoldLemmas
+pub mod TreeLemmas
+pub mod SourceLemmas
+pub mod TrieLemmas
+pub mod PutLemmas
+pub mod WalkLemmas
+pub mod EntryLemmas
+pub mod RowLemmas
+pub mod SplitLemmas
+pub mod InsideLemmas

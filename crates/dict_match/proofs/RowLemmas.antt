@@ -1,0 +1,121 @@
+-- The rows of each dictionary, when one more match is put.
+use Rattle.std.proofs.Common.{◌≡◌, ℕ, ◌+◌, ◌<◌, ◌⊎◌, inl, inr, Bool, true, false, cond, ◌==◌, List, [], ◌∷◌, ◌++◌, map, length, take, get_or, refl, sym, ap, ap₂, subst, ◌∙◌, arith}
+use Rattle.std.specs.List.{Contains, filter}
+use Rattle.std.proofs.lemmas.Bool.{cases_eq}
+use Rattle.std.proofs.lemmas.Bool.Decides.{eqb_tells}
+use Rattle.std.proofs.lemmas.List.{map-append, append-nil, take_more, length-take, get_or-take, get_or_default}
+use Rattle.std.proofs.lemmas.List.Elements.{Contains-append_left, Contains-push, Contains-push_cases, filter-append}
+use Rattle.span_token.specs.Extents.{Extent, extent_of}
+use Rattle.dict_match.specs.declared.trie.End.{End}
+use Rattle.dict_match.specs.declared.walk.DictMatch.{DictMatch}
+use Rattle.dict_match.specs.Rows.{said, extents_for}
+use Rattle.dict_match.specs.Walks.{IsSpelled, HasEndFor, HasOneEach, PutsWhere}
+
+abbrev Pair : Type 0
+Pair = ℕ × Extent
+
+extents-one : (b : Bool) (m : Pair) → map (λ (p : Pair). p.1) (cond b (m ∷ []) []) ≡ cond b (m.1 ∷ []) []
+extents-one true m = refl
+extents-one false m = refl
+
+extents-push : (i : ℕ) (ms : List Pair) (m : Pair) → extents_for i (ms ++ m ∷ []) ≡ extents_for i ms ++ cond (m.0 == i) (m.1 ∷ []) []
+extents-push i ms m =
+    ap (map (λ (p : Pair). p.1)) (filter-append (λ (p : Pair). p.0 == i) ms (m ∷ []))
+    ∙ map-append (λ (p : Pair). p.1) (filter (λ (p : Pair). p.0 == i) ms) (filter (λ (p : Pair). p.0 == i) (m ∷ []))
+    ∙ ap (λ (es : List Extent). extents_for i ms ++ es) (extents-one (m.0 == i) m)
+
+said-push : (ms : List DictMatch) (m : DictMatch) → map said (ms ++ m ∷ []) ≡ map said ms ++ said m ∷ []
+said-push ms m = map-append said ms (m ∷ [])
+
+-- a match of that dictionary, or of another
+pub extents-same : (i : ℕ) (ms new : List DictMatch) (m : DictMatch) → new ≡ ms ++ m ∷ [] → m.dict ≡ i → extents_for i (map said new) ≡ extents_for i (map said ms) ++ extent_of m.span ∷ []
+extents-same i ms new m pushed same =
+    ap (λ (l : List DictMatch). extents_for i (map said l)) pushed ∙ ap (extents_for i) (said-push ms m) ∙ extents-push i (map said ms) (said m)
+    ∙ elim (eqb_tells m.dict i) [
+      | inl hit ↦ ap (λ (b : Bool). extents_for i (map said ms) ++ cond b (extent_of m.span ∷ []) []) hit.0
+      | inr miss ↦ absurd (miss.1 same)
+    ]
+
+pub extents-other : (i : ℕ) (ms new : List DictMatch) (m : DictMatch) → new ≡ ms ++ m ∷ [] → (m.dict ≡ i → ⊥) → extents_for i (map said new) ≡ extents_for i (map said ms)
+extents-other i ms new m pushed other =
+    ap (λ (l : List DictMatch). extents_for i (map said l)) pushed ∙ ap (extents_for i) (said-push ms m) ∙ extents-push i (map said ms) (said m)
+    ∙ elim (eqb_tells m.dict i) [
+      | inl hit ↦ absurd (other hit.1)
+      | inr miss ↦ ap (λ (b : Bool). extents_for i (map said ms) ++ cond b (extent_of m.span ∷ []) []) miss.0 ∙ append-nil (extents_for i (map said ms))
+    ]
+
+-- ---- one more end
+
+has-more : (i : ℕ) (texts : List (List ℕ)) (ends : List End) (k : ℕ) (end : End) → k < length ends → end ≡ get_or ends k end →
+    HasEndFor i texts (take k ends) → HasEndFor i texts (take (k + 1) ends)
+has-more i texts ends k end lt is has = record {
+  end = has.end;
+  listed = subst (λ (es : List End). Contains es has.end) (sym (take_more ends k end lt)) (Contains-append_left (take k ends) (get_or ends k end ∷ []) has.end has.listed);
+  dict_is = has.dict_is;
+  spelled = has.spelled;
+}
+
+has-here : (i : ℕ) (texts : List (List ℕ)) (ends : List End) (k : ℕ) (end : End) → k < length ends → end ≡ get_or ends k end → end.dict ≡ i → IsSpelled texts end.spelled →
+    HasEndFor i texts (take (k + 1) ends)
+has-here i texts ends k end lt is same spelled = record {
+  end = end;
+  listed = subst (λ (es : List End). Contains es end) (sym (take_more ends k end lt ∙ ap (λ (e : End). take k ends ++ e ∷ []) (sym is))) (Contains-push (take k ends) end);
+  dict_is = same;
+  spelled = spelled;
+}
+
+has-cases : (i : ℕ) (texts : List (List ℕ)) (ends : List End) (k : ℕ) (end : End) → k < length ends → end ≡ get_or ends k end → HasEndFor i texts (take (k + 1) ends) →
+    HasEndFor i texts (take k ends) ⊎ ((end.dict ≡ i) × IsSpelled texts end.spelled)
+has-cases i texts ends k end lt is has = elim (Contains-push_cases (take k ends) (get_or ends k end) has.end (subst (λ (es : List End). Contains es has.end) (take_more ends k end lt) has.listed)) [
+  | inl a ↦ inl (record { end = has.end; listed = a; dict_is = has.dict_is; spelled = has.spelled })
+  | inr a ↦
+      let same : end ≡ has.end = is ∙ a in
+      inr (ap (λ (e : End). e.dict) same ∙ has.dict_is, subst (λ (e : End). IsSpelled texts e.spelled) (sym same) has.spelled)
+]
+
+-- no end before this one is of its dictionary and agrees
+none-before : (i : ℕ) (texts : List (List ℕ)) (ends : List End) (k : ℕ) (end : End) → HasOneEach texts ends → k < length ends → end ≡ get_or ends k end → end.dict ≡ i → IsSpelled texts end.spelled →
+    HasEndFor i texts (take k ends) → ⊥
+none-before i texts ends k end each lt is same spelled has =
+    let place = has.listed in
+    let low : place.0 < k = omega (arith, place.1, length-take k ends) in
+    let there : get_or ends place.0 has.end ≡ has.end = sym (get_or-take k ends place.0 has.end low) ∙ place.2 in
+    let here : get_or ends k has.end ≡ end = get_or_default ends k has.end end lt ∙ sym is in
+    each place.0 k has.end low lt
+    (ap (λ (e : End). e.dict) there ∙ has.dict_is ∙ sym same ∙ ap (λ (e : End). e.dict) (sym here))
+    (subst (λ (e : End). IsSpelled texts e.spelled) (sym there) has.spelled)
+    (subst (λ (e : End). IsSpelled texts e.spelled) (sym here) spelled)
+
+module _ (i : ℕ) (texts : List (List ℕ)) (ends : List End) (k : ℕ) (end : End) (run : Extent) (old : List Extent) (lt : k < length ends) (is : end ≡ get_or ends k end) where
+  -- the end doesn't agree
+  pub puts-passed : (now : List Extent) → (IsSpelled texts end.spelled → ⊥) → PutsWhere (HasEndFor i texts (take k ends)) run old now → PutsWhere (HasEndFor i texts (take (k + 1) ends)) run old now
+  puts-passed now differs (inl put) = inl (has-more i texts ends k end lt is put.0, put.1)
+  puts-passed now differs (inr kept) = inr (
+    λ has. elim (has-cases i texts ends k end lt is has) [ inl a ↦ kept.0 a | inr a ↦ differs a.1 ],
+    kept.1,
+  )
+
+  -- it agrees
+  pub puts-agreed : (ms new : List DictMatch) (m : DictMatch) → HasOneEach texts ends → IsSpelled texts end.spelled → new ≡ ms ++ m ∷ [] → m.dict ≡ end.dict → extent_of m.span ≡ run →
+      PutsWhere (HasEndFor i texts (take k ends)) run old (extents_for i (map said ms)) → PutsWhere (HasEndFor i texts (take (k + 1) ends)) run old (extents_for i (map said new))
+  puts-agreed ms new m each spelled pushed dict span puts = elim (cases_eq end.dict i) [
+    | inl same ↦
+        let more = extents-same i ms new m pushed (dict ∙ same) in
+        elim puts [
+          | inl put ↦ absurd (none-before i texts ends k end each lt is same spelled put.0)
+          | inr kept ↦ inl (has-here i texts ends k end lt is same spelled, more ∙ ap₂ (λ (es : List Extent) (e : Extent). es ++ e ∷ []) kept.1 span)
+        ]
+    | inr other ↦
+        let still = extents-other i ms new m pushed (λ is_i. other (sym dict ∙ is_i)) in
+        elim puts [
+          | inl put ↦ inl (has-more i texts ends k end lt is put.0, still ∙ put.1)
+          | inr kept ↦ inr (
+            λ has. elim (has-cases i texts ends k end lt is has) [ inl a ↦ kept.0 a | inr a ↦ other a.0 ],
+            still ∙ kept.1,
+          )
+        ]
+  ]
+
+-- before the first end
+pub puts-none : (i : ℕ) (texts : List (List ℕ)) (ends : List End) (run : Extent) (old : List Extent) → PutsWhere (HasEndFor i texts (take 0 ends)) run old old
+puts-none i texts ends run old = inr (λ has. let low = has.listed.1 in absurd (omega (arith, low)), refl)

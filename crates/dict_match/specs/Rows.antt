@@ -1,0 +1,31 @@
+-- The matches of several dictionaries.
+use Rattle.std.specs.Prelude.{◌≡◌, ℕ, ◌≤◌, ◌==◌, List, map, length, slice_get, slice_index_or, Some, []}
+use Rattle.std.specs.List.{filter}
+use Rattle.span_token.specs.Documents.{Doc}
+use Rattle.span_token.specs.Extents.{Extent, extent_of}
+use Rattle.std.specs.declared.vec.Vec.{Vec}
+use Rattle.span_token.specs.declared.span.Span.{Span}
+use Rattle.dict_match.specs.declared.dict_use.DictUse.{DictUse}
+use Rattle.dict_match.specs.declared.walk.DictMatch.{DictMatch}
+use Rattle.dict_match.specs.Dictionaries.{AreDictRows}
+
+-- a match as the place of its dictionary and its extent
+abbrev pub said : DictMatch → ℕ × Extent
+said m = (m.dict, extent_of m.span)
+
+-- the extents of one dictionary's matches
+abbrev pub extents_for : ℕ → List (ℕ × Extent) → List Extent
+extents_for dict ms = map (λ m. m.1) (filter (λ m. m.0 == dict) ms)
+
+-- what the spans of each row say
+abbrev pub extents_of_rows : {A : Type 0} → List (Vec Span A) → List (List Extent)
+extents_of_rows = map (λ row. map extent_of row.items)
+
+-- an extent lies in the source
+abbrev pub IsInside : Extent → Extent → Type 0
+IsInside source e = (source.begin ≤ e.begin) × (e.end ≤ source.end)
+
+-- for each dictionary, exactly its matches
+pub record AreRowsOfEach (dicts : List DictUse) (d : Doc) (source : Extent) (rows : List (List Extent)) : Type 0 where
+  pub number : length rows ≡ length dicts
+  pub each : (i : ℕ) (dict : DictUse) → slice_get dicts i ≡ Some dict → AreDictRows dict d source (slice_index_or rows i [])

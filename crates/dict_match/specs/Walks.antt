@@ -1,0 +1,46 @@
+-- Steps of the walk over the tokens.
+use Rattle.std.specs.Prelude.{◌≡◌, ℕ, ◌<◌, ◌≤◌, ◌⊎◌, List, [], ◌∷◌, ◌++◌, map, length, slice_index_or, slice_range, Option, Some, None}
+use Rattle.std.specs.List.{Contains}
+use Rattle.std.specs.HashMap.{get_by_text}
+use Rattle.span_token.specs.Documents.{text_in}
+use Rattle.span_token.specs.Extents.{Extent}
+use Rattle.dict_match.specs.declared.dict_use.DictUse.{DictUse}
+use Rattle.dict_match.specs.declared.trie.End.{End}
+use Rattle.dict_match.specs.declared.trie.Trie.{Trie}
+use Rattle.dict_match.specs.Dictionaries.{folded, texts_of, IsMatch}
+use Rattle.dict_match.specs.Sources.{SomeTokens}
+
+-- what the tree's words have for the foldings of some tokens
+abbrev pub numbers_of : Trie → SomeTokens → List (Option ℕ)
+numbers_of trie tokens = map (λ t. get_by_text trie.words (folded (text_in tokens.doc t))) tokens.tokens
+
+-- the texts of the tokens from one to before another
+abbrev pub run_texts : SomeTokens → ℕ → ℕ → List (List ℕ)
+run_texts tokens first past = texts_of tokens.doc (slice_range tokens.tokens first past)
+
+-- an entry's texts, where it has kept them, are those of a run
+abbrev pub IsSpelled : List (List ℕ) → Option (List (List ℕ)) → Type 0
+IsSpelled texts None = Unit {0}
+IsSpelled texts (Some spelled) = spelled ≡ texts
+
+-- some of these ends is of the dictionary and agrees with a run
+pub record HasEndFor (dict : ℕ) (texts : List (List ℕ)) (ends : List End) : Type 0 where
+  pub end : End
+  pub listed : Contains ends end
+  pub dict_is : end.dict ≡ dict
+  pub spelled : IsSpelled texts end.spelled
+
+-- no dictionary has two ends here that agree with a run
+abbrev pub HasOneEach : List (List ℕ) → List End → Type 0
+HasOneEach texts ends = (i j : ℕ) (d : End) → i < j → j < length ends
+    → (slice_index_or ends i d).dict ≡ (slice_index_or ends j d).dict
+    → IsSpelled texts (slice_index_or ends i d).spelled → IsSpelled texts (slice_index_or ends j d).spelled → ⊥
+
+-- an extent is put behind the others where `P` holds, and else nothing is
+abbrev pub PutsWhere : Type 0 → Extent → List Extent → List Extent → Type 0
+PutsWhere P e old new = (P × (new ≡ old ++ e ∷ [])) ⊎ ((P → ⊥) × (new ≡ old))
+
+-- a match from a token before the one with number `first`, or from that one with tokens before `past` alone
+pub record IsMatchUpto (dict : DictUse) (tokens : SomeTokens) (first past : ℕ) (e : Extent) : Type 0 where
+  pub match : IsMatch dict tokens.doc tokens.tokens e
+  pub upto : (match.first < first) ⊎ ((match.first ≡ first) × (match.past ≤ past))
