@@ -1,0 +1,5 @@
+-- sorted candidates, what the policies ask of them, and the places that stay
+pub mod Sweeps
+pub mod Policies
+pub mod Keeping
+pub mod CandidateLists
