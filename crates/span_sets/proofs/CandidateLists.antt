@@ -17,6 +17,10 @@ use Rattle.span_sets.specs.Consolidation.{HasTarget}
 use Rattle.span_sets.specs.Candidates.{facing, candidate_of, candidates_from, nobody, nth, near_of, far_of, place_of, extent_at, AreSorted, AreCandidatesOf}
 use Rattle.span_sets.specs.declared.candidate.Candidate.{Candidate}
 
+pub candidates_from-nil : (mirror : Bool) (i : ℕ) → candidates_from mirror i [] ≡ []
+unfolding candidates_from
+candidates_from-nil mirror i = refl
+
 -- one more target
 pub candidates_from-null : (mirror : Bool) (i : ℕ) (targets : List (Option Extent)) → candidates_from mirror i (targets ++ None ∷ []) ≡ candidates_from mirror i targets
 unfolding candidates_from

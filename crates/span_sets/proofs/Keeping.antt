@@ -56,10 +56,11 @@ null_or : (o : Option Extent) → (o ≡ None) ⊎ ((t : Extent) × (o ≡ Some 
 null_or None = inl refl
 null_or (Some t) = inr (t, refl)
 
-not_both : (o : Option Extent) (t : Extent) → o ≡ None → o ≡ Some t → ⊥
+pub not_both : (o : Option Extent) (t : Extent) → o ≡ None → o ≡ Some t → ⊥
 not_both o t e f = cc
 
-in_targets : (targets : List (Option Extent)) (i : ℕ) (t : Extent) → HasTarget targets i t → i < length targets
+-- a place that has a target is one of the list
+pub in_targets : (targets : List (Option Extent)) (i : ℕ) (t : Extent) → HasTarget targets i t → i < length targets
 in_targets targets i t has = elim (cases_lt i (length targets)) [ inl h ↦ h | inr h ↦ absurd (not_both (get_or targets i None) t (get_or_past targets i None h) has) ]
 
 module _ (policy : Policy) (targets : List (Option Extent)) (sorted : List Candidate) (known : AreCandidatesOf (is_mirrored policy) targets sorted) (up : AreSorted sorted)

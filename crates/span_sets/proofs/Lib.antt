@@ -3,3 +3,5 @@ pub mod Sweeps
 pub mod Policies
 pub mod Keeping
 pub mod CandidateLists
+-- rows in row order, with their targets
+pub mod RowOrders

@@ -1,5 +1,5 @@
 -- What a policy says of targets, and what a sweep asks of their candidates.
-use Rattle.std.proofs.Common.{◌≡◌, ℕ, ◌+◌, ◌<◌, ◌≤◌, ◌⊎◌, inl, inr, Bool, true, false, List, length, get_or, refl, sym, ap, ◌∙◌, subst, arith, Option, Some, None, ◌↔◌, Contains}
+use Rattle.std.proofs.Common.{◌≡◌, ◌≢◌, ℕ, ◌+◌, ◌<◌, ◌≤◌, ◌⊎◌, inl, inr, Bool, true, false, List, length, get_or, refl, sym, ap, ◌∙◌, subst, arith, Option, Some, None, ◌↔◌, Contains}
 use Rattle.std.proofs.lemmas.Bool.{cases_lt}
 use Rattle.span_token.specs.Extents.{Extent}
 use Rattle.span_token.specs.Relations.{ContainsExtent, Overlaps}
@@ -80,6 +80,16 @@ module _ (mirror : Bool) (targets : List (Option Extent)) (sorted : List Candida
     where
       alike_by_facing : (n : ℕ) (v : Extent) → n < length sorted → HasTarget targets (place_of sorted n) v → (near_of sorted n ≡ (facing mirror v).begin) × (far_of sorted n ≡ (facing mirror v).end)
       alike_by_facing n v in_n has_v = (ap (λ (x : Extent). x.begin) (extent_is n v in_n has_v), ap (λ (x : Extent). x.end) (extent_is n v in_n has_v))
+
+-- no two candidates have one place
+pub places_apart : (mirror : Bool) (targets : List (Option Extent)) (sorted : List Candidate) (known : AreCandidatesOf mirror targets sorted) (up : AreSorted sorted)
+    → (j k : ℕ) → j < k → k < length sorted → place_of sorted j ≢ place_of sorted k
+places_apart mirror targets sorted known up j k h short e =
+    let one = known.of_target j (omega arith) in
+    let two = known.of_target k short in
+    let same : one.0 ≡ two.0 = one_target mirror targets sorted known up (place_of sorted k) one.0 two.0 (ap (λ n. get_or targets n None) (sym e) ∙ one.1) two.1 in
+    let alike = alike_by mirror targets sorted known up j k (one.2 ∙ ap (facing mirror) same ∙ sym two.2) in
+    absurd (omega (arith, up j k h short, alike, e))
 
 -- containment turns round where the ends are exchanged
 innermost_is : (targets : List (Option Extent)) (t : Extent) → IsInnermost targets t ↔ ((j : ℕ) (u : Extent) → HasTarget targets j u → ContainsExtent (mirrored u) (mirrored t) → u ≡ t)

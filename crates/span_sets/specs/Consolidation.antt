@@ -61,9 +61,16 @@ pub record IsKept (policy : Policy) (targets : List (Option Extent)) (kept : Lis
 unfoldable pub in_row_order : List (List Datum) → List (Option Extent) → List (List Datum × Option Extent)
 in_row_order rows targets = sorted_by (λ p q. row_cmp p.0 q.0) (zip rows targets)
 
+-- the rows, and their targets, in row order
+abbrev pub rows_in_order : List (List Datum) → List (Option Extent) → List (List Datum)
+rows_in_order rows targets = map (λ p. p.0) (in_row_order rows targets)
+
+abbrev pub targets_in_order : List (List Datum) → List (Option Extent) → List (Option Extent)
+targets_in_order rows targets = map (λ p. p.1) (in_row_order rows targets)
+
 -- out has, in row order, the rows at the places that stay
 pub record IsConsolidated (policy : Policy) (rows : RowList) (targets : List (Option Extent)) (out : RowList) : Type 0 where
   pub kept : List ℕ
-  pub stay : IsKept policy (map (λ p. p.1) (in_row_order rows.rows targets)) kept
-  pub rows_are : out.rows ≡ map (λ i. (slice_index_or (in_row_order rows.rows targets) i ([], None)).0) kept
+  pub stay : IsKept policy (targets_in_order rows.rows targets) kept
+  pub rows_are : out.rows ≡ map (λ i. slice_index_or (rows_in_order rows.rows targets) i []) kept
   pub width_is : out.width ≡ rows.width

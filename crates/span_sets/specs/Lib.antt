@@ -4,3 +4,4 @@ pub mod Consolidation
 pub mod Blocks
 -- what the sweeps work on
 pub mod Candidates
+pub mod Orders

@@ -1,6 +1,7 @@
 ghost use Rattle.std.specs.Prelude.{ℕ, ◌≡◌, ◌<◌, ◌≤◌, ◌^◌, ◌↔◌, IsTrue, IfOk, length, map, false, true};
 ghost use Rattle.span_sets.specs.Consolidation.{target_of};
-ghost use Rattle.span_sets.specs.Candidates.{candidates_from, AreSorted};
+ghost use Rattle.span_token.specs.Extents.{extent_of};
+ghost use Rattle.span_sets.specs.Candidates.{candidates_from, candidate_of, facing, AreSorted, AreCandidatesOf};
 
 use span_token::{OutOfMemory, Span};
 use std::alloc::Global;
@@ -25,6 +26,8 @@ pub(crate) fn sorted_candidates(
     mirror: bool,
 ) -> Result<Vec<Candidate>, OutOfMemory>
     requires { length targets.now < 2 ^ 32 }
+    ensures sorted { IfOk result (λ sorted. AreSorted sorted.items) }
+    ensures known { IfOk result (λ sorted. AreCandidatesOf mirror (map target_of targets.now) sorted.items) }
 {
     let mut candidates = candidates(alloc, targets, mirror)?;
     candidates.sort_unstable();
@@ -50,7 +53,9 @@ fn candidates(
 }
 
 /// The candidate of a span.
-fn at_place(span: Span, place: u32, mirror: bool) -> Candidate {
+fn at_place(span: Span, place: u32, mirror: bool) -> Candidate
+    ensures { result ≡ candidate_of (facing mirror (extent_of span)) place }
+{
     if mirror {
         Candidate { near: span.end, far: Reverse(span.begin), place }
     } else {
@@ -60,7 +65,9 @@ fn at_place(span: Span, place: u32, mirror: bool) -> Candidate {
 
 impl Candidate {
     /// Whether the two have one span.
-    pub(crate) fn is_like(&self, other: &Candidate) -> bool {
+    pub(crate) fn is_like(&self, other: &Candidate) -> bool
+        ensures { IsTrue result ↔ ((self.now.near ≡ other.now.near) × (self.now.far.0 ≡ other.now.far.0)) }
+    {
         self.near == other.near && self.far.0 == other.far.0
     }
 }

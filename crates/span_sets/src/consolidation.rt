@@ -1,6 +1,8 @@
-ghost use Rattle.std.specs.Prelude.{ℕ, ◌≡◌, ◌<◌, ◌≤◌, ◌^◌, ◌↔◌, IsTrue, IfOk, length, map, false, true, slice_index_or, vec_len};
+ghost use Rattle.std.specs.Prelude.{◌≡◌, ◌<◌, IfOk, length, map, slice_index_or, vec_len, All, []};
 ghost use Rattle.row_values.specs.Rows.{RowList};
 ghost use Rattle.span_sets.specs.Consolidation.{target_of, IsConsolidated};
+ghost use Rattle.span_sets.specs.Orders.{numbered_from, row_order_of};
+ghost use Rattle.span_sets.specs.Candidates.{marked_places};
 
 use crate::Policy;
 use crate::stays::stays;
@@ -33,18 +35,23 @@ pub fn consolidate<'d>(
     let order = row_order(alloc, &rows)?;
     let targets = in_order(alloc, order.as_slice(), targets.as_slice())?;
     let marks = stays(alloc, targets.as_slice(), policy)?;
-    marked(alloc, rows.width(), order.as_slice(), marks.as_slice())
+    let out = marked(alloc, rows.width(), order.as_slice(), marks.as_slice())?;
+    Ok(out)
 }
 
 /// The rows with their numbers, in row order; equal rows keep their order.
-fn row_order<'r, 'd>(alloc: Global, rows: &'r Rows<'d>) -> Result<Vec<(&'r Row<'d>, u32)>, OutOfMemory> {
+fn row_order<'r, 'd>(alloc: Global, rows: &'r Rows<'d>) -> Result<Vec<(&'r Row<'d>, u32)>, OutOfMemory>
+    ensures { IfOk result (λ order. map (λ p. (p.0.now, p.1)) order.items ≡ row_order_of rows.now.rows) }
+{
     let mut order = numbered(alloc, rows)?;
     order.sort_unstable();
     Ok(order)
 }
 
 /// Each row with its number.
-fn numbered<'r, 'd>(alloc: Global, rows: &'r Rows<'d>) -> Result<Vec<(&'r Row<'d>, u32)>, OutOfMemory> {
+fn numbered<'r, 'd>(alloc: Global, rows: &'r Rows<'d>) -> Result<Vec<(&'r Row<'d>, u32)>, OutOfMemory>
+    ensures { IfOk result (λ order. map (λ p. (p.0.now, p.1)) order.items ≡ numbered_from 0 rows.now.rows) }
+{
     let mut order = Vec::with_capacity(alloc, rows.len() as usize)?;
     for row in rows.as_slice() {
         order.push((row, order.len() as u32))?;
@@ -57,7 +64,10 @@ fn in_order(
     alloc: Global,
     order: &[(&Row<'_>, u32)],
     targets: &[Option<Span>],
-) -> Result<Vec<Option<Span>>, OutOfMemory> {
+) -> Result<Vec<Option<Span>>, OutOfMemory>
+    requires { All (λ p. p.1 < length targets.now) order.now }
+    ensures { IfOk result (λ out. map target_of out.items ≡ map (λ p. slice_index_or (map target_of targets.now) p.1 None) order.now) }
+{
     let mut out = Vec::with_capacity(alloc, order.len())?;
     for (_row, place) in order {
         out.push(targets[*place as usize])?;
@@ -71,7 +81,11 @@ fn marked<'d>(
     width: u32,
     order: &[(&Row<'d>, u32)],
     marks: &[bool],
-) -> Result<Rows<'d>, OutOfMemory> {
+) -> Result<Rows<'d>, OutOfMemory>
+    requires one_each { length marks.now ≡ length order.now }
+    requires width { All (λ p. length p.0.now ≡ width) order.now }
+    ensures { IfOk result (λ out. out ≡ record { width = width; rows = map (λ i. slice_index_or (map (λ p. p.0.now) order.now) i []) (marked_places marks.now) }) }
+{
     let mut out = Rows::new(alloc, width);
     for i in 0..order.len() {
         if marks[i] {
