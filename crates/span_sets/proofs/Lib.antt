@@ -5,3 +5,5 @@ pub mod Keeping
 pub mod CandidateLists
 -- rows in row order, with their targets
 pub mod RowOrders
+-- runs of neighbours
+pub mod BlockLists

@@ -1,4 +1,4 @@
-ghost use Rattle.std.specs.Prelude.{◌≡◌, ◌<◌, IfOk, length, map, slice_index_or, vec_len, All, []};
+ghost use Rattle.std.specs.Prelude.{◌≡◌, ◌<◌, ◌^◌, IfOk, length, map, slice_index_or, vec_len, All, []};
 ghost use Rattle.row_values.specs.Rows.{RowList};
 ghost use Rattle.span_sets.specs.Consolidation.{target_of, IsConsolidated};
 ghost use Rattle.span_sets.specs.Orders.{numbered_from, row_order_of};
@@ -41,7 +41,8 @@ pub fn consolidate<'d>(
 
 /// The rows with their numbers, in row order; equal rows keep their order.
 fn row_order<'r, 'd>(alloc: Global, rows: &'r Rows<'d>) -> Result<Vec<(&'r Row<'d>, u32)>, OutOfMemory>
-    ensures { IfOk result (λ order. map (λ p. (p.0.now, p.1)) order.items ≡ row_order_of rows.now.rows) }
+    ensures order { IfOk result (λ order. map (λ p. (p.0.now, p.1)) order.items ≡ row_order_of rows.now.rows) }
+    ensures few { IfOk result (λ _. length rows.now.rows < 2 ^ 32) }
 {
     let mut order = numbered(alloc, rows)?;
     order.sort_unstable();
@@ -50,7 +51,8 @@ fn row_order<'r, 'd>(alloc: Global, rows: &'r Rows<'d>) -> Result<Vec<(&'r Row<'
 
 /// Each row with its number.
 fn numbered<'r, 'd>(alloc: Global, rows: &'r Rows<'d>) -> Result<Vec<(&'r Row<'d>, u32)>, OutOfMemory>
-    ensures { IfOk result (λ order. map (λ p. (p.0.now, p.1)) order.items ≡ numbered_from 0 rows.now.rows) }
+    ensures order { IfOk result (λ order. map (λ p. (p.0.now, p.1)) order.items ≡ numbered_from 0 rows.now.rows) }
+    ensures few { IfOk result (λ _. length rows.now.rows < 2 ^ 32) }
 {
     let mut order = Vec::with_capacity(alloc, rows.len() as usize)?;
     for row in rows.as_slice() {

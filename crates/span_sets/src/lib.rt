@@ -10,7 +10,9 @@ mod consolidation;
 mod containment;
 mod left_to_right;
 mod policy;
+mod runs;
 mod stays;
 
 pub use consolidation::consolidate;
 pub use policy::Policy;
+pub use runs::blocks;
