@@ -26,6 +26,9 @@ map_map : {A B C : Type 0} (f : B → C) (g : A → B) (xs : List A) → map f (
 map_map f g [] = refl
 map_map f g (x ∷ xs) = ap (λ ys. f (g x) ∷ ys) (map_map f g xs)
 
+abbrev pair_with : ℕ → ℕ → ℕ × ℕ
+pair_with i j = (i, j)
+
 abbrev pub IsEarlier : ℕ × ℕ → ℕ × ℕ → Type 0
 IsEarlier p q = (p.0 < q.0) ⊎ ((p.0 ≡ q.0) × (p.1 < q.1))
 
@@ -77,27 +80,27 @@ module _ (IsNext : Extent → Extent → Type 0) (low high : ℕ) (spans : List 
         let here : j < to = (ends j run.ordered).1 (short, run.at_most) in
         ((begins j here).1 (run.ordered, run.at_least), here)
 
-    Contains-pairs : (j : ℕ) → from ≤ j → j < to → Contains (map (λ (k : ℕ). (i, k)) (range_with_len from (to - from))) (i, j)
+    Contains-pairs : (j : ℕ) → from ≤ j → j < to → Contains (map (pair_with i) (range_with_len from (to - from))) (pair_with i j)
     Contains-pairs j low' high' =
         let at = Contains-range from (to - from) j low' (omega (arith, low', high')) in
-        (at.0, omega (arith, at.1, length-map (range_with_len from (to - from)) (λ (k : ℕ). (i, k))),
-         get_or-map (λ (k : ℕ). (i, k)) (range_with_len from (to - from)) at.0 j (i, j) at.1 ∙ ap (λ (k : ℕ). (i, k)) at.2)
+        (at.0, omega (arith, at.1, length-map (range_with_len from (to - from)) (pair_with i)),
+         get_or-map (pair_with i) (range_with_len from (to - from)) at.0 j (pair_with i j) at.1 ∙ ap (pair_with i) at.2)
 
-    from_pairs : (a b : ℕ) → Contains (map (λ (k : ℕ). (i, k)) (range_with_len from (to - from))) (a, b) → (a ≡ i) × (from ≤ b) × (b < to)
+    from_pairs : (a b : ℕ) → Contains (map (pair_with i) (range_with_len from (to - from))) (pair_with a b) → (a ≡ i) × (from ≤ b) × (b < to)
     from_pairs a b at =
-        let short : at.0 < length (range_with_len from (to - from)) = omega (arith, at.1, length-map (range_with_len from (to - from)) (λ (k : ℕ). (i, k))) in
-        let is : ◌≡◌ {A = ℕ × ℕ} (i, get_or (range_with_len from (to - from)) at.0 b) (a, b) = sym (get_or-map (λ (k : ℕ). (i, k)) (range_with_len from (to - from)) at.0 b (a, b) short) ∙ at.2 in
+        let short : at.0 < length (range_with_len from (to - from)) = omega (arith, at.1, length-map (range_with_len from (to - from)) (pair_with i)) in
+        let is : pair_with i (get_or (range_with_len from (to - from)) at.0 b) ≡ pair_with a b = sym (get_or-map (pair_with i) (range_with_len from (to - from)) at.0 b (pair_with a b) short) ∙ at.2 in
         let there = in_range from (to - from) b (at.0, short, ap (λ (p : ℕ × ℕ). p.1) is) in
         (sym (ap (λ (p : ℕ × ℕ). p.0) is), there.0, omega (arith, there))
 
     pub HasRuns-next : (found : List Extent) → HasRuns IsNext low high spans i found → HasRuns IsNext low high spans (i + 1) (found ++ map (block_of spans i) (range_with_len from (to - from)))
     HasRuns-next found has =
-        let more : List (ℕ × ℕ) = map (λ (k : ℕ). (i, k)) (range_with_len from (to - from)) in
+        let more : List (ℕ × ℕ) = map (pair_with i) (range_with_len from (to - from)) in
         record {
           runs = has.runs ++ more;
           rising = AllPairs-append IsEarlier has.runs more has.rising
-              (AllPairs-map (λ (k : ℕ). (i, k)) IsEarlier (range_with_len from (to - from)) (later (range_with_len from (to - from)) (AllPairs-range from (to - from))))
-              (λ p at k d h. inl (omega (arith, ((has.exactly p.0 p.1).0 at).0, ap (λ (q : ℕ × ℕ). q.0) (get_or-map (λ (n : ℕ). (i, n)) (range_with_len from (to - from)) k 0 d (omega (arith, h, length-map (range_with_len from (to - from)) (λ (n : ℕ). (i, n)))))))) ;
+              (AllPairs-map (pair_with i) IsEarlier (range_with_len from (to - from)) (later (range_with_len from (to - from)) (AllPairs-range from (to - from))))
+              (λ p at k d h. inl (omega (arith, ((has.exactly p.0 p.1).0 at).0, ap (λ (q : ℕ × ℕ). q.0) (get_or-map (pair_with i) (range_with_len from (to - from)) k 0 d (omega (arith, h, length-map (range_with_len from (to - from)) (pair_with i))))))) ;
           exactly = λ a b. (
             (λ at. elim (Contains-append_cases has.runs more (a, b) at) [
               | inl old ↦ let h = (has.exactly a b).0 old in (omega (arith, h.0), h.1)
@@ -111,9 +114,9 @@ module _ (IsNext : Extent → Extent → Type 0) (low high : ℕ) (spans : List 
                   Contains-append_right has.runs more (a, b) (subst (λ (n : ℕ). Contains more (n, b)) (sym e) (Contains-pairs b there.0 there.1))
             ]),
           );
-          found_is = ap₂ (λ (xs ys : List Extent). xs ++ ys) has.found_is (sym (map_map (λ (r : ℕ × ℕ). block_of spans r.0 r.1) (λ (k : ℕ). (i, k)) (range_with_len from (to - from))))
+          found_is = ap₂ (λ (xs ys : List Extent). xs ++ ys) has.found_is (sym (map_map (λ (r : ℕ × ℕ). block_of spans r.0 r.1) (pair_with i) (range_with_len from (to - from))))
               ∙ sym (map-append (λ (r : ℕ × ℕ). block_of spans r.0 r.1) has.runs more);
         }
       where
-        later : (ks : List ℕ) → AllPairs (λ j k. j < k) ks → AllPairs (λ j k. IsEarlier (i, j) (i, k)) ks
+        later : (ks : List ℕ) → AllPairs (λ j k. j < k) ks → AllPairs (λ j k. IsEarlier (pair_with i j) (pair_with i k)) ks
         later ks up = λ a b d h short. inr (refl, up a b d h short)

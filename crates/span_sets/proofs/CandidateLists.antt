@@ -86,18 +86,18 @@ candidate_cmp = then_cmp (on (λ (c : Candidate). c.near) nat_cmp) (then_cmp (on
 pub candidate_cmp_total : IsTotalOrder candidate_cmp
 candidate_cmp_total = then_total (on_total (λ (c : Candidate). c.near) nat_cmp_total) (then_total (on_total (λ (c : Candidate). c.far.0) (back_total nat_cmp_total)) (on_total (λ (c : Candidate). c.place) nat_cmp_total))
 
-nat_exact : (m n : ℕ) → nat_cmp m n ≡ Equal → m ≡ n
+pub nat_exact : (m n : ℕ) → nat_cmp m n ≡ Equal → m ≡ n
 nat_exact m n e = ranked m n Equal (sym e)
 
-nat_less : (m n : ℕ) → nat_cmp m n ≡ Less → m < n
+pub nat_less : (m n : ℕ) → nat_cmp m n ≡ Less → m < n
 nat_less m n e = ranked m n Less (sym e)
 
-then_equal : (o p : Ordering) → ordering_then o p ≡ Equal → (o ≡ Equal) × (p ≡ Equal)
+pub then_equal : (o p : Ordering) → ordering_then o p ≡ Equal → (o ≡ Equal) × (p ≡ Equal)
 then_equal Less p e = absurd cc
 then_equal Equal p e = (refl, e)
 then_equal Greater p e = absurd cc
 
-then_less : (o p : Ordering) → ordering_then o p ≡ Less → (o ≡ Less) ⊎ ((o ≡ Equal) × (p ≡ Less))
+pub then_less : (o p : Ordering) → ordering_then o p ≡ Less → (o ≡ Less) ⊎ ((o ≡ Equal) × (p ≡ Less))
 then_less Less p e = inl refl
 then_less Equal p e = inr (refl, e)
 then_less Greater p e = absurd cc
@@ -122,7 +122,7 @@ candidate_less c d e = elim (then_less (nat_cmp c.near d.near) (ordering_then (n
 ]
 
 -- in a strictly sorted list each element is less than each later one
-pairs : {X : Type 0} (cmp : X → X → Ordering) (xs : List X) → IsStrictlySortedBy cmp xs → AllPairs (λ x y. cmp x y ≡ Less) xs
+pub pairs : {X : Type 0} (cmp : X → X → Ordering) (xs : List X) → IsStrictlySortedBy cmp xs → AllPairs (λ x y. cmp x y ≡ Less) xs
 unfolding IsStrictlySortedBy
 pairs cmp [] h = λ i j d less short. absurd (omega arith)
 pairs cmp (x ∷ xs) h = AllPairs-cons (λ a b. cmp a b ≡ Less) x xs (All-from_recursion (λ b. cmp x b ≡ Less) xs h.0) (pairs cmp xs h.1)

@@ -7,3 +7,4 @@ pub mod CandidateLists
 pub mod RowOrders
 -- runs of neighbours
 pub mod BlockLists
+pub mod SpanLists

@@ -12,6 +12,8 @@ mod left_to_right;
 mod policy;
 mod runs;
 mod stays;
+#[cfg(test)]
+mod tests;
 
 pub use consolidation::consolidate;
 pub use policy::Policy;

@@ -78,7 +78,7 @@ fn runs(
     ensures in_document { IfOk result (λ found. All (λ s. LiesIn (extent_of s) doc.now) found.items) }
 {
     let mut found = Vec::new(alloc);
-    let mut end = 0;
+    let mut end: usize = 0;
     for i in 0..spans.len() {
         end = chain_end(spans, doc, end.max(i + 1), separation);
         let from = i.saturating_add(low.max(1) as usize - 1);
