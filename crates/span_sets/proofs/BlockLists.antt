@@ -1,19 +1,13 @@
 -- Runs of neighbours: the blocks so far, and those of one more first span.
-use Rattle.std.proofs.Common.{◌≡◌, ℕ, zero, suc, ◌+◌, ◌-◌, ◌<◌, ◌≤◌, ◌⊎◌, inl, inr, ◌↔◌, Bool, true, false, List, [], ◌∷◌, ◌++◌, length, map, get_or, min, max, refl, sym, ap, ap₂, ◌∙◌, subst, arith, Contains, All, AllPairs, ◌^◌}
-use Rattle.std.specs.List.{range_with_len, dedup}
-use Rattle.std.specs.List.Sorted.{IsPermutation, IsSorted, IsStrictlySortedBy}
-use Rattle.std.specs.Cmp.{IsTotalOrder, IsEquivalence}
-use Rattle.std.specs.Ordering.{on, then_cmp, ordering_then, eq_by_cmp}
-use Rattle.std.specs.declared.cmp.Ordering.{Ordering}
-use Rattle.std.specs.declared.cmp.Ordering.TheVariants.{Less, Equal, Greater}
+use Rattle.std.proofs.Common.{◌≡◌, ℕ, suc, ◌+◌, ◌-◌, ◌<◌, ◌≤◌, ◌⊎◌, inl, inr, ◌↔◌, List, [], ◌∷◌, ◌++◌, length, map, get_or, refl, sym, ap, ap₂, ◌∙◌, subst, arith, Contains, All, AllPairs}
+use Rattle.std.specs.List.{range_with_len}
 use Rattle.std.proofs.lemmas.Bool.{cases_lt}
-use Rattle.std.proofs.lemmas.Cmp.{nat_cmp_total, on_total, then_total, ranked}
 use Rattle.std.proofs.lemmas.List.{map-append, get_or-map, length-map}
 use Rattle.std.proofs.lemmas.List.Elements.{All-append, Contains-append_left, Contains-append_right, Contains-append_cases}
 use Rattle.std.proofs.lemmas.List.Kept.{AllPairs-cons}
 use Rattle.span_token.specs.Extents.{Extent}
 use Rattle.span_token.proofs.Rising.{AllPairs-head, AllPairs-tail, AllPairs-range, AllPairs-map, Contains-range, in_range}
-use Rattle.span_sets.specs.Blocks.{IsBelow, IsRun, AreBlocksOf, span_at, block_of}
+use Rattle.span_sets.specs.Blocks.{IsRun, AreBlocksOf, span_at, block_of}
 
 -- pairs of two lists end to end
 pub AllPairs-append : {X : Type 0} (R : X → X → Type 0) (xs ys : List X) → AllPairs R xs → AllPairs R ys → ((x : X) → Contains xs x → All (R x) ys) → AllPairs R (xs ++ ys)
@@ -82,9 +76,11 @@ module _ (IsNext : Extent → Extent → Type 0) (low high : ℕ) (spans : List 
 
     Contains-pairs : (j : ℕ) → from ≤ j → j < to → Contains (map (pair_with i) (range_with_len from (to - from))) (pair_with i j)
     Contains-pairs j low' high' =
-        let at = Contains-range from (to - from) j low' (omega (arith, low', high')) in
-        (at.0, omega (arith, at.1, length-map (range_with_len from (to - from)) (pair_with i)),
-         get_or-map (pair_with i) (range_with_len from (to - from)) at.0 j (pair_with i j) at.1 ∙ ap (pair_with i) at.2)
+        let at = Contains-range from (to - from) j low' (omega (arith, low', high')) in (
+          at.0,
+          omega (arith, at.1, length-map (range_with_len from (to - from)) (pair_with i)),
+          get_or-map (pair_with i) (range_with_len from (to - from)) at.0 j (pair_with i j) at.1 ∙ ap (pair_with i) at.2,
+        )
 
     from_pairs : (a b : ℕ) → Contains (map (pair_with i) (range_with_len from (to - from))) (pair_with a b) → (a ≡ i) × (from ≤ b) × (b < to)
     from_pairs a b at =
@@ -100,7 +96,7 @@ module _ (IsNext : Extent → Extent → Type 0) (low high : ℕ) (spans : List 
           runs = has.runs ++ more;
           rising = AllPairs-append IsEarlier has.runs more has.rising
               (AllPairs-map (pair_with i) IsEarlier (range_with_len from (to - from)) (later (range_with_len from (to - from)) (AllPairs-range from (to - from))))
-              (λ p at k d h. inl (omega (arith, ((has.exactly p.0 p.1).0 at).0, ap (λ (q : ℕ × ℕ). q.0) (get_or-map (pair_with i) (range_with_len from (to - from)) k 0 d (omega (arith, h, length-map (range_with_len from (to - from)) (pair_with i))))))) ;
+              (λ p at k d h. inl (omega (arith, ((has.exactly p.0 p.1).0 at).0, ap (λ (q : ℕ × ℕ). q.0) (get_or-map (pair_with i) (range_with_len from (to - from)) k 0 d (omega (arith, h, length-map (range_with_len from (to - from)) (pair_with i)))))));
           exactly = λ a b. (
             (λ at. elim (Contains-append_cases has.runs more (a, b) at) [
               | inl old ↦ let h = (has.exactly a b).0 old in (omega (arith, h.0), h.1)

@@ -1,8 +1,8 @@
 -- The candidates of a list of targets, as they are made and as they are sorted.
-use Rattle.std.proofs.Common.{◌≡◌, ◌≢◌, ℕ, zero, suc, ◌+◌, ◌<◌, ◌≤◌, ◌⊎◌, inl, inr, Bool, true, false, cond, List, [], ◌∷◌, ◌++◌, length, get_or, refl, sym, ap, ap₂, ◌∙◌, subst, arith, Option, Some, None, Contains, All, AllPairs, nat_cmp, true≢false}
+use Rattle.std.proofs.Common.{◌≡◌, ◌≢◌, ℕ, zero, suc, ◌+◌, ◌<◌, ◌≤◌, ◌⊎◌, inl, inr, Bool, List, [], ◌∷◌, ◌++◌, length, get_or, refl, sym, ap, ap₂, ◌∙◌, subst, arith, Option, Some, None, Contains, All, AllPairs, nat_cmp}
 use Rattle.std.specs.Cmp.{IsTotalOrder}
 use Rattle.std.specs.List.Sorted.{IsPermutation, IsSorted, IsStrictlySortedBy}
-use Rattle.std.specs.Ordering.{on, then_cmp, ordering_then, flip_args, is_eq}
+use Rattle.std.specs.Ordering.{on, then_cmp, ordering_then, flip_args}
 use Rattle.std.specs.declared.cmp.Ordering.{Ordering}
 use Rattle.std.specs.declared.cmp.Ordering.TheVariants.{Less, Equal, Greater}
 use Rattle.std.proofs.lemmas.Cmp.{nat_cmp_total, on_total, then_total, back_total, ranked}
@@ -14,7 +14,7 @@ use Rattle.aql_base.proofs.Distinct.{IsStrictlySortedBy-from_distinct}
 use Rattle.span_token.specs.Extents.{Extent}
 use Rattle.span_token.proofs.Rising.{Contains-here, Contains-there}
 use Rattle.span_sets.specs.Consolidation.{HasTarget}
-use Rattle.span_sets.specs.Candidates.{facing, candidate_of, candidates_from, nobody, nth, near_of, far_of, place_of, extent_at, AreSorted, AreCandidatesOf}
+use Rattle.span_sets.specs.Candidates.{facing, candidate_of, candidates_from, nobody, nth, AreSorted, AreCandidatesOf}
 use Rattle.span_sets.specs.declared.candidate.Candidate.{Candidate}
 
 pub candidates_from-nil : (mirror : Bool) (i : ℕ) → candidates_from mirror i [] ≡ []
@@ -115,10 +115,13 @@ candidate_cmp_exact c d e =
 candidate_less : (c d : Candidate) → candidate_cmp c d ≡ Less → (c.near < d.near) ⊎ ((c.near ≡ d.near) × ((d.far.0 < c.far.0) ⊎ ((c.far.0 ≡ d.far.0) × (c.place < d.place))))
 candidate_less c d e = elim (then_less (nat_cmp c.near d.near) (ordering_then (nat_cmp d.far.0 c.far.0) (nat_cmp c.place d.place)) e) [
   | inl h ↦ inl (nat_less c.near d.near h)
-  | inr h ↦ inr (nat_exact c.near d.near h.0, elim (then_less (nat_cmp d.far.0 c.far.0) (nat_cmp c.place d.place) h.1) [
-    | inl g ↦ inl (nat_less d.far.0 c.far.0 g)
-    | inr g ↦ inr (sym (nat_exact d.far.0 c.far.0 g.0), nat_less c.place d.place g.1)
-  ])
+  | inr h ↦ inr (
+    nat_exact c.near d.near h.0,
+    elim (then_less (nat_cmp d.far.0 c.far.0) (nat_cmp c.place d.place) h.1) [
+      | inl g ↦ inl (nat_less d.far.0 c.far.0 g)
+      | inr g ↦ inr (sym (nat_exact d.far.0 c.far.0 g.0), nat_less c.place d.place g.1)
+    ],
+  )
 ]
 
 -- in a strictly sorted list each element is less than each later one
@@ -148,5 +151,6 @@ AreCandidatesOf-from_sort mirror targets sorted bag =
   where
     none_more : (n : ℕ) → 0 + n ≡ n
     none_more n = omega arith
+
     extent_of_candidate : Candidate → Extent
     extent_of_candidate c = record { begin = c.near; end = c.far.0 }

@@ -1,5 +1,5 @@
 -- The places that stay: the marks of a sweep give them, and there is one such list.
-use Rattle.std.proofs.Common.{◌≡◌, ℕ, zero, suc, ◌+◌, ◌<◌, ◌≤◌, ◌⊎◌, inl, inr, Bool, true, false, cond, List, [], ◌∷◌, length, get_or, refl, sym, ap, ◌∙◌, subst, arith, Option, Some, None, ◌↔◌, Contains, filter}
+use Rattle.std.proofs.Common.{◌≡◌, ℕ, zero, suc, ◌+◌, ◌<◌, ◌⊎◌, inl, inr, Bool, true, false, cond, List, [], ◌∷◌, length, get_or, refl, sym, ap, ◌∙◌, subst, arith, Option, Some, None, ◌↔◌, Contains, filter}
 use Rattle.std.specs.List.{range_with_len}
 use Rattle.std.specs.List.Sorted.{IsStrictlyIncreasing}
 use Rattle.std.proofs.lemmas.Bool.{cases_lt}
@@ -65,7 +65,6 @@ in_targets targets i t has = elim (cases_lt i (length targets)) [ inl h ↦ h | 
 
 module _ (policy : Policy) (targets : List (Option Extent)) (sorted : List Candidate) (known : AreCandidatesOf (is_mirrored policy) targets sorted) (up : AreSorted sorted)
     (answers : List Bool) (passes : (k : ℕ) → k < length sorted → (get_or answers k false ≡ true) ↔ Passes policy sorted answers k) where
-
   -- a list of the places that stay agrees with the answers, from the first candidate on
   agrees_below : (kept : List ℕ) → IsKept policy targets kept → (n k : ℕ) → k < n → k < length sorted → Contains kept (place_of sorted k) ↔ (get_or answers k false ≡ true)
   agrees_below kept is zero k h short = absurd (omega (arith, h))

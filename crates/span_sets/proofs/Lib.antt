@@ -5,6 +5,8 @@ pub mod Keeping
 pub mod CandidateLists
 -- rows in row order, with their targets
 pub mod RowOrders
--- runs of neighbours
-pub mod BlockLists
+pub mod RowLaws
+-- distinct spans, and runs of neighbours
 pub mod SpanLists
+pub mod BlockLists
+pub mod BlockLaws

@@ -1,15 +1,15 @@
 -- What a policy says of targets, and what a sweep asks of their candidates.
-use Rattle.std.proofs.Common.{◌≡◌, ◌≢◌, ℕ, ◌+◌, ◌<◌, ◌≤◌, ◌⊎◌, inl, inr, Bool, true, false, List, length, get_or, refl, sym, ap, ◌∙◌, subst, arith, Option, Some, None, ◌↔◌, Contains}
+use Rattle.std.proofs.Common.{◌≡◌, ◌≢◌, ℕ, ◌<◌, inl, inr, Bool, true, false, List, length, get_or, sym, ap, ◌∙◌, subst, arith, Option, Some, None, ◌↔◌, Contains}
 use Rattle.std.proofs.lemmas.Bool.{cases_lt}
 use Rattle.span_token.specs.Extents.{Extent}
 use Rattle.span_token.specs.Relations.{ContainsExtent, Overlaps}
 use Rattle.span_token.proofs.ExtentLemmas.{same_extent}
-use Rattle.span_sets.specs.Consolidation.{HasTarget, IsOutermost, IsInnermost, IsFirstOfEqual, ComesBefore, IsFree, Allows}
+use Rattle.span_sets.specs.Consolidation.{HasTarget, IsInnermost, IsFirstOfEqual, ComesBefore, IsFree, Allows}
 use Rattle.span_sets.specs.Candidates.{facing, mirrored, near_of, far_of, place_of, extent_at, AreSorted, AreAlike, IsNew, IsUncovered, IsClear, AreCandidatesOf, Passes, is_mirrored}
 use Rattle.span_sets.specs.declared.candidate.Candidate.{Candidate}
 use Rattle.span_sets.specs.declared.policy.Policy.{Policy}
 use Rattle.span_sets.specs.declared.policy.Policy.TheVariants.{ContainedWithin, NotContainedWithin, ContainsButNotEqual, ExactMatch, LeftToRight}
-use Rattle.span_sets.proofs.Sweeps.{itself, before}
+use Rattle.span_sets.proofs.Sweeps.{before}
 
 some_same : (a b : Extent) → ◌≡◌ {A = Option Extent} (Some a) (Some b) → a ≡ b
 some_same a b e = cc
@@ -120,7 +120,7 @@ free_is_clear targets sorted known up answers kept k t short has agree =
           let there : HasTarget targets (place_of sorted at.0) u = ap (λ n. get_or targets n None) at.2 ∙ other in
           let theirs : extent_at sorted at.0 ≡ u = extent_is false targets sorted known up at.0 u at.1 there in
           let comes' : ComesBefore (place_of sorted at.0) (extent_at sorted at.0) (place_of sorted k) (extent_at sorted k) =
-              subst (λ (v : Extent). ComesBefore (place_of sorted at.0) (extent_at sorted at.0) (place_of sorted k) v) (sym mine) (subst (λ (v : Extent). ComesBefore (place_of sorted at.0) v (place_of sorted k) t) (sym theirs) (subst (λ n. ComesBefore n u (place_of sorted k) t) (sym at.2) comes)) in
+          subst (λ (v : Extent). ComesBefore (place_of sorted at.0) (extent_at sorted at.0) (place_of sorted k) v) (sym mine) (subst (λ (v : Extent). ComesBefore (place_of sorted at.0) v (place_of sorted k) t) (sym theirs) (subst (λ n. ComesBefore n u (place_of sorted k) t) (sym at.2) comes)) in
           let first : at.0 < k = before sorted up at.0 k at.1 short comes' in
           let over' : Overlaps (extent_at sorted at.0) (extent_at sorted k) = subst (λ (v : Extent). Overlaps (extent_at sorted at.0) v) (sym mine) (subst (λ (v : Extent). Overlaps v t) (sym theirs) over) in
           clear at.0 first ((agree at.0 first).0 (subst (λ n. Contains kept n) (sym at.2) stays)) over'),

@@ -1,20 +1,22 @@
 -- The rows in row order, with their numbers and with their targets.
-use Rattle.std.proofs.Common.{◌≡◌, ℕ, zero, suc, ◌+◌, ◌<◌, ◌≤◌, ◌⊎◌, inl, inr, Bool, true, false, cond, List, [], ◌∷◌, ◌++◌, length, map, get_or, drop, refl, sym, ap, ap₂, ◌∙◌, subst, arith, Option, Some, None, All, nat_cmp}
+use Rattle.std.proofs.Common.{◌≡◌, ℕ, suc, ◌+◌, ◌<◌, ◌≤◌, Bool, true, false, cond, List, [], ◌∷◌, ◌++◌, length, map, get_or, drop, refl, sym, ap, ◌∙◌, subst, arith, Option, None, All, nat_cmp}
 use Rattle.std.specs.Cmp.{IsTotalOrder, nat_cmp_is}
 use Rattle.std.specs.List.{zip}
-use Rattle.std.specs.List.Sorted.{IsPermutation, IsSorted}
-use Rattle.std.specs.Ordering.{on, then_cmp, ordering_then, is_lt}
+use Rattle.std.specs.List.Sorted.{IsPermutation, IsSorted, IsStrictlyIncreasing}
+use Rattle.std.specs.Ordering.{ordering_then, is_lt}
 use Rattle.std.specs.declared.cmp.Ordering.{Ordering}
 use Rattle.std.specs.declared.cmp.Ordering.TheVariants.{Less, Equal, Greater}
 use Rattle.std.proofs.lemmas.Cmp.{nat_cmp_total, on_total, then_total, ranked}
 use Rattle.std.proofs.lemmas.List.Elements.{All-cons, All-weaker}
-use Rattle.std.proofs.lemmas.List.Sorted.{All-permutation, IsPermutation-map, length_permutation}
+use Rattle.std.proofs.lemmas.List.Sorted.{All-permutation, IsPermutation-map, length_permutation, sorted_far, ranks_by}
 use Rattle.std.proofs.Math.Seq.{drop-cons}
 use Rattle.std.proofs.lemmas.List.{get_or-map, length-map}
 use Rattle.aql_base.specs.Sorting.{put_in_order, sorted_by}
-use Rattle.aql_base.proofs.Sorting.{IsSorted-map, SameBag-sorted_by, sorted_by-unique}
+use Rattle.aql_base.proofs.Sorting.{IsSorted-map, IsSorted-sorted_by, SameBag-sorted_by, sorted_by-unique}
 use Rattle.row_values.specs.Datums.{Datum}
-use Rattle.row_values.specs.Rows.{row_cmp, sorted}
+use Rattle.row_values.specs.Rows.{row_cmp, IsInOrder, sorted}
+use Rattle.row_values.proofs.Sorted.{sorted-unique}
+use Rattle.std.proofs.lemmas.Slice.Zip.{firsts-zip}
 use Rattle.row_values.specs.RowOrder.{row_cmp_total, row_cmp_exact}
 use Rattle.span_token.specs.Extents.{Extent}
 use Rattle.span_sets.specs.Consolidation.{in_row_order, rows_in_order, targets_in_order}
@@ -109,8 +111,8 @@ module _ (targets : List (Option Extent)) where
   sort_with i [] = refl
   sort_with i (row ∷ rows) =
       let above : All (λ p. i < p.1) (sorted_by numbered_cmp (numbered_from (i + 1) rows)) =
-          All-permutation (λ p. i < p.1) (numbered_from (i + 1) rows) (sorted_by numbered_cmp (numbered_from (i + 1) rows)) (SameBag-sorted_by numbered_cmp_total (numbered_from (i + 1) rows))
-          (All-weaker (λ p. Unit {0} × (i + 1 ≤ p.1) × (p.1 < (i + 1) + length rows)) (λ p. i < p.1) (λ p h. omega (arith, h.1)) (numbered_from (i + 1) rows) (numbers_from (λ r. Unit {0}) (i + 1) rows (λ k d h. tt))) in
+      All-permutation (λ p. i < p.1) (numbered_from (i + 1) rows) (sorted_by numbered_cmp (numbered_from (i + 1) rows)) (SameBag-sorted_by numbered_cmp_total (numbered_from (i + 1) rows))
+      (All-weaker (λ p. Unit {0} × (i + 1 ≤ p.1) × (p.1 < (i + 1) + length rows)) (λ p. i < p.1) (λ p h. omega (arith, h.1)) (numbered_from (i + 1) rows) (numbers_from (λ r. Unit {0}) (i + 1) rows (λ k d h. tt))) in
       put row i (sorted_by numbered_cmp (numbered_from (i + 1) rows)) above ∙ ap (put_in_order placed_cmp (with_target (row, i))) (sort_with (i + 1) rows)
 
   zipped : (i : ℕ) (rows : List (List Datum)) → i + length rows ≡ length targets → map with_target (numbered_from i rows) ≡ zip rows (drop i targets)
@@ -149,3 +151,22 @@ module _ {R : Type 0} (shown : R → List Datum × ℕ) (rows : List (List Datum
 
   pub length-order : length order ≡ length rows
   length-order = sym (length-map order shown) ∙ ap (λ ps. length ps) is ∙ length-row_order_of rows
+
+-- the rows in row order are the sorted rows
+pub rows_in_order-sorted : (rows : List (List Datum)) (targets : List (Option Extent)) → length targets ≡ length rows → rows_in_order rows targets ≡ sorted rows
+unfolding in_row_order
+rows_in_order-sorted rows targets each =
+    let first : List Datum × Option Extent → List Datum = λ p. p.0 in
+    let by_row : IsTotalOrder placed_cmp = on_total first row_cmp_total in
+    let bag : IsPermutation (map first (zip rows targets)) (map first (in_row_order rows targets)) = IsPermutation-map first (zip rows targets) (in_row_order rows targets) (SameBag-sorted_by by_row (zip rows targets)) in
+    sorted-unique rows (map first (in_row_order rows targets)) (IsSorted-map row_cmp first (in_row_order rows targets) (IsSorted-sorted_by by_row (zip rows targets)))
+    (subst (λ (rs : List (List Datum)). IsPermutation rs (map first (in_row_order rows targets))) (firsts-zip rows targets each) bag)
+
+-- some of the rows of a list in order, from the first to the last, are in order
+pub IsInOrder-picked : (rows : List (List Datum)) (places : List ℕ) → IsInOrder rows → IsStrictlyIncreasing places → All (λ i. i < length rows) places → IsInOrder (map (λ i. get_or rows i []) places)
+IsInOrder-picked rows places up rising all = λ k d low high.
+    let f : ℕ → List Datum = λ i. get_or rows i [] in
+    let short : k + 1 < length places = omega (arith, high, length-map places f) in
+    let here = get_or-map f places k 0 d (omega (arith, short)) in
+    let next = get_or-map f places (k + 1) 0 d short in
+    rw (here, next) (sorted_far (λ a b. is_lt (row_cmp a b)) (ranks_by row_cmp_total (λ (r : List Datum). r)) rows up (get_or places k 0) (get_or places (k + 1) 0) [] (omega (arith, rising k short)) (all (k + 1) 0 short))

@@ -54,8 +54,8 @@ module _ (sorted : List Candidate) (up : AreSorted sorted) where
   pub IsUncovered-alike : (p k : ℕ) → p + 1 ≡ k → k < length sorted → AreAlike sorted p k → IsUncovered sorted p ↔ IsUncovered sorted k
   IsUncovered-alike p k e short alike = (
     (λ open' j h reach. elim (cases_lt j p) [
-        | inl g ↦ let a = open' j g (omega (arith, alike, reach)) in (omega (arith, a, alike), omega (arith, a, alike))
-        | inr g ↦ let same : j ≡ p = omega arith in subst (λ n. AreAlike sorted n k) (sym same) alike
+      | inl g ↦ let a = open' j g (omega (arith, alike, reach)) in (omega (arith, a, alike), omega (arith, a, alike))
+      | inr g ↦ let same : j ≡ p = omega arith in subst (λ n. AreAlike sorted n k) (sym same) alike
     ]),
     (λ open' j h reach. let a = open' j (omega arith) (omega (arith, alike, reach)) in (omega (arith, a, alike), omega (arith, a, alike))),
   )
@@ -76,17 +76,17 @@ module _ (sorted : List Candidate) (up : AreSorted sorted) where
   IsClear-two answers ordered k farthest last short clear low stays most low' stays' latest = (
     (λ c. (c farthest low stays, c last low' stays')),
     (λ no j h yes over. elim over [
-        | inl both ↦ elim (cases_lt (near_of sorted farthest) (far_of sorted k)) [
-          | inl g ↦ no.0 (inl (g, omega (arith, both, most j h yes)))
-          | inr g ↦
-              let a = up farthest k low short in
-              let touch = ordered k short in
-              let first : j < farthest = before j farthest (omega arith) (omega arith) (inl (omega (arith, a, both, g, touch))) in
-              (clear farthest low).0 stays j first yes (inl (omega (arith, both, g, ordered farthest (omega arith)), omega (arith, a, both, touch)))
-        ]
-        | inr same ↦
-            let alike = alike_between j last k (latest j h yes) low' short (ap (λ (e : Extent). e.begin) same, ap (λ (e : Extent). e.end) same) in
-            no.1 (inr (same_extent (extent_at sorted last) (extent_at sorted k) alike.0 alike.1))
+      | inl both ↦ elim (cases_lt (near_of sorted farthest) (far_of sorted k)) [
+        | inl g ↦ no.0 (inl (g, omega (arith, both, most j h yes)))
+        | inr g ↦
+            let a = up farthest k low short in
+            let touch = ordered k short in
+            let first : j < farthest = before j farthest (omega arith) (omega arith) (inl (omega (arith, a, both, g, touch))) in
+            (clear farthest low).0 stays j first yes (inl (omega (arith, both, g, ordered farthest (omega arith)), omega (arith, a, both, touch)))
+      ]
+      | inr same ↦
+          let alike = alike_between j last k (latest j h yes) low' short (ap (λ (e : Extent). e.begin) same, ap (λ (e : Extent). e.end) same) in
+          no.1 (inr (same_extent (extent_at sorted last) (extent_at sorted k) alike.0 alike.1))
     ]),
   )
 
@@ -218,9 +218,11 @@ module _ (sorted : List Candidate) (up : AreSorted sorted) (ordered : (k : ℕ) 
       where
         apart : x ≡ true → ⊥
         apart t = true≢false (sym t ∙ f)
+
         -- the first candidate stays
         some : 0 < i
         some = elim (cases_lt 0 i) [ inl h ↦ h | inr h ↦ absurd (apart (right.1 (λ j less. absurd (omega (arith, less, h))))) ]
+
         dropped : (k : ℕ) → i ≤ k → k < i + 1 → get_or (answers ++ x ∷ []) k false ≡ true → ⊥
         dropped k g h s = let e : k ≡ i = omega arith in apart (sym as_now ∙ subst (λ n. get_or (answers ++ x ∷ []) n false ≡ true) e s)
 

@@ -1,9 +1,8 @@
 -- What a sweep works on: the spans of one column with their places, sorted.
-use Rattle.std.specs.Prelude.{ℕ, ◌+◌, ◌≡◌, ◌<◌, ◌≤◌, ◌↔◌, ◌⊎◌, Bool, true, false, List, [], ◌∷◌, Option, Some, None, length, slice_index_or, filter}
+use Rattle.std.specs.Prelude.{ℕ, ◌+◌, ◌≡◌, ◌<◌, ◌≤◌, ◌⊎◌, Bool, true, false, List, [], ◌∷◌, Option, Some, None, length, slice_index_or, filter}
 use Rattle.std.specs.List.{range_with_len}
-use Rattle.span_token.specs.Extents.{Extent, extent_of}
+use Rattle.span_token.specs.Extents.{Extent}
 use Rattle.span_token.specs.Relations.{Overlaps}
-use Rattle.span_token.specs.declared.span.Span.{Span}
 use Rattle.span_sets.specs.Consolidation.{HasTarget}
 use Rattle.span_sets.specs.declared.candidate.Candidate.{Candidate}
 use Rattle.span_sets.specs.declared.policy.Policy.{Policy}
@@ -32,19 +31,23 @@ candidates_from mirror i (Some t ∷ targets) = candidate_of (facing mirror t) i
 abbrev pub nobody : Candidate
 nobody = record { near = 0; far = record { 0 = 0 }; place = 0 }
 
--- candidate k, its two ends and its place
+-- candidate k
 abbrev pub nth : List Candidate → ℕ → Candidate
 nth sorted k = slice_index_or sorted k nobody
 
+-- its nearer end
 abbrev pub near_of : List Candidate → ℕ → ℕ
 near_of sorted k = (nth sorted k).near
 
+-- its farther end
 abbrev pub far_of : List Candidate → ℕ → ℕ
 far_of sorted k = (nth sorted k).far.0
 
+-- the place of its row
 abbrev pub place_of : List Candidate → ℕ → ℕ
 place_of sorted k = (nth sorted k).place
 
+-- its two ends
 abbrev pub extent_at : List Candidate → ℕ → Extent
 extent_at sorted k = record { begin = near_of sorted k; end = far_of sorted k }
 

@@ -61,10 +61,11 @@ pub record IsKept (policy : Policy) (targets : List (Option Extent)) (kept : Lis
 unfoldable pub in_row_order : List (List Datum) → List (Option Extent) → List (List Datum × Option Extent)
 in_row_order rows targets = sorted_by (λ p q. row_cmp p.0 q.0) (zip rows targets)
 
--- the rows, and their targets, in row order
+-- the rows in row order
 abbrev pub rows_in_order : List (List Datum) → List (Option Extent) → List (List Datum)
 rows_in_order rows targets = map (λ p. p.0) (in_row_order rows targets)
 
+-- the targets of the rows in row order
 abbrev pub targets_in_order : List (List Datum) → List (Option Extent) → List (Option Extent)
 targets_in_order rows targets = map (λ p. p.1) (in_row_order rows targets)
 

@@ -1,7 +1,7 @@
 -- which rows stay
 pub mod Consolidation
--- spans of neighbours
+-- runs of neighbouring spans
 pub mod Blocks
--- what the sweeps work on
+-- Not in any public clause: what the sweeps work on, and rows with their numbers
 pub mod Candidates
 pub mod Orders

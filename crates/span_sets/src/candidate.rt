@@ -57,9 +57,17 @@ fn at_place(span: Span, place: u32, mirror: bool) -> Candidate
     ensures { result ≡ candidate_of (facing mirror (extent_of span)) place }
 {
     if mirror {
-        Candidate { near: span.end, far: Reverse(span.begin), place }
+        Candidate {
+            near: span.end,
+            far: Reverse(span.begin),
+            place,
+        }
     } else {
-        Candidate { near: span.begin, far: Reverse(span.end), place }
+        Candidate {
+            near: span.begin,
+            far: Reverse(span.end),
+            place,
+        }
     }
 }
 

@@ -1,6 +1,6 @@
-ghost use Rattle.std.specs.Prelude.{◌≡◌, ◌<◌, ◌^◌, IfOk, length, map, slice_index_or, vec_len, All, []};
-ghost use Rattle.row_values.specs.Rows.{RowList};
-ghost use Rattle.span_sets.specs.Consolidation.{target_of, IsConsolidated};
+ghost use Rattle.std.specs.Prelude.{ℕ, List, ◌≡◌, ◌<◌, ◌^◌, IfOk, length, map, slice_index_or, vec_len, All, []};
+ghost use Rattle.row_values.specs.Rows.{RowList, IsInOrder};
+ghost use Rattle.span_sets.specs.Consolidation.{target_of, targets_in_order, IsKept, IsConsolidated};
 ghost use Rattle.span_sets.specs.Orders.{numbered_from, row_order_of};
 ghost use Rattle.span_sets.specs.Candidates.{marked_places};
 
@@ -31,6 +31,9 @@ pub fn consolidate<'d>(
     requires one_target_each { vec_len targets ≡ length rows.rows }
     ensures kept { IfOk result (λ out. IsConsolidated policy rows.entry (map target_of targets.items) out) }
     ensures only { IfOk result (λ out. (other : RowList) → IsConsolidated policy rows.entry (map target_of targets.items) other → other ≡ out) }
+    ensures one_set { IfOk result (λ _. (a b : List ℕ) → IsKept policy (targets_in_order rows.entry.rows (map target_of targets.items)) a
+        → IsKept policy (targets_in_order rows.entry.rows (map target_of targets.items)) b → a ≡ b) }
+    ensures in_order { IfOk result (λ out. IsInOrder out.rows) }
 {
     let order = row_order(alloc, &rows)?;
     let targets = in_order(alloc, order.as_slice(), targets.as_slice())?;
@@ -40,7 +43,10 @@ pub fn consolidate<'d>(
 }
 
 /// The rows with their numbers, in row order; equal rows keep their order.
-fn row_order<'r, 'd>(alloc: Global, rows: &'r Rows<'d>) -> Result<Vec<(&'r Row<'d>, u32)>, OutOfMemory>
+fn row_order<'r, 'd>(
+    alloc: Global,
+    rows: &'r Rows<'d>,
+) -> Result<Vec<(&'r Row<'d>, u32)>, OutOfMemory>
     ensures order { IfOk result (λ order. map (λ p. (p.0.now, p.1)) order.items ≡ row_order_of rows.now.rows) }
     ensures few { IfOk result (λ _. length rows.now.rows < 2 ^ 32) }
 {
@@ -50,7 +56,10 @@ fn row_order<'r, 'd>(alloc: Global, rows: &'r Rows<'d>) -> Result<Vec<(&'r Row<'
 }
 
 /// Each row with its number.
-fn numbered<'r, 'd>(alloc: Global, rows: &'r Rows<'d>) -> Result<Vec<(&'r Row<'d>, u32)>, OutOfMemory>
+fn numbered<'r, 'd>(
+    alloc: Global,
+    rows: &'r Rows<'d>,
+) -> Result<Vec<(&'r Row<'d>, u32)>, OutOfMemory>
     ensures order { IfOk result (λ order. map (λ p. (p.0.now, p.1)) order.items ≡ numbered_from 0 rows.now.rows) }
     ensures few { IfOk result (λ _. length rows.now.rows < 2 ^ 32) }
 {

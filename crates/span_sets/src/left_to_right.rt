@@ -11,10 +11,7 @@ use std::alloc::Global;
 /// It is compared with two of those that stay: the one that reaches farthest, and the last one. One
 /// that begins before the end of another overlaps the farthest, since those that stay don't overlap;
 /// the last one is looked at for an empty span that equals it.
-pub(crate) fn left_to_right(
-    alloc: Global,
-    sorted: &[Candidate],
-) -> Result<Vec<bool>, OutOfMemory>
+pub(crate) fn left_to_right(alloc: Global, sorted: &[Candidate]) -> Result<Vec<bool>, OutOfMemory>
     requires sorted { AreSorted sorted.now }
     requires ordered { (k : ℕ) → k < length sorted.now → near_of sorted.now k ≤ far_of sorted.now k }
     ensures one_each { IfOk result (λ answers. length answers.items ≡ length sorted.now) }
@@ -52,7 +49,11 @@ fn farther(sorted: &[Candidate], a: usize, b: usize) -> usize
     ensures beyond_a { far_of sorted.now a ≤ far_of sorted.now result }
     ensures beyond_b { far_of sorted.now b ≤ far_of sorted.now result }
 {
-    if sorted[a].far.0 < sorted[b].far.0 { b } else { a }
+    if sorted[a].far.0 < sorted[b].far.0 {
+        b
+    } else {
+        a
+    }
 }
 
 /// Whether the spans of two candidates share a character or are equal.

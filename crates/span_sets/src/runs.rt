@@ -14,7 +14,11 @@ use std::alloc::Global;
 /// each begins at or after the end of the one before it, with `gap_low` to `gap_high` characters
 /// between, or tokens of `doc` where `tokens` is true, counted as `follows` and `follows_tok` do. The
 /// blocks stand by the first span of their run and then by the last; where two runs have one block, it
-/// comes twice. A single span is a run of one.
+/// comes twice.
+///
+/// A single span is a run of one, whatever the gaps: with a `low` of 0 or 1 each distinct span is a
+/// block. Nothing comes where `high` is 0 or below `low`; where `gap_high` is below `gap_low` or below
+/// 0, no two spans are neighbours.
 ///
 /// Takes one sort, a test for each pair of spans next to each other, and a step for each block.
 ///

@@ -38,11 +38,7 @@ fn goes_by_end(policy: Policy) -> bool
 }
 
 /// For each candidate, whether it stays.
-fn answers(
-    alloc: Global,
-    sorted: &[Candidate],
-    policy: Policy,
-) -> Result<Vec<bool>, OutOfMemory>
+fn answers(alloc: Global, sorted: &[Candidate], policy: Policy) -> Result<Vec<bool>, OutOfMemory>
     requires sorted { AreSorted sorted.now }
     requires ordered { policy ≡ Policy.LeftToRight → (k : ℕ) → k < length sorted.now → near_of sorted.now k ≤ far_of sorted.now k }
     ensures one_each { IfOk result (λ answers. length answers.items ≡ length sorted.now) }
@@ -82,5 +78,10 @@ fn marks(
 fn nulls(alloc: Global, targets: &[Option<Span>]) -> Result<Vec<bool>, OutOfMemory>
     ensures { IfOk result (λ marks. marks.items ≡ map is_none targets.now) }
 {
-    Ok(targets.iter().map(|target| target.is_none()).collect(alloc)?)
+    Ok(
+        targets
+            .iter()
+            .map(|target| target.is_none())
+            .collect(alloc)?,
+    )
 }

@@ -1,4 +1,4 @@
-use Rattle.std.proofs.Common.{map, subst, sym}
+use Rattle.std.proofs.Common.{map, subst}
 use Rattle.std.specs.List.Sorted.{IsPermutation}
 use Rattle.span_sets.specs.declared.candidate.Candidate.{Candidate}
 use Rattle.std.proofs.Common.{List}

@@ -1,4 +1,4 @@
-use Rattle.std.proofs.Common.{◌≡◌, ℕ, ◌+◌, ◌<◌, List, [], ◌∷◌, ◌++◌, Bool, true, false, cond, map, filter, length, get_or, refl, sym, ap, ap₂, ◌∙◌, arith, Bor}
+use Rattle.std.proofs.Common.{◌≡◌, ℕ, ◌+◌, List, [], ◌∷◌, ◌++◌, Bool, true, false, cond, map, filter, get_or, refl, sym, ap, ap₂, ◌∙◌, arith, Bor}
 use Rattle.std.specs.List.{range_with_len}
 use Rattle.std.proofs.lemmas.List.{map_push, map-id, get_or-map}
 use Rattle.std.proofs.lemmas.List.FromFn.{filter_of_map_range_with_len_more}
@@ -26,8 +26,8 @@ grown : (f : ℕ → List Datum) (p : ℕ → Bool) (n width : ℕ) (out : RowLi
     → ◌≡◌ {A = RowList} (record { width = out.width; rows = out.rows ++ row ∷ [] }) (record { width = width; rows = map f (filter p (range_with_len 0 (n + 1))) })
 grown f p n width out row is passed same =
     let rows : out.rows ++ row ∷ [] ≡ map f (filter p (range_with_len 0 (n + 1))) =
-        ap₂ (λ (rs : List (List Datum)) (r : List Datum). rs ++ r ∷ []) (ap (λ (list : RowList). list.rows) is) same ∙ sym (map_push f (filter p (range_with_len 0 n)) n)
-        ∙ ap (λ (ks : List ℕ). map f ks) (sym (more p n ∙ ap (λ (b : Bool). filter p (range_with_len 0 n) ++ cond b (n ∷ []) []) passed)) in
+    ap₂ (λ (rs : List (List Datum)) (r : List Datum). rs ++ r ∷ []) (ap (λ (list : RowList). list.rows) is) same ∙ sym (map_push f (filter p (range_with_len 0 n)) n)
+    ∙ ap (λ (ks : List ℕ). map f ks) (sym (more p n ∙ ap (λ (b : Bool). filter p (range_with_len 0 n) ++ cond b (n ∷ []) []) passed)) in
     λ i. record { width = (is i).width; rows = rows i }
 
 pub loop-i-preserved : goal.loop-i-preserved

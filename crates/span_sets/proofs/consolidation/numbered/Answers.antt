@@ -1,4 +1,4 @@
-use Rattle.std.proofs.Common.{◌≡◌, ℕ, ◌+◌, ◌<◌, List, [], ◌∷◌, ◌++◌, map, length, take, refl, sym, ap, ap₂, ◌∙◌, arith, Bor}
+use Rattle.std.proofs.Common.{◌≡◌, ℕ, ◌+◌, ◌<◌, List, [], ◌∷◌, ◌++◌, map, length, take, sym, ap, ap₂, ◌∙◌, arith, Bor}
 use Rattle.std.proofs.lemmas.List.{take_more, map_push, length-take-le}
 use Rattle.row_values.specs.Datums.{Datum}
 use Rattle.row_values.specs.declared.row.Row.{Row}

@@ -1,4 +1,4 @@
-use Rattle.std.proofs.Common.{◌≡◌, ℕ, List, map, Bor}
+use Rattle.std.proofs.Common.{ℕ, List, Bor}
 use Rattle.row_values.specs.Datums.{Datum}
 use Rattle.row_values.specs.declared.row.Row.{Row}
 use Rattle.span_sets.proofs.RowOrders.{row_order_of-shown}

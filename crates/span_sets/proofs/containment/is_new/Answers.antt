@@ -1,4 +1,4 @@
-use Rattle.std.proofs.Common.{◌≡◌, ℕ, ◌+◌, ◌-◌, Bool, true, false, not, refl, sym, arith}
+use Rattle.std.proofs.Common.{◌≡◌, ◌+◌, ◌-◌, Bool, true, false, not, arith}
 use Rattle.std.proofs.lemmas.Bool.{OnTrue_from}
 use Rattle.span_sets.specs.Candidates.{IsNew}
 use Rattle.span_sets.proofs.Sweeps.{IsNew-next}

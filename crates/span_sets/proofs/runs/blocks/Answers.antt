@@ -1,4 +1,4 @@
-use Rattle.std.proofs.Common.{List, map, subst, w64}
+use Rattle.std.proofs.Common.{List, map, subst}
 use Rattle.std.proofs.lemmas.Int.{to_z-of_z}
 use Rattle.span_token.specs.Extents.{extent_of}
 use Rattle.span_token.specs.declared.span.Span.{Span}

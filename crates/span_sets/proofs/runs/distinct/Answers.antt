@@ -1,12 +1,11 @@
-use Rattle.std.proofs.Common.{◌≡◌, ℕ, Bool, ◌&&◌, eqb, List, map, All, refl, sym, subst, ap₂, ◌∙◌, nat_cmp}
-use Rattle.std.specs.List.{dedup}
+use Rattle.std.proofs.Common.{◌≡◌, Bool, ◌&&◌, eqb, List, map, All, refl, sym, subst, ap₂, ◌∙◌, nat_cmp}
 use Rattle.std.specs.Ordering.{eq_by_cmp, is_eq, ordering_then}
 use Rattle.std.specs.declared.cmp.Ordering.{Ordering}
 use Rattle.std.specs.declared.cmp.Ordering.TheVariants.{Less, Equal, Greater}
 use Rattle.std.proofs.lemmas.List.Filters.{dedup_is, All-dedup}
 use Rattle.std.proofs.lemmas.List.Sorted.{All-permutation}
 use Rattle.span_token.specs.Documents.{LiesIn}
-use Rattle.span_token.specs.Extents.{Extent, extent_of}
+use Rattle.span_token.specs.Extents.{extent_of}
 use Rattle.span_token.specs.declared.span.Span.{Span}
 use Rattle.span_sets.specs.Blocks.{AreDistinct}
 use Rattle.span_sets.proofs.SpanLists.{span_cmp, nat_tied, AreDistinct-from_dedup}

@@ -1,4 +1,4 @@
-use Rattle.std.proofs.Common.{◌≡◌, ℕ, ◌+◌, ◌-◌, ◌<◌, ◌≤◌, List, [], ◌∷◌, ◌++◌, length, map, get_or, refl, sym, ap, ap₂, ◌∙◌, arith, append_assoc, inl, inr}
+use Rattle.std.proofs.Common.{◌≡◌, ℕ, ◌+◌, ◌-◌, ◌<◌, List, [], ◌∷◌, ◌++◌, length, map, get_or, sym, ap, ap₂, ◌∙◌, arith, append_assoc, inl, inr}
 use Rattle.std.proofs.lemmas.Bool.{cases_lt}
 use Rattle.std.specs.List.{range_with_len}
 use Rattle.std.proofs.lemmas.List.{map_push, get_or-map}
@@ -30,7 +30,7 @@ loop-j-preserved c =
     let here : from + (j - from) ≡ j = omega (arith, c.loop-j.auto.j) in
     let next : (j - from) + 1 ≡ (j + 1) - from = omega (arith, c.loop-j.auto.j) in
     let grown : map (block_of spans i) (range_with_len from ((j + 1) - from)) ≡ map (block_of spans i) (range_with_len from (j - from)) ++ block_of spans i j ∷ [] =
-        ap (λ (n : ℕ). map (block_of spans i) (range_with_len from n)) (sym next) ∙ map-range_with_len_more (block_of spans i) from (j - from) j here in
+    ap (λ (n : ℕ). map (block_of spans i) (range_with_len from n)) (sym next) ∙ map-range_with_len_more (block_of spans i) from (j - from) j here in
     let block : Extent = record { begin = (get_or c.args.spans.now i c.index-spans-first.result).begin; end = (get_or c.args.spans.now j c.index-spans-j.result).end } in
     let same : block ≡ block_of spans i j = same_extent block (block_of spans i j) (sym (ap (λ (e : Extent). e.begin) first)) (sym (ap (λ (e : Extent). e.end) last)) in
     record {

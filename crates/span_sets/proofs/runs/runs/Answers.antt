@@ -1,4 +1,4 @@
-use Rattle.std.proofs.Common.{◌≡◌, ℕ, ◌+◌, ◌-◌, ◌<◌, ◌≤◌, ◌↔◌, List, [], ◌∷◌, ◌++◌, length, map, min, max, refl, sym, ap, subst, ◌∙◌, arith, All, inl, inr}
+use Rattle.std.proofs.Common.{◌≡◌, ℕ, ◌+◌, ◌-◌, ◌<◌, ◌≤◌, ◌↔◌, List, length, map, min, max, sym, subst, arith, All, inl, inr}
 use Rattle.std.proofs.lemmas.Bool.{cases_lt}
 use Rattle.std.proofs.lemmas.List.{length-map}
 use Rattle.std.proofs.lemmas.List.Elements.{All-append, All-map, All-contains_itself}
@@ -7,7 +7,7 @@ use Rattle.span_token.specs.Documents.{Doc, LiesIn}
 use Rattle.span_token.specs.Extents.{Extent, extent_of}
 use Rattle.span_token.specs.declared.span.Span.{Span}
 use Rattle.span_token.proofs.Rising.{in_range}
-use Rattle.span_sets.specs.Blocks.{IsNeighbour, span_at, block_of, AreBlocksOf}
+use Rattle.span_sets.specs.Blocks.{IsNeighbour, span_at, block_of}
 use Rattle.span_sets.proofs.BlockLists.{HasRuns, HasRuns-next, HasRuns-all}
 use Rattle.span_sets.proofs.RowOrders.{All-shown}
 use Rattle.span_sets.proofs.SpanLists.{spans_ordered, begins_rise}
@@ -31,8 +31,8 @@ ends_by i end to high sum is sum_is small j h = ((λ g. (omega (arith, g, is, su
 blocks_lie : (doc : Doc) (spans : List Span) (i from to : ℕ) → All (λ s. LiesIn (extent_of s) doc) spans → to ≤ length spans → All (λ e. LiesIn e doc) (map (block_of (map extent_of spans) i) (range_with_len from (to - from)))
 blocks_lie doc spans i from to all within =
     All-map (λ e. LiesIn e doc) (block_of (map extent_of spans) i) (range_with_len from (to - from)) (λ k d h.
-        let there = in_range from (to - from) _ (All-contains_itself (range_with_len from (to - from)) k d h) in
-        All-map (λ e. LiesIn e doc) extent_of spans all _ (record { begin = 0; end = 0 }) (omega (arith, there, within, length-map spans extent_of)))
+    let there = in_range from (to - from) _ (All-contains_itself (range_with_len from (to - from)) k d h) in
+    All-map (λ e. LiesIn e doc) extent_of spans all _ (record { begin = 0; end = 0 }) (omega (arith, there, within, length-map spans extent_of)))
 
 pub loop-i-preserved : goal.loop-i-preserved
 loop-i-preserved c =
@@ -50,10 +50,10 @@ loop-i-preserved c =
     let to_small : c.min-to.result ≤ 18446744073709551615 = omega (arith, c.min-to.ensures, c.saturating_add.ensures) in
     let end_small : end ≤ 18446744073709551615 = omega (arith, c.chain_end-end.type_inv) in
     let next = HasRuns-next IsNext c.args.low c.args.high spans i end c.saturating_add-from.result c.min-to.result (omega (arith, after)) (omega (arith, c.chain_end-end.ensures.within, many)) chained
-        (λ h. c.chain_end-end.ensures.stopped (omega (arith, h, many)))
-        (begins_by i c.saturating_add-from.result c.min-to.result c.args.low c.max-in-loop-i.result c.saturating_add-from.ensures c.max-in-loop-i.ensures to_small)
-        (ends_by i end c.min-to.result c.args.high c.saturating_add.result c.min-to.ensures c.saturating_add.ensures end_small)
-        (map extent_of c.loop-i.found.items) c.loop-i.invariant.has in
+    (λ h. c.chain_end-end.ensures.stopped (omega (arith, h, many)))
+    (begins_by i c.saturating_add-from.result c.min-to.result c.args.low c.max-in-loop-i.result c.saturating_add-from.ensures c.max-in-loop-i.ensures to_small)
+    (ends_by i end c.min-to.result c.args.high c.saturating_add.result c.min-to.ensures c.saturating_add.ensures end_small)
+    (map extent_of c.loop-i.found.items) c.loop-i.invariant.has in
     record {
       has = subst (λ (found : List Extent). HasRuns IsNext c.args.low c.args.high spans (i + 1) found) (sym c.in_ok-push_blocks.ensures.blocks) next;
       in_document = All-shown (λ e. LiesIn e doc) extent_of c.push_blocks.new.found.items

@@ -1,11 +1,10 @@
-use Rattle.std.proofs.Common.{◌≡◌, ◌≢◌, ℕ, ◌+◌, ◌<◌, ◌≤◌, Bool, true, false, List, map, length, get_or, set, Option, Some, None, inl, inr, refl, sym, ap, ◌∙◌, subst, arith, vec_len}
+use Rattle.std.proofs.Common.{◌≡◌, ◌≢◌, ℕ, ◌<◌, Bool, true, false, List, map, length, get_or, set, Option, Some, None, inl, inr, refl, sym, ap, ◌∙◌, subst, arith}
 use Rattle.std.specs.Option.{is_none}
 use Rattle.std.proofs.lemmas.Bool.{cases_lt}
-use Rattle.std.proofs.lemmas.List.{get_or-map, length-map, length-set, get_or-set_same, get_or-set_other}
+use Rattle.std.proofs.lemmas.List.{get_or-map, length-map, get_or-set_same, get_or-set_other}
 use Rattle.std.proofs.Math.ListN.{get_or-map as get_or-map_at}
-use Rattle.span_token.specs.Extents.{Extent}
 use Rattle.span_token.specs.declared.span.Span.{Span}
-use Rattle.span_sets.specs.Consolidation.{target_of, HasTarget}
+use Rattle.span_sets.specs.Consolidation.{target_of}
 use Rattle.span_sets.specs.Candidates.{place_of}
 use Rattle.span_sets.proofs.Keeping.{in_targets, not_both}
 use Rattle.span_sets.proofs.stays.marks.Goals as goal

@@ -1,10 +1,10 @@
-use Rattle.std.proofs.Common.{◌≡◌, ◌≢◌, ℕ, ◌+◌, ◌<◌, ◌≤◌, ◌↔◌, Bool, true, false, List, map, length, get_or, Option, Some, None, inl, inr, refl, sym, ap, ◌∙◌, subst, arith}
+use Rattle.std.proofs.Common.{◌≡◌, ℕ, ◌<◌, ◌≤◌, ◌↔◌, Bool, true, false, List, map, length, get_or, Option, Some, None, sym, ap, ◌∙◌, subst, arith}
 use Rattle.std.proofs.lemmas.List.{length-map}
 use Rattle.std.proofs.Math.ListN.{get_or-map as get_or-map_at}
 use Rattle.span_token.specs.Extents.{Extent, extent_of}
 use Rattle.span_token.specs.declared.span.Span.{Span}
-use Rattle.span_sets.specs.Consolidation.{target_of, HasTarget}
-use Rattle.span_sets.specs.Candidates.{place_of, near_of, far_of, facing, AreSorted, AreCandidatesOf, Passes, is_mirrored}
+use Rattle.span_sets.specs.Consolidation.{target_of}
+use Rattle.span_sets.specs.Candidates.{place_of, near_of, far_of, facing, AreCandidatesOf, Passes, is_mirrored}
 use Rattle.span_sets.specs.declared.candidate.Candidate.{Candidate}
 use Rattle.span_sets.specs.declared.policy.Policy.{Policy}
 use Rattle.span_sets.specs.declared.policy.Policy.TheVariants.{LeftToRight}
@@ -47,10 +47,10 @@ returns-clause-kept c =
     let marks : List Bool = c.in_ok-marks.marks.items in
     let known = known_by policy c.goes_by_end.result targets sorted c.goes_by_end.ensures c.in_ok-sorted.ensures.known in
     let passes : (k : ℕ) → k < length sorted → (get_or answers k false ≡ true) ↔ Passes policy sorted answers k =
-        subst (λ (s : List Candidate). (k : ℕ) → k < length s → (get_or answers k false ≡ true) ↔ Passes policy s answers k) c.as_slice.ensures.value c.in_ok-answers.ensures.answers in
+    subst (λ (s : List Candidate). (k : ℕ) → k < length s → (get_or answers k false ≡ true) ↔ Passes policy s answers k) c.as_slice.ensures.value c.in_ok-answers.ensures.answers in
     let answered : (k : ℕ) → k < length sorted → get_or marks (place_of sorted k) false ≡ get_or answers k false =
-        subst (λ (bs : List Bool). (k : ℕ) → k < length sorted → get_or marks (place_of sorted k) false ≡ get_or bs k false) c.as_slice-3.ensures.value
-        (subst (λ (s : List Candidate). (k : ℕ) → k < length s → get_or marks (place_of s k) false ≡ get_or c.as_slice-3.result.now k false) c.as_slice-2.ensures.value c.in_ok-marks.ensures.answered) in
+    subst (λ (bs : List Bool). (k : ℕ) → k < length sorted → get_or marks (place_of sorted k) false ≡ get_or bs k false) c.as_slice-3.ensures.value
+    (subst (λ (s : List Candidate). (k : ℕ) → k < length s → get_or marks (place_of s k) false ≡ get_or c.as_slice-3.result.now k false) c.as_slice-2.ensures.value c.in_ok-marks.ensures.answered) in
     let many = length-map c.args.targets.now target_of in
     IsKept-marked policy targets sorted known c.in_ok-sorted.ensures.sorted answers passes marks (c.in_ok-marks.ensures.number ∙ sym many) (λ i short null. c.in_ok-marks.ensures.null i (omega (arith, short, many)) null) answered
 
@@ -62,5 +62,5 @@ returns-clause-only c = λ other is.
     let answers : List Bool = c.in_ok-answers.answers.items in
     let known = known_by policy c.goes_by_end.result targets sorted c.goes_by_end.ensures c.in_ok-sorted.ensures.known in
     let passes : (k : ℕ) → k < length sorted → (get_or answers k false ≡ true) ↔ Passes policy sorted answers k =
-        subst (λ (s : List Candidate). (k : ℕ) → k < length s → (get_or answers k false ≡ true) ↔ Passes policy s answers k) c.as_slice.ensures.value c.in_ok-answers.ensures.answers in
+    subst (λ (s : List Candidate). (k : ℕ) → k < length s → (get_or answers k false ≡ true) ↔ Passes policy s answers k) c.as_slice.ensures.value c.in_ok-answers.ensures.answers in
     IsKept-unique policy targets sorted known c.in_ok-sorted.ensures.sorted answers passes other _ is (returns-clause-kept c)
