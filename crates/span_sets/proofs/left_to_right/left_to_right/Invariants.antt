@@ -1,0 +1,5 @@
+use Rattle.span_sets.proofs.Sweeps.{IsSwept}
+use Rattle.span_sets.proofs.left_to_right.left_to_right.Given as goal
+
+abbrev pub invariant-loop-i : goal.invariant-loop-i
+invariant-loop-i l = IsSwept l.sorted l.answers.items l.i l.farthest l.last
