@@ -1,0 +1,2 @@
+-- names in trees with lists
+pub mod NamesViews

@@ -1,0 +1,12 @@
+-- names
+pub mod Names
+pub mod Faults
+-- the graph of views
+pub mod Graphs
+pub mod Uses
+-- what `resolve` answers
+pub mod Answers
+-- how the code keeps names and walks
+pub mod Mentions
+pub mod Indexes
+pub mod Search

@@ -1,0 +1,6 @@
+#![tactic(auto)]
+
+mod fault;
+mod names;
+
+pub use fault::NameFault;
