@@ -1,2 +1,11 @@
+-- lists
+pub mod Splits
 -- names in trees with lists
 pub mod NamesViews
+-- what statements define, one after another
+pub mod Defining
+pub mod Refusing
+-- what is looked up, one name after another
+pub mod LookingUp
+-- outputs, one after another
+pub mod Outputting

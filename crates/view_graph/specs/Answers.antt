@@ -1,9 +1,11 @@
 -- What `resolve` answers: a graph without a fault, or the first fault of the program.
-use Rattle.std.specs.Prelude.{◌≡◌, ℕ, ◌+◌, List, map}
+use Rattle.std.specs.Prelude.{◌≡◌, ℕ, ◌+◌, List, map, ⊤}
 use Rattle.std.specs.List.{AllZip}
 use Rattle.aql_syntax.specs.Trees.{Statement}
 use Rattle.view_graph.specs.declared.fault.NameFault.{NameFault}
 use Rattle.view_graph.specs.declared.fault.NameFault.TheVariants.{DuplicateName, UnknownView, UnknownDictionary, DuplicateOutput, Cycle}
+use Rattle.span_token.specs.declared.refusal.Failure.{Failure}
+use Rattle.span_token.specs.declared.refusal.Failure.TheVariants.{OutOfMemory, Fault}
 use Rattle.view_graph.specs.Names.{view_named, dictionary_named, names_defined, outputs_of, AllDiffer, LooksUpDefined}
 use Rattle.view_graph.specs.Faults.{DefinesAgain, LooksUpUndefined, NamesOutputAgain}
 use Rattle.view_graph.specs.Graphs.{IsClosed, IsCycle, IsByRank}
@@ -24,6 +26,11 @@ pub record NamesCycle (program : List Statement) (views : List (List ℕ)) : Typ
   pub places : List ℕ
   pub cycle : IsCycle (Uses program) places
   pub named : AllZip (CreatesView program) places views
+
+-- it holds of the fault, where it isn't want of memory
+abbrev pub IfFault : (NameFault → Type 0) → Failure NameFault → Type 0
+IfFault P OutOfMemory = ⊤
+IfFault P (Fault fault) = P fault
 
 -- the fault is the program's first: of names defined, then of names looked up, then of outputs, then a cycle
 abbrev pub IsFault : List Statement → NameFault → Type 0

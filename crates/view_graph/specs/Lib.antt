@@ -9,4 +9,6 @@ pub mod Answers
 -- how the code keeps names and walks
 pub mod Mentions
 pub mod Indexes
+pub mod Lookups
+pub mod Outputs
 pub mod Search

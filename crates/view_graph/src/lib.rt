@@ -1,6 +1,9 @@
 #![tactic(auto)]
 
 mod fault;
+mod index;
 mod names;
+mod outputs;
+mod uses;
 
 pub use fault::NameFault;
