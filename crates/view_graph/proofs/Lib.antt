@@ -9,3 +9,5 @@ pub mod Refusing
 pub mod LookingUp
 -- outputs, one after another
 pub mod Outputting
+-- the walk
+pub mod Walking

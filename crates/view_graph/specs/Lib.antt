@@ -12,3 +12,5 @@ pub mod Indexes
 pub mod Lookups
 pub mod Outputs
 pub mod Search
+pub mod Walks
+pub mod Circles

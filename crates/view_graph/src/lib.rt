@@ -4,6 +4,7 @@ mod fault;
 mod index;
 mod names;
 mod outputs;
+mod search;
 mod uses;
 
 pub use fault::NameFault;

@@ -19,7 +19,7 @@ loop-place-preserved c =
 
 pub returns-in_err-note-clause-fault : goal.returns-in_err-note-clause-fault
 returns-in_err-note-clause-fault c =
-    let p = err_from_is_err_and c.from_residual-in_err-note.result c.from_residual-in_err-note.ensures.1 in
+    let p = err_from_is_err_and c.from_residual.result c.from_residual.ensures.1 in
     let x = c.index-statements-place in
     let before = map statement_of (take c.loop-place.place c.args.statements.now) in
     let after = map statement_of (drop (c.loop-place.place + 1) c.args.statements.now) in

@@ -1,0 +1,9 @@
+-- A circle begun elsewhere.
+use Rattle.std.specs.Prelude.{◌≡◌, ℕ, ◌<◌, ◌≤◌, List, ◌++◌, take, drop, length, slice_index, All}
+
+-- the circle is turned so that its least place stands first
+pub record IsBegunAtLeast (places turned : List ℕ) : Type 0 where
+  pub at : ℕ
+  pub within : at < length places
+  pub turn : turned ≡ drop at places ++ take at places
+  pub least : All (λ place. slice_index places at ≤ place) places
