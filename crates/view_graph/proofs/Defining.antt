@@ -39,7 +39,7 @@ names_defined-one before s named one = names_defined-push before s ∙ ap (λ mo
 
 module _ (before : List Statement) (s : Statement) where
   -- only a statement of the program creates a view
-  creates_within : (place : ℕ) (name : List ℕ) → CreatesView before place name → (place < length before) ⊎ (length before ≤ place) → place < length before
+  pub creates_within : (place : ℕ) (name : List ℕ) → CreatesView before place name → (place < length before) ⊎ (length before ≤ place) → place < length before
   creates_within place name creates (inl below) = below
   creates_within place name creates (inr past) = absurd (nothing (sym (ap defined_by (get_or_past before place require past)) ∙ creates))
     where

@@ -11,3 +11,9 @@ pub mod LookingUp
 pub mod Outputting
 -- the walk
 pub mod Walking
+-- the order, and the circle that is turned
+pub mod Ranking
+pub mod Turning
+-- the relation of the program, and the answers
+pub mod Relations
+pub mod Resolving

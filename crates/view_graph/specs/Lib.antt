@@ -14,3 +14,4 @@ pub mod Outputs
 pub mod Search
 pub mod Walks
 pub mod Circles
+pub mod Orders
