@@ -1,0 +1,19 @@
+-- lists
+pub mod Splits
+-- names in trees with lists
+pub mod NamesViews
+-- what statements define, one after another
+pub mod Defining
+pub mod Refusing
+-- what is looked up, one name after another
+pub mod LookingUp
+-- outputs, one after another
+pub mod Outputting
+-- the walk
+pub mod Walking
+-- the order, and the circle that is turned
+pub mod Ranking
+pub mod Turning
+-- the relation of the program, and the answers
+pub mod Relations
+pub mod Resolving

@@ -1,0 +1,60 @@
+-- From the walk to what `resolve` answers.
+use Rattle.std.proofs.Common.{◌≡◌, ◌∙◌, ◌+◌, ◌-◌, ◌<◌, ℕ, zero, suc, List, length, get_or, map, All, ap, sym, subst, arith}
+use Rattle.std.specs.List.{AllZip}
+use Rattle.std.proofs.lemmas.List.{get_or_default}
+use Rattle.aql_syntax.specs.Trees.{Statement, require}
+use Rattle.view_graph.specs.declared.search.Mark.{Mark}
+use Rattle.view_graph.specs.declared.fault.NameFault.{NameFault}
+use Rattle.view_graph.specs.declared.fault.NameFault.TheVariants.{DuplicateOutput, Cycle}
+use Rattle.view_graph.specs.Names.{AllDiffer, outputs_of}
+use Rattle.view_graph.specs.Graphs.{IsClosed, IsCycle, IsByRank}
+use Rattle.view_graph.specs.Uses.{Uses, CreatesView, views_of}
+use Rattle.view_graph.specs.Answers.{HasNames, HasOutputs, IsResolved, IsFault}
+use Rattle.view_graph.specs.Outputs.{IsOutputAgain}
+use Rattle.view_graph.specs.Search.{Edge, IsDone}
+use Rattle.view_graph.specs.Lookups.{IsUseGraph}
+use Rattle.view_graph.specs.Orders.{IsNumbering}
+use Rattle.view_graph.specs.Circles.{IsBegunAtLeast, AreViews}
+use Rattle.view_graph.proofs.Ranking.{numbered_by_rank}
+use Rattle.view_graph.proofs.Turning.{IsCycle-turned}
+use Rattle.view_graph.proofs.Relations.{cycle_along, by_rank_along, edge_uses, uses_edge, no_circle_done}
+
+-- the views of a circle are created by statements
+are_used : (program : List Statement) (views : List ℕ) → IsClosed (Uses program) views → AreViews program views
+are_used program views circle k d below = by k below
+  where
+    at : (k : ℕ) → k < length views → (name : List ℕ) × CreatesView program (get_or views k 0) name → (name : List ℕ) × CreatesView program (get_or views k d) name
+    at k below h = subst (λ (p : ℕ). (name : List ℕ) × CreatesView program p name) (get_or_default views k 0 d below) h
+    by : (k : ℕ) → k < length views → (name : List ℕ) × CreatesView program (get_or views k d) name
+    by zero below = at zero below (circle.last_uses_first.name, circle.last_uses_first.view)
+    by (suc k) below =
+        let h = circle.each_uses_next k 0 (omega (arith, below)) in
+        at (suc k) below (h.name, subst (λ (i : ℕ). CreatesView program (get_or views i 0) h.name) (omega arith) h.view)
+
+module _ (program : List Statement) (uses : List (List ℕ)) (graph : IsUseGraph program (length program) uses) (outputs : HasOutputs program) where
+  -- all views have ranks
+  pub resolved : (marks : List Mark) (order : List ℕ) → IsDone uses marks → IsNumbering program marks order → IsResolved program order
+  resolved marks order all numbering =
+      let h = numbered_by_rank program uses marks all graph.length_is order numbering in
+      record {
+        outputs = outputs;
+        no_cycle = no_circle_done program uses graph marks all;
+        places = h.0;
+        by_rank = by_rank_along (Edge uses) (Uses program) (edge_uses program uses graph) (uses_edge program uses graph) (views_of program) h.0 h.1;
+        numbers = h.2;
+      }
+
+  module _ (places cycle : List ℕ) (circle : IsClosed (Edge uses) places) (distinct : AllDiffer places) (begun : IsBegunAtLeast places cycle) where
+    turned : IsCycle (Uses program) cycle
+    turned = cycle_along (Edge uses) (Uses program) (edge_uses program uses graph) cycle (IsCycle-turned (Edge uses) places cycle circle distinct begun)
+
+    pub are_views : AreViews program cycle
+    are_views = are_used program cycle turned.closed
+
+    -- a circle is the fault
+    pub cycle_fault : (views : List (List ℕ)) → AllZip (CreatesView program) cycle views → IsFault program (Cycle views)
+    cycle_fault views named = (outputs, record { places = cycle; cycle = turned; named = named })
+
+-- an output's name that stands twice is the fault
+pub output_fault : (program : List Statement) → HasNames program → (fault : NameFault) → IsOutputAgain program fault → IsFault program fault
+output_fault program names fault again = subst (λ (f : NameFault). IsFault program f) (sym again.is) (names, again.again)

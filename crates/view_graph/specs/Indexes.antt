@@ -1,0 +1,45 @@
+-- What the code's maps keep of the names that some statements define.
+use Rattle.std.specs.Prelude.{◌≡◌, ℕ, ◌+◌, Bool, true, false, if◌then◌else◌, List, [], ◌∷◌, ◌++◌, length, Option, Some, None, IsSome, Contains}
+use Rattle.std.specs.Str.{bytes_eq}
+use Rattle.std.specs.Map.{update}
+use Rattle.std.specs.HashMap.{HashMap, get_by}
+use Rattle.std.specs.HashSet.{HashSet, contains_by}
+use denote.Ref.{Bor}
+use Rattle.aql_syntax.specs.Trees.{Statement}
+use Rattle.view_graph.specs.Names.{view_named, dictionary_named, names_defined, AllDiffer}
+use Rattle.view_graph.specs.Uses.{CreatesView}
+
+-- what a map has at a name
+abbrev pub entry_of : {X S : Type 0} → HashMap (Bor (List ℕ)) X S → List ℕ → Option X
+entry_of names name = get_by (λ k. bytes_eq name k.now) names
+
+-- whether a set has a name
+abbrev pub has : {S : Type 0} → HashSet (Bor (List ℕ)) S → List ℕ → Bool
+has names name = contains_by (λ k. bytes_eq name k.now) names
+
+-- where the name wasn't there, it has the value, and the others are as they were
+abbrev pub Adds : {X : Type 0} → (List ℕ → Option X) → (List ℕ → Option X) → List ℕ → X → Bool → Type 0
+Adds old new name value true = (old name ≡ None) × ((q : List ℕ) → new q ≡ update bytes_eq old name (Some value) q)
+Adds old new name value false = IsSome (old name)
+
+abbrev pub AddsText : (List ℕ → Bool) → (List ℕ → Bool) → List ℕ → Bool → Type 0
+AddsText old new name true = (old name ≡ false) × ((q : List ℕ) → new q ≡ (if bytes_eq name q then true else old q))
+AddsText old new name false = old name ≡ true
+
+-- each view has the place of its statement, and `Document` none
+pub record IndexesViews (before : List Statement) (entry : List ℕ → Option (Option ℕ)) : Type 0 where
+  pub there : (place : ℕ) (name : List ℕ) → CreatesView before place name → entry name ≡ Some (Some place)
+  pub only : (place : ℕ) (name : List ℕ) → entry name ≡ Some (Some place) → CreatesView before place name
+  pub known : (name : List ℕ) → IsSome (entry name) → Contains (names_defined before) (view_named name)
+  pub unknown : (name : List ℕ) → entry name ≡ None → ¬ (Contains (names_defined before) (view_named name))
+
+-- each dictionary is there
+pub record IndexesDictionaries (before : List Statement) (there : List ℕ → Bool) : Type 0 where
+  pub known : (name : List ℕ) → there name ≡ true → Contains (names_defined before) (dictionary_named name)
+  pub unknown : (name : List ℕ) → there name ≡ false → ¬ (Contains (names_defined before) (dictionary_named name))
+
+-- both, and no name is defined twice
+pub record IndexesNames (before : List Statement) (entry : List ℕ → Option (Option ℕ)) (there : List ℕ → Bool) : Type 0 where
+  pub views : IndexesViews before entry
+  pub dictionaries : IndexesDictionaries before there
+  pub distinct : AllDiffer (names_defined before)

@@ -1,0 +1,17 @@
+-- names
+pub mod Names
+pub mod Faults
+-- the graph of views
+pub mod Graphs
+pub mod Uses
+-- what `resolve` answers
+pub mod Answers
+-- how the code keeps names and walks
+pub mod Mentions
+pub mod Indexes
+pub mod Lookups
+pub mod Outputs
+pub mod Search
+pub mod Walks
+pub mod Circles
+pub mod Orders

@@ -1,0 +1,28 @@
+-- Which view uses which. A place is a statement's index in the program, from 0: its number less one.
+use Rattle.std.specs.Prelude.{◌≡◌, ℕ, suc, List, [], ◌∷◌, slice_index_or, Contains}
+use Rattle.aql_syntax.specs.Trees.{Statement, create, require}
+use Rattle.view_graph.specs.Names.{view_named, defined_by, names_used_by}
+
+-- the statement at a place; past the end `require`, which defines and uses nothing
+abbrev pub statement_at : List Statement → ℕ → Statement
+statement_at program place = slice_index_or program place require
+
+-- the statement at this place creates the view with this name
+abbrev pub CreatesView : List Statement → ℕ → List ℕ → Type 0
+CreatesView program place name = defined_by (statement_at program place) ≡ view_named name ∷ []
+
+-- a source of the query of the view at `user`, or of a query nested in it, names the view at `used`
+pub record Uses (program : List Statement) (user used : ℕ) : Type 0 where
+  pub name : List ℕ
+  pub source : Contains (names_used_by (statement_at program user)) (view_named name)
+  pub view : CreatesView program used name
+
+-- the places, from `place` on, of the statements that create a view
+abbrev pub views_from : ℕ → List Statement → List ℕ
+views_from place [] = []
+views_from place (create name query ∷ statements) = place ∷ views_from (suc place) statements
+views_from place (statement ∷ statements) = views_from (suc place) statements
+
+-- the places of the views of a program
+abbrev pub views_of : List Statement → List ℕ
+views_of program = views_from 0 program

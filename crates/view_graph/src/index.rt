@@ -1,0 +1,126 @@
+//! The names that a program defines, each defined once.
+
+ghost use Rattle.std.specs.Prelude.{◌≡◌, ℕ, ◌+◌, List, ◌∷◌, [], ◌++◌, ◌^◌, ◌<◌, codes, None, Some, map, length, IfOk, OnOk, IfErr};
+ghost use Rattle.std.specs.Str.{bytes_eq};
+ghost use Rattle.std.specs.Map.{update};
+ghost use Rattle.aql_syntax.specs.Views.{statement_of};
+ghost use Rattle.aql_syntax.specs.Trees as tree;
+ghost use Rattle.view_graph.specs.Answers.{IfFault, IsFault};
+ghost use Rattle.view_graph.specs.Indexes.{entry_of, has, Adds, AddsText, IndexesNames};
+
+use crate::NameFault;
+use aql_syntax::Statement;
+use indexmap::{IndexMap, IndexSet};
+use span_token::{Failure, OutOfMemory, OwnedText};
+use std::alloc::Global;
+
+/// The names that some statements define. A view has the place of its statement, from 0, and
+/// `Document`, which is there from the start, has none.
+#[derive(Drop)]
+pub(crate) struct Names<'a> {
+    pub(crate) views: IndexMap<&'a str, Option<u32>>,
+    pub(crate) dictionaries: IndexSet<&'a str>,
+}
+
+/// A map with `Document` alone.
+fn views_at_first<'a>(alloc: Global) -> Result<IndexMap<&'a str, Option<u32>>, OutOfMemory>
+    ensures { IfOk result (λ views. (q : _) → entry_of views q ≡ update bytes_eq (λ _. None) (codes "Document") (Some None) q) }
+{
+    let mut views = IndexMap::new(alloc);
+    views.insert("Document", None)?;
+    Ok(views)
+}
+
+/// Adds a view; false where the name is there.
+fn add_view<'a>(
+    views: &mut IndexMap<&'a str, Option<u32>>,
+    name: &'a str,
+    place: u32,
+) -> Result<bool, OutOfMemory>
+    ensures { IfOk result (Adds (entry_of views.old) (entry_of views.new) name.now (Some place)) }
+{
+    match views.insert(name, Some(place))? {
+        None => Ok(true),
+        Some(_) => Ok(false),
+    }
+}
+
+/// Adds a name; false where it is there.
+pub(crate) fn add_name<'a>(
+    names: &mut IndexSet<&'a str>,
+    name: &'a str,
+) -> Result<bool, OutOfMemory>
+    ensures { IfOk result (AddsText (has names.old) (has names.new) name.now) }
+{
+    Ok(names.insert(name)?)
+}
+
+/// The fault of the statement with this number, which defines the name again.
+fn defined_again(alloc: Global, statement: u32, name: &str) -> Result<NameFault, OutOfMemory>
+    ensures { IfOk result (λ fault. fault ≡ NameFault.DuplicateName statement name.now) }
+{
+    let name = OwnedText::copied(alloc, name)?;
+    Ok(NameFault::DuplicateName { statement, name })
+}
+
+impl<'a> Names<'a> {
+    /// The names before the first statement: `Document` alone.
+    fn at_first(alloc: Global) -> Result<Names<'a>, OutOfMemory>
+        ensures { IfOk result (λ names. IndexesNames [] (entry_of names.views) (has names.dictionaries)) }
+    {
+        let views = views_at_first(alloc)?;
+        let dictionaries = IndexSet::new(alloc);
+        Ok(Names {
+            views,
+            dictionaries,
+        })
+    }
+
+    /// Adds what the statement at this place defines, or refuses a name that is there.
+    fn define(
+        &mut self,
+        alloc: Global,
+        place: u32,
+        statement: &'a Statement,
+    ) -> Result<(), Failure<NameFault>>
+        requires { place + 1 < 2 ^ 32 }
+        ensures ok { (before : List tree.Statement) → length before ≡ place → IndexesNames before (entry_of self.old.views) (has self.old.dictionaries) → OnOk result (IndexesNames (before ++ statement_of statement.now ∷ []) (entry_of self.new.views) (has self.new.dictionaries)) }
+        ensures fault { (before after : List tree.Statement) → length before ≡ place → IndexesNames before (entry_of self.old.views) (has self.old.dictionaries) → IfErr result (IfFault (IsFault (before ++ statement_of statement.now ∷ after))) }
+    {
+        match statement {
+            Statement::View { name, .. } => {
+                let text = name.text.as_str();
+                if add_view(&mut self.views, text, place)? {
+                    Ok(())
+                } else {
+                    Err(Failure::Fault(defined_again(alloc, place + 1, text)?))
+                }
+            }
+            Statement::Dictionary { name, .. } => {
+                let text = name.text.as_str();
+                if add_name(&mut self.dictionaries, text)? {
+                    Ok(())
+                } else {
+                    Err(Failure::Fault(defined_again(alloc, place + 1, text)?))
+                }
+            }
+            _ => Ok(()),
+        }
+    }
+}
+
+/// The names that the statements define, or the first that is defined again.
+pub(crate) fn define<'a>(
+    alloc: Global,
+    statements: &'a [Statement],
+) -> Result<Names<'a>, Failure<NameFault>>
+    requires { length statements.now < 2 ^ 32 }
+    ensures ok { IfOk result (λ names. IndexesNames (map statement_of statements.now) (entry_of names.views) (has names.dictionaries)) }
+    ensures fault { IfErr result (IfFault (IsFault (map statement_of statements.now))) }
+{
+    let mut names = Names::at_first(alloc)?;
+    for (place, statement) in statements.iter().enumerate() {
+        names.define(alloc, place as u32, statement)?;
+    }
+    Ok(names)
+}
