@@ -8,6 +8,8 @@
 #![tactic(auto)]
 
 mod bench;
+mod consolidations;
+mod dictionaries;
 mod lexing;
 mod patterns;
 mod rows;
@@ -16,9 +18,13 @@ mod tokens;
 use anyhow::{Context, Result, bail};
 use aql_regex_extract::{Searcher, WholeSearcher, compile_pattern};
 use bench::{Mode, run};
+use consolidations::{SpanRows, Work, nested};
+use dict_match::DictScratch;
+use dictionaries::{Dictionary, entries, pass_of};
 use lexing::Lexing;
 use patterns::{Matches, Runs};
 use rows::{Order, RowPairs, pairs};
+use span_sets::Policy;
 use span_token::tokens_of_text;
 use std::io::Eprint;
 use std::rt::{Clock, Files};
@@ -36,12 +42,16 @@ enum Kind {
     TokenRuns(&'static str),
     /// Rows of two spans, made in an order, sorted and walked.
     Rows(Order),
+    /// A dictionary of so many entries, over documents with their tokens.
+    Dictionary(usize),
+    /// Rows of one span that nest and overlap, made and worked on.
+    SpanRows(Work),
     /// The tokens of a program text.
     ProgramTokens,
 }
 
 /// The benches with their names.
-const BENCHES: [(&str, Kind); 15] = [
+const BENCHES: [(&str, Kind); 24] = [
     ("tokens", Kind::Tokens),
     ("digits", Kind::Pattern("[0-9]+")),
     ("dates", Kind::Pattern(r"\b\d{4}-\d{2}-\d{2}\b")),
@@ -67,6 +77,30 @@ const BENCHES: [(&str, Kind); 15] = [
     ("rows-rising", Kind::Rows(Order::Rising)),
     ("rows-falling", Kind::Rows(Order::Falling)),
     ("rows-mixed", Kind::Rows(Order::Mixed)),
+    ("dictionary-10", Kind::Dictionary(10)),
+    ("dictionary-10000", Kind::Dictionary(10_000)),
+    ("spans-made", Kind::SpanRows(Work::Nothing)),
+    ("spans-sorted", Kind::SpanRows(Work::Sort)),
+    (
+        "contained-within",
+        Kind::SpanRows(Work::Consolidate(Policy::ContainedWithin)),
+    ),
+    (
+        "not-contained-within",
+        Kind::SpanRows(Work::Consolidate(Policy::NotContainedWithin)),
+    ),
+    (
+        "contains-but-not-equal",
+        Kind::SpanRows(Work::Consolidate(Policy::ContainsButNotEqual)),
+    ),
+    (
+        "exact-match",
+        Kind::SpanRows(Work::Consolidate(Policy::ExactMatch)),
+    ),
+    (
+        "left-to-right",
+        Kind::SpanRows(Work::Consolidate(Policy::LeftToRight)),
+    ),
     ("program-tokens", Kind::ProgramTokens),
 ];
 
@@ -90,6 +124,8 @@ fn run_kind<R: Eprint + Print + Clock + AllocGlobal>(
         Kind::Pattern(pattern) => run_matches(rt, mode, name, pattern, text),
         Kind::TokenRuns(pattern) => run_runs(rt, mode, name, pattern, text),
         Kind::Rows(order) => run_rows(rt, mode, name, order, text),
+        Kind::Dictionary(number) => run_dictionary(rt, mode, name, number, text),
+        Kind::SpanRows(work) => run_span_rows(rt, mode, name, work, text),
         Kind::ProgramTokens => run(rt, mode, name, &mut Lexing { alloc, text }),
     }
 }
@@ -158,6 +194,46 @@ fn run_rows<R: Eprint + Print + Clock + AllocGlobal>(
     let spans = tokens_of_text(alloc, text)?;
     let pairs = pairs(alloc, spans.as_slice(), order)?;
     run(rt, mode, name, &mut RowPairs { alloc, pairs })
+}
+
+fn run_dictionary<R: Eprint + Print + Clock + AllocGlobal>(
+    rt: &R,
+    mode: Mode,
+    name: &str,
+    number: usize,
+    text: &str,
+) -> Result<()> {
+    let alloc = rt.alloc();
+    let docs = documents(alloc, text)?;
+    let Some(pass) = pass_of(alloc, entries(alloc, docs.as_slice(), number)?)? else {
+        bail!("{name}: an entry is too long");
+    };
+    let scratch = DictScratch::new(alloc);
+    let found = Vec::new(alloc);
+    let mut bench = Dictionary {
+        alloc,
+        text,
+        pass,
+        scratch,
+        found,
+    };
+    run(rt, mode, name, &mut bench)
+}
+
+fn run_span_rows<R: Eprint + Print + Clock + AllocGlobal>(
+    rt: &R,
+    mode: Mode,
+    name: &str,
+    work: Work,
+    text: &str,
+) -> Result<()> {
+    let alloc = rt.alloc();
+    if text.len() > tokens::LIMIT {
+        bail!("{name}: the file is too long");
+    }
+    let tokens = tokens_of_text(alloc, text)?;
+    let spans = nested(alloc, tokens.as_slice())?;
+    run(rt, mode, name, &mut SpanRows { alloc, spans, work })
 }
 
 /// Each bench once over the short text.
