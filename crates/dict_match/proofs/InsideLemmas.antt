@@ -13,8 +13,8 @@ use Rattle.span_token.specs.Tokens.{tokens_of}
 use Rattle.span_token.specs.declared.span.Span.{Span}
 use Rattle.dict_match.specs.declared.dict_use.DictUse.{DictUse}
 use Rattle.dict_match.specs.declared.walk.DictMatch.{DictMatch}
-use Rattle.dict_match.specs.Dictionaries.{tokens_in, nth_token, IsMatch, AreDictRows}
-use Rattle.dict_match.specs.Rows.{said, extents_for, extents_of_rows, AreRowsOfEach, IsInside}
+use Rattle.dict_match.specs.Dictionaries.{tokens_in, nth_token, IsMatch, AreMatches}
+use Rattle.dict_match.specs.Rows.{dict_and_extent, extents_for, extents_of_rows, AreRowsOfEach, IsInside}
 
 token-inside : (d : Doc) (source : Extent) (i : ℕ) → i < length (tokens_in d source) →
     (source.begin ≤ (nth_token (tokens_in d source) i).begin) × ((nth_token (tokens_in d source) i).end ≤ source.end)
@@ -32,34 +32,34 @@ match-inside dict d source e m =
     (omega (arith, one.0, ap (λ (x : Extent). x.begin) m.extent_is), omega (arith, two.1, ap (λ (x : Extent). x.end) m.extent_is))
 
 -- the extents of one dictionary
-pub rows-inside : (dict : DictUse) (d : Doc) (source : Extent) (extents : List Extent) → AreDictRows dict d source extents → All (IsInside source) extents
+pub rows-inside : (dict : DictUse) (d : Doc) (source : Extent) (extents : List Extent) → AreMatches dict d source extents → All (IsInside source) extents
 rows-inside dict d source extents are k x lt = match-inside dict d source (get_or extents k x) ((are.exactly (get_or extents k x)).0 (Contains-get_or extents k x lt))
 
 -- a match is among the extents of its dictionary
-said-listed : (ms : List DictMatch) (k : ℕ) (m : DictMatch) → k < length ms → get_or ms k m ≡ m → Contains (extents_for m.dict (map said ms)) (extent_of m.span)
-said-listed [] k m lt is = absurd (omega arith)
-said-listed (x ∷ ms) zero m lt is =
+pair-listed : (ms : List DictMatch) (k : ℕ) (m : DictMatch) → k < length ms → get_or ms k m ≡ m → Contains (extents_for m.dict (map dict_and_extent ms)) (extent_of m.span)
+pair-listed [] k m lt is = absurd (omega arith)
+pair-listed (x ∷ ms) zero m lt is =
     let here : x.dict == m.dict ≡ true = eq-eqb x.dict m.dict (ap (λ (y : DictMatch). y.dict) is) in
-    subst (λ (es : List Extent). Contains es (extent_of m.span)) (sym (ap (λ (b : Bool). map (λ (p : ℕ × Extent). p.1) (cond b (said x ∷ filter (λ p. p.0 == m.dict) (map said ms)) (filter (λ p. p.0 == m.dict) (map said ms)))) here))
+    subst (λ (es : List Extent). Contains es (extent_of m.span)) (sym (ap (λ (b : Bool). map (λ (p : ℕ × Extent). p.1) (cond b (dict_and_extent x ∷ filter (λ p. p.0 == m.dict) (map dict_and_extent ms)) (filter (λ p. p.0 == m.dict) (map dict_and_extent ms)))) here))
     (0, suc-le-suc zero-le, ap (λ (y : DictMatch). extent_of y.span) is)
-said-listed (x ∷ ms) (suc k) m lt is = later (x.dict == m.dict) (said-listed ms k m (le_of_suc-le-suc lt) is) where
-  later : (b : Bool) → Contains (extents_for m.dict (map said ms)) (extent_of m.span) →
-      Contains (map (λ (p : ℕ × Extent). p.1) (cond b (said x ∷ filter (λ p. p.0 == m.dict) (map said ms)) (filter (λ p. p.0 == m.dict) (map said ms)))) (extent_of m.span)
-  later true c = Contains-append_right (extent_of x.span ∷ []) (extents_for m.dict (map said ms)) (extent_of m.span) c
+pair-listed (x ∷ ms) (suc k) m lt is = later (x.dict == m.dict) (pair-listed ms k m (le_of_suc-le-suc lt) is) where
+  later : (b : Bool) → Contains (extents_for m.dict (map dict_and_extent ms)) (extent_of m.span) →
+      Contains (map (λ (p : ℕ × Extent). p.1) (cond b (dict_and_extent x ∷ filter (λ p. p.0 == m.dict) (map dict_and_extent ms)) (filter (λ p. p.0 == m.dict) (map dict_and_extent ms)))) (extent_of m.span)
+  later true c = Contains-append_right (extent_of x.span ∷ []) (extents_for m.dict (map dict_and_extent ms)) (extent_of m.span) c
   later false c = c
 
 pub found-inside : (dicts : List DictUse) (d : Doc) (source : Extent) (ms : List DictMatch) → All (λ m. m.dict < length dicts) ms →
-    ((i : ℕ) (dict : DictUse) → slice_get dicts i ≡ Some dict → AreDictRows dict d source (extents_for i (map said ms))) → All (λ m. IsInside source (extent_of m.span)) ms
+    ((i : ℕ) (dict : DictUse) → slice_get dicts i ≡ Some dict → AreMatches dict d source (extents_for i (map dict_and_extent ms))) → All (λ m. IsInside source (extent_of m.span)) ms
 found-inside dicts d source ms places rows k x lt =
     let m : DictMatch = get_or ms k x in
     let dict : DictUse = get_or dicts m.dict (record { entries = []; exact = true }) in
     let at : slice_get dicts m.dict ≡ Some dict = slice_get-get_or dicts m.dict (record { entries = []; exact = true }) (places k x lt) in
-    let listed = said-listed ms k m lt (get_or_default ms k m x lt) in
+    let listed = pair-listed ms k m lt (get_or_default ms k m x lt) in
     match-inside dict d source (extent_of m.span) (((rows m.dict dict at).exactly (extent_of m.span)).0 listed)
 
 -- the same after a call that may have lacked memory
 pub found-inside-ok : {E : Type 0} (r : Result (Unit {0}) E) (dicts : List DictUse) (d : Doc) (source : Extent) (ms : List DictMatch) → OnOk r (All (λ m. m.dict < length dicts) ms) →
-    ((i : ℕ) (dict : DictUse) → slice_get dicts i ≡ Some dict → OnOk r (AreDictRows dict d source (extents_for i (map said ms)))) → OnOk r (All (λ m. IsInside source (extent_of m.span)) ms)
+    ((i : ℕ) (dict : DictUse) → slice_get dicts i ≡ Some dict → OnOk r (AreMatches dict d source (extents_for i (map dict_and_extent ms)))) → OnOk r (All (λ m. IsInside source (extent_of m.span)) ms)
 found-inside-ok (Ok u) dicts d source ms places rows = found-inside dicts d source ms places rows
 found-inside-ok (Err e) dicts d source ms places rows = tt
 
@@ -71,5 +71,5 @@ each-inside {A} dicts d source rows are i row lt k s low =
     let dict : DictUse = get_or dicts i (record { entries = []; exact = true }) in
     let at : slice_get dicts i ≡ Some dict = slice_get-get_or dicts i (record { entries = []; exact = true }) within in
     let here : get_or (extents_of_rows rows) i [] ≡ extents (get_or rows i row) = get_or-map extents rows i row [] lt in
-    let all = rows-inside dict d source (extents (get_or rows i row)) (subst (AreDictRows dict d source) here (are.each i dict at)) in
+    let all = rows-inside dict d source (extents (get_or rows i row)) (subst (AreMatches dict d source) here (are.each i dict at)) in
     subst (IsInside source) (get_or-map extent_of (get_or rows i row).items k s (extent_of s) low) (all k (extent_of s) (omega (arith, low, length-map (get_or rows i row).items extent_of)))

@@ -8,7 +8,7 @@ use Rattle.std.proofs.lemmas.List.Elements.{Contains-append_left, Contains-push,
 use Rattle.span_token.specs.Extents.{Extent, extent_of}
 use Rattle.dict_match.specs.declared.trie.End.{End}
 use Rattle.dict_match.specs.declared.walk.DictMatch.{DictMatch}
-use Rattle.dict_match.specs.Rows.{said, extents_for}
+use Rattle.dict_match.specs.Rows.{dict_and_extent, extents_for}
 use Rattle.dict_match.specs.Walks.{IsSpelled, HasEndFor, HasOneEach, PutsWhere}
 
 abbrev Pair : Type 0
@@ -24,24 +24,24 @@ extents-push i ms m =
     ∙ map-append (λ (p : Pair). p.1) (filter (λ (p : Pair). p.0 == i) ms) (filter (λ (p : Pair). p.0 == i) (m ∷ []))
     ∙ ap (λ (es : List Extent). extents_for i ms ++ es) (extents-one (m.0 == i) m)
 
-said-push : (ms : List DictMatch) (m : DictMatch) → map said (ms ++ m ∷ []) ≡ map said ms ++ said m ∷ []
-said-push ms m = map-append said ms (m ∷ [])
+pairs-push : (ms : List DictMatch) (m : DictMatch) → map dict_and_extent (ms ++ m ∷ []) ≡ map dict_and_extent ms ++ dict_and_extent m ∷ []
+pairs-push ms m = map-append dict_and_extent ms (m ∷ [])
 
 -- a match of that dictionary, or of another
-pub extents-same : (i : ℕ) (ms new : List DictMatch) (m : DictMatch) → new ≡ ms ++ m ∷ [] → m.dict ≡ i → extents_for i (map said new) ≡ extents_for i (map said ms) ++ extent_of m.span ∷ []
+pub extents-same : (i : ℕ) (ms new : List DictMatch) (m : DictMatch) → new ≡ ms ++ m ∷ [] → m.dict ≡ i → extents_for i (map dict_and_extent new) ≡ extents_for i (map dict_and_extent ms) ++ extent_of m.span ∷ []
 extents-same i ms new m pushed same =
-    ap (λ (l : List DictMatch). extents_for i (map said l)) pushed ∙ ap (extents_for i) (said-push ms m) ∙ extents-push i (map said ms) (said m)
+    ap (λ (l : List DictMatch). extents_for i (map dict_and_extent l)) pushed ∙ ap (extents_for i) (pairs-push ms m) ∙ extents-push i (map dict_and_extent ms) (dict_and_extent m)
     ∙ elim (eqb_tells m.dict i) [
-      | inl hit ↦ ap (λ (b : Bool). extents_for i (map said ms) ++ cond b (extent_of m.span ∷ []) []) hit.0
+      | inl hit ↦ ap (λ (b : Bool). extents_for i (map dict_and_extent ms) ++ cond b (extent_of m.span ∷ []) []) hit.0
       | inr miss ↦ absurd (miss.1 same)
     ]
 
-pub extents-other : (i : ℕ) (ms new : List DictMatch) (m : DictMatch) → new ≡ ms ++ m ∷ [] → (m.dict ≡ i → ⊥) → extents_for i (map said new) ≡ extents_for i (map said ms)
+pub extents-other : (i : ℕ) (ms new : List DictMatch) (m : DictMatch) → new ≡ ms ++ m ∷ [] → (m.dict ≡ i → ⊥) → extents_for i (map dict_and_extent new) ≡ extents_for i (map dict_and_extent ms)
 extents-other i ms new m pushed other =
-    ap (λ (l : List DictMatch). extents_for i (map said l)) pushed ∙ ap (extents_for i) (said-push ms m) ∙ extents-push i (map said ms) (said m)
+    ap (λ (l : List DictMatch). extents_for i (map dict_and_extent l)) pushed ∙ ap (extents_for i) (pairs-push ms m) ∙ extents-push i (map dict_and_extent ms) (dict_and_extent m)
     ∙ elim (eqb_tells m.dict i) [
       | inl hit ↦ absurd (other hit.1)
-      | inr miss ↦ ap (λ (b : Bool). extents_for i (map said ms) ++ cond b (extent_of m.span ∷ []) []) miss.0 ∙ append-nil (extents_for i (map said ms))
+      | inr miss ↦ ap (λ (b : Bool). extents_for i (map dict_and_extent ms) ++ cond b (extent_of m.span ∷ []) []) miss.0 ∙ append-nil (extents_for i (map dict_and_extent ms))
     ]
 
 -- ---- one more end
@@ -97,7 +97,7 @@ module _ (i : ℕ) (texts : List (List ℕ)) (ends : List End) (k : ℕ) (end : 
 
   -- it agrees
   pub puts-agreed : (ms new : List DictMatch) (m : DictMatch) → HasOneEach texts ends → IsSpelled texts end.spelled → new ≡ ms ++ m ∷ [] → m.dict ≡ end.dict → extent_of m.span ≡ run →
-      PutsWhere (HasEndFor i texts (take k ends)) run old (extents_for i (map said ms)) → PutsWhere (HasEndFor i texts (take (k + 1) ends)) run old (extents_for i (map said new))
+      PutsWhere (HasEndFor i texts (take k ends)) run old (extents_for i (map dict_and_extent ms)) → PutsWhere (HasEndFor i texts (take (k + 1) ends)) run old (extents_for i (map dict_and_extent new))
   puts-agreed ms new m each spelled pushed dict span puts = elim (cases_eq end.dict i) [
     | inl same ↦
         let more = extents-same i ms new m pushed (dict ∙ same) in

@@ -7,7 +7,7 @@ use Rattle.std.specs.declared.vec.Vec.{Vec}
 use Rattle.span_token.specs.Extents.{Extent, extent_of}
 use Rattle.span_token.specs.declared.span.Span.{Span}
 use Rattle.dict_match.specs.declared.walk.DictMatch.{DictMatch}
-use Rattle.dict_match.specs.Rows.{said, extents_for, extents_of_rows}
+use Rattle.dict_match.specs.Rows.{dict_and_extent, extents_for, extents_of_rows}
 use Rattle.dict_match.proofs.RowLemmas.{extents-same, extents-other}
 
 module _ {A : Type 0} where
@@ -25,8 +25,8 @@ module _ {A : Type 0} where
 
   pub rows-step : (before : List Extent) (now next : List (Vec Span A)) (found : List DictMatch) (idx : ℕ) (one : DictMatch) (row pushed : Vec Span A) (i : ℕ) →
       idx < length found → one ≡ get_or found idx one → one.dict < length now → row ≡ get_or now one.dict row → pushed.items ≡ row.items ++ one.span ∷ [] → next ≡ set now one.dict pushed → i < length now →
-      get_or (extents_of_rows now) i [] ≡ before ++ extents_for i (map said (take idx found)) →
-      get_or (extents_of_rows next) i [] ≡ before ++ extents_for i (map said (take (idx + 1) found))
+      get_or (extents_of_rows now) i [] ≡ before ++ extents_for i (map dict_and_extent (take idx found)) →
+      get_or (extents_of_rows next) i [] ≡ before ++ extents_for i (map dict_and_extent (take (idx + 1) found))
   rows-step before now next found idx one row pushed i lt is there row_is push next_is within was =
       let more : take (idx + 1) found ≡ take idx found ++ one ∷ [] = take_more found idx one lt ∙ ap (λ (m : DictMatch). take idx found ++ m ∷ []) (sym is) in
       ap (λ (rs : List (Vec Span A)). get_or (extents_of_rows rs) i []) next_is
@@ -36,7 +36,7 @@ module _ {A : Type 0} where
             ∙ row-same now one.dict pushed there
             ∙ ap (map extent_of) push ∙ map-append extent_of row.items (one.span ∷ [])
             ∙ ap (λ (es : List Extent). es ++ extent_of one.span ∷ []) (ap row_extents row_is ∙ sym (get_or-map row_extents now one.dict row [] there) ∙ ap (λ (n : ℕ). get_or (extents_of_rows now) n []) (sym same) ∙ was)
-            ∙ append_assoc before (extents_for i (map said (take idx found))) (extent_of one.span ∷ [])
+            ∙ append_assoc before (extents_for i (map dict_and_extent (take idx found))) (extent_of one.span ∷ [])
             ∙ ap (λ (es : List Extent). before ++ es) (sym (extents-same i (take idx found) (take (idx + 1) found) one more (sym same)))
         | inr other ↦
             row-other now one.dict i pushed within other ∙ was

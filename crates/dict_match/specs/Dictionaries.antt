@@ -66,5 +66,5 @@ pub record AreInOrder (P : Extent → Type 0) (extents : List Extent) : Type 0 w
   pub exactly : (e : Extent) → Contains extents e ↔ P e
 
 -- exactly the extents that a dictionary matches among the tokens wholly in a source
-abbrev pub AreDictRows : DictUse → Doc → Extent → List Extent → Type 0
-AreDictRows dict d source = AreInOrder (IsMatch dict d (tokens_in d source))
+abbrev pub AreMatches : DictUse → Doc → Extent → List Extent → Type 0
+AreMatches dict d source = AreInOrder (IsMatch dict d (tokens_in d source))

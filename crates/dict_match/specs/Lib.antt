@@ -1,12 +1,11 @@
--- what a dictionary matches
+-- what a dictionary matches, and several
 pub mod Dictionaries
--- matches of several dictionaries
 pub mod Rows
+-- not in any public clause: tokens in a row
+pub mod Sources
+pub mod SourceLayout
 -- the tree of all entries, and how a pass keeps it
 pub mod Tries
 pub mod Passes
--- tokens in a row
-pub mod Sources
-pub mod SourceLayout
 -- one step of a walk
 pub mod Walks

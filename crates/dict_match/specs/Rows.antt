@@ -7,11 +7,11 @@ use Rattle.std.specs.declared.vec.Vec.{Vec}
 use Rattle.span_token.specs.declared.span.Span.{Span}
 use Rattle.dict_match.specs.declared.dict_use.DictUse.{DictUse}
 use Rattle.dict_match.specs.declared.walk.DictMatch.{DictMatch}
-use Rattle.dict_match.specs.Dictionaries.{AreDictRows}
+use Rattle.dict_match.specs.Dictionaries.{AreMatches}
 
 -- a match as the place of its dictionary and its extent
-abbrev pub said : DictMatch → ℕ × Extent
-said m = (m.dict, extent_of m.span)
+abbrev pub dict_and_extent : DictMatch → ℕ × Extent
+dict_and_extent m = (m.dict, extent_of m.span)
 
 -- the extents of one dictionary's matches
 abbrev pub extents_for : ℕ → List (ℕ × Extent) → List Extent
@@ -28,4 +28,4 @@ IsInside source e = (source.begin ≤ e.begin) × (e.end ≤ source.end)
 -- for each dictionary, exactly its matches
 pub record AreRowsOfEach (dicts : List DictUse) (d : Doc) (source : Extent) (rows : List (List Extent)) : Type 0 where
   pub number : length rows ≡ length dicts
-  pub each : (i : ℕ) (dict : DictUse) → slice_get dicts i ≡ Some dict → AreDictRows dict d source (slice_index_or rows i [])
+  pub each : (i : ℕ) (dict : DictUse) → slice_get dicts i ≡ Some dict → AreMatches dict d source (slice_index_or rows i [])

@@ -2,8 +2,8 @@ ghost use Rattle.std.specs.Prelude.{◌≡◌, ◌≤◌, ◌<◌, ◌++◌, ℕ
 ghost use Rattle.span_token.specs.Documents.{LiesIn};
 ghost use Rattle.span_token.specs.Extents.{extent_of};
 ghost use Rattle.dict_match.specs.declared.dict_use.DictUse.{DictUse};
-ghost use Rattle.dict_match.specs.Dictionaries.{AreDictRows};
-ghost use Rattle.dict_match.specs.Rows.{said, extents_for, extents_of_rows, AreRowsOfEach, IsInside};
+ghost use Rattle.dict_match.specs.Dictionaries.{AreMatches};
+ghost use Rattle.dict_match.specs.Rows.{dict_and_extent, extents_for, extents_of_rows, AreRowsOfEach, IsInside};
 
 use crate::dict_use::{DictUse, copied_dicts};
 use crate::source::SourceTokens;
@@ -74,11 +74,11 @@ impl DictPass {
     /// A match is the place of a dictionary in the pass, from 0, with a span: from the begin of the
     /// first to the end of the last token of a run of tokens, wholly in `source`, that agrees token by
     /// token with some entry of that dictionary. For each dictionary each span comes once and in span
-    /// order; the matches of several dictionaries stand among one another. Spans count characters of
-    /// `doc`. Takes memory only where `scratch` or `into` has no room; after want of memory no clause
+    /// order; the matches of several dictionaries stand among one another. Spans are half-open and count
+    /// characters of `doc` from 0. Takes memory only where `scratch` or `into` has no room; after want of memory no clause
     /// says what `into` holds.
     ///
-    /// Meaning: `AreDictRows`, `specs/Dictionaries.antt`.
+    /// Meaning: `AreMatches`, `specs/Dictionaries.antt`.
     pub fn find_all(
         &self,
         doc: &Document<'_>,
@@ -88,7 +88,7 @@ impl DictPass {
     ) -> Result<(), OutOfMemory>
         requires in_document { LiesIn (extent_of source) doc.now }
         ensures matches { (i : ℕ) (dict : DictUse) → slice_get self.now i ≡ Some dict
-            → OnOk result (AreDictRows dict doc.now (extent_of source) (extents_for i (map said into.new.items))) }
+            → OnOk result (AreMatches dict doc.now (extent_of source) (extents_for i (map dict_and_extent into.new.items))) }
         ensures places { OnOk result (All (λ m. m.dict < length self.now) into.new.items) }
         ensures within { OnOk result (All (λ m. IsInside (extent_of source) (extent_of m.span)) into.new.items) }
     {
@@ -98,9 +98,12 @@ impl DictPass {
         push_matches(&self.trie, &tokens, scratch.words.as_slice(), into)
     }
 
-    /// The same as one list for each dictionary, in their order.
+    /// The matches wholly in `source`, as one list of spans for each dictionary of the pass, in their
+    /// order: each span once, by begin and then by end, half-open, in characters of `doc` from 0.
     ///
-    /// Meaning: `AreRowsOfEach`, `specs/Rows.antt`, and `AreDictRows`, `specs/Dictionaries.antt`.
+    /// Makes its own scratch. Want of memory leaves nothing behind.
+    ///
+    /// Meaning: `AreRowsOfEach`, `specs/Rows.antt`, and `AreMatches`, `specs/Dictionaries.antt`.
     pub fn matches(
         &self,
         alloc: Global,
@@ -136,7 +139,7 @@ fn put_rows(found: &[DictMatch], rows: &mut Vec<Vec<Span>>) -> Result<(), OutOfM
     requires { All (λ m. m.dict < length rows.old.items) found.now }
     ensures number { OnOk result (length rows.new.items ≡ length rows.old.items) }
     ensures each { OnOk result ((i : ℕ) → i < length rows.old.items → slice_index_or (extents_of_rows rows.new.items) i []
-        ≡ slice_index_or (extents_of_rows rows.old.items) i [] ++ extents_for i (map said found.now)) }
+        ≡ slice_index_or (extents_of_rows rows.old.items) i [] ++ extents_for i (map dict_and_extent found.now)) }
 {
     for one in found {
         rows[one.dict].push(one.span)?;

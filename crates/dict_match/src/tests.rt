@@ -242,3 +242,40 @@ fn several_threads_share_a_pass(rt: HostRuntime) -> Result<(), Fail> {
     assert_eq!(rt; found.as_slice(), [4usize, 0, 2, 0].as_slice());
     Ok(())
 }
+
+/// A pass that a thread has for its own, and how many matches it found.
+#[derive(Drop)]
+struct Seat {
+    pass: DictPass,
+    found: usize,
+}
+
+fn move_to_threads<R: Threads + Sync>(rt: &R, alloc: Global, text: &str, seats: &mut [Seat]) {
+    thread::for_each_mut(
+        rt,
+        seats,
+        4,
+        &|_, seat: &mut Seat| {
+            seat.found = count_in(alloc, &seat.pass, text).unwrap_or(99);
+        },
+    );
+}
+
+#[test]
+fn each_thread_has_a_pass_of_its_own(rt: HostRuntime) -> Result<(), Fail> {
+    let alloc = rt.alloc();
+    let names: Dict<'_> = (&["Ann", "John Doe"], false);
+    let cities: Dict<'_> = (&["York", "New York"], true);
+    let mut seats = Vec::new(alloc);
+    for dict in [names, cities] {
+        let pass = pass_of(alloc, &[dict])?;
+        seats.push(Seat { pass, found: 0 })?;
+    }
+    move_to_threads(&rt, alloc, "ann and John  Doe of New York", &mut seats);
+    let mut found = Vec::new(alloc);
+    for seat in &seats {
+        found.push(seat.found)?;
+    }
+    assert_eq!(rt; found.as_slice(), [2usize, 2].as_slice());
+    Ok(())
+}

@@ -1,6 +1,6 @@
 ghost use Rattle.std.specs.Prelude.{◌≡◌, ◌≤◌, ◌<◌, ◌+◌, ◌-◌, ◌↔◌, ◌++◌, ◌∷◌, [], List, ℕ, Option, length, map, slice_get, slice_index_or, Some, None, option_and_then, IfOk, OnOk, IsTrue, All};
 ghost use Rattle.dict_match.specs.Dictionaries.{IsMatch, AreInOrder, run_extent};
-ghost use Rattle.dict_match.specs.Rows.{said, extents_for};
+ghost use Rattle.dict_match.specs.Rows.{dict_and_extent, extents_for};
 ghost use Rattle.dict_match.specs.declared.dict_use.DictUse.{DictUse};
 ghost use Rattle.dict_match.specs.Tries.{Reaches, IsTrie, put_dicts, edge_from};
 ghost use Rattle.dict_match.specs.Walks.{numbers_of, run_texts, IsSpelled, HasEndFor, HasOneEach, PutsWhere, IsMatchUpto};
@@ -46,7 +46,7 @@ pub(crate) fn push_matches(
     requires words { words.now ≡ numbers_of trie.now tokens.now }
     requires empty { into.old.items ≡ [] }
     ensures matches { (dicts : List DictUse) (i : ℕ) (dict : DictUse) → Reaches trie.now (put_dicts 0 dicts) 0 [] → slice_get dicts i ≡ Some dict
-        → OnOk result (AreInOrder (IsMatch dict tokens.now.doc tokens.now.tokens) (extents_for i (map said into.new.items))) }
+        → OnOk result (AreInOrder (IsMatch dict tokens.now.doc tokens.now.tokens) (extents_for i (map dict_and_extent into.new.items))) }
     ensures places { (dicts : List DictUse) → Reaches trie.now (put_dicts 0 dicts) 0 [] → OnOk result (All (λ m. m.dict < length dicts) into.new.items) }
 {
     for first in 0..tokens.len() {
@@ -67,8 +67,8 @@ fn push_matches_from(
     requires words { words.now ≡ numbers_of trie.now tokens.now }
     requires there { first < length tokens.now.tokens }
     ensures matches { (dicts : List DictUse) (i : ℕ) (dict : DictUse) → Reaches trie.now (put_dicts 0 dicts) 0 [] → slice_get dicts i ≡ Some dict
-        → AreInOrder (IsMatchUpto dict tokens.now first first) (extents_for i (map said into.old.items))
-        → OnOk result (AreInOrder (IsMatchUpto dict tokens.now (first + 1) (first + 1)) (extents_for i (map said into.new.items))) }
+        → AreInOrder (IsMatchUpto dict tokens.now first first) (extents_for i (map dict_and_extent into.old.items))
+        → OnOk result (AreInOrder (IsMatchUpto dict tokens.now (first + 1) (first + 1)) (extents_for i (map dict_and_extent into.new.items))) }
     ensures places { (dicts : List DictUse) → Reaches trie.now (put_dicts 0 dicts) 0 [] → All (λ m. m.dict < length dicts) into.old.items
         → OnOk result (All (λ m. m.dict < length dicts) into.new.items) }
 {
@@ -106,7 +106,7 @@ fn push_ends(
     requires there { past ≤ length tokens.now.tokens }
     ensures matches { HasOneEach (run_texts tokens.now first past) ends.now
         → (i : ℕ) → OnOk result (PutsWhere (HasEndFor i (run_texts tokens.now first past) ends.now) (run_extent tokens.now.tokens first (past - 1))
-        (extents_for i (map said into.old.items)) (extents_for i (map said into.new.items))) }
+        (extents_for i (map dict_and_extent into.old.items)) (extents_for i (map dict_and_extent into.new.items))) }
     ensures places { (n : ℕ) → All (λ end. end.dict < n) ends.now → All (λ m. m.dict < n) into.old.items → OnOk result (All (λ m. m.dict < n) into.new.items) }
 {
     for end in ends {

@@ -1,5 +1,5 @@
 use Rattle.std.proofs.Common.{map, arith}
-use Rattle.dict_match.specs.Rows.{said, extents_for}
+use Rattle.dict_match.specs.Rows.{dict_and_extent, extents_for}
 use Rattle.dict_match.proofs.WalkLemmas.{upto-end}
 use Rattle.dict_match.proofs.walk.push_matches.Goals as goal
 
@@ -11,5 +11,5 @@ loop-first-preserved c = record {
 
 pub returns-clause-matches : goal.returns-clause-matches
 returns-clause-matches c = λ dicts i dict made at.
-    upto-end dict c.args.tokens.now c.loop-first.first (extents_for i (map said c.loop-first.into.items)) (omega (arith, c.loop-first-test.false, c.len-first-end.ensures.len))
+    upto-end dict c.args.tokens.now c.loop-first.first (extents_for i (map dict_and_extent c.loop-first.into.items)) (omega (arith, c.loop-first-test.false, c.len-first-end.ensures.len))
     (c.loop-first.invariant.matches dicts i dict made at)

@@ -2,7 +2,7 @@ use Rattle.std.proofs.Common.{◌≡◌, ◌≤◌, ◌<◌, ◌+◌, ◌-◌, �
 use Rattle.std.proofs.lemmas.List.{get_or_default}
 use Rattle.dict_match.specs.declared.trie.End.{End}
 use Rattle.dict_match.specs.Dictionaries.{folded, run_extent, AgreesWith}
-use Rattle.dict_match.specs.Rows.{said, extents_for}
+use Rattle.dict_match.specs.Rows.{dict_and_extent, extents_for}
 use Rattle.dict_match.specs.Tries.{Reaches, put_dicts, step}
 use Rattle.dict_match.specs.Walks.{run_texts, HasEndFor, HasOneEach, PutsWhere}
 use Rattle.dict_match.proofs.PutLemmas.{end-agrees, agrees-end, one-each, ends-within}
@@ -18,7 +18,7 @@ returns-in_default-clause-matches c = λ dicts i dict made at start.
     let le : c.args.first ≤ last = omega arith in
     let none : step c.args.trie.now c.loop-last.node (key tokens last) ≡ None =
     sym (step-at c.args.trie.now tokens c.args.words.now c.loop-last.node last lt c.requires.words) ∙ sym c.in_default.ensures in
-    upto-stop dict tokens c.args.first last (extents_for i (map said c.loop-last.into.items))
+    upto-stop dict tokens c.args.first last (extents_for i (map dict_and_extent c.loop-last.into.items))
     (λ past more within agrees. none-longer c.args.trie.now dicts c.loop-last.node tokens c.args.first last past i dict (c.loop-last.invariant.reached (put_dicts 0 dicts) made) none at le more within agrees)
     (c.loop-last.invariant.matches dicts i dict made at start)
 
@@ -55,8 +55,8 @@ loop-last-preserved c =
       reached = reached;
       matches = λ dicts i dict made at start.
           let r = reached (put_dicts 0 dicts) made in
-          let old = extents_for i (map said c.loop-last.into.items) in
-          let new = extents_for i (map said c.push_ends.new.into.items) in
+          let old = extents_for i (map dict_and_extent c.loop-last.into.items) in
+          let new = extents_for i (map dict_and_extent c.push_ends.new.into.items) in
           let one : HasOneEach texts c.as_slice.result.now = subst (HasOneEach texts) (sym seen) (one-each trie dicts next texts r) in
           let puts : PutsWhere (HasEndFor i texts c.as_slice.result.now) (run_extent tokens.tokens first last) old new =
           subst (λ (n : ℕ). PutsWhere (HasEndFor i texts c.as_slice.result.now) (run_extent tokens.tokens first n) old new) final (c.in_ok-push_ends.ensures.matches one i) in
@@ -74,6 +74,6 @@ loop-last-preserved c =
 pub returns-clause-matches : goal.returns-clause-matches
 returns-clause-matches c = λ dicts i dict made at start.
     let tokens = c.args.tokens.now in
-    upto-stop dict tokens c.args.first c.loop-last.last (extents_for i (map said c.loop-last.into.items))
+    upto-stop dict tokens c.args.first c.loop-last.last (extents_for i (map dict_and_extent c.loop-last.into.items))
     (λ past more within agrees. absurd (omega (arith, more, within, c.loop-last-test.false, c.len-last-end.ensures.len)))
     (c.loop-last.invariant.matches dicts i dict made at start)

@@ -4,8 +4,8 @@ use Rattle.std.proofs.lemmas.Option.{slice_get_within}
 use Rattle.span_token.specs.Extents.{Extent, extent_of}
 use Rattle.dict_match.specs.declared.dict_use.DictUse.{DictUse}
 use Rattle.dict_match.specs.declared.walk.DictMatch.{DictMatch}
-use Rattle.dict_match.specs.Dictionaries.{AreDictRows}
-use Rattle.dict_match.specs.Rows.{said, extents_for, extents_of_rows}
+use Rattle.dict_match.specs.Dictionaries.{AreMatches}
+use Rattle.dict_match.specs.Rows.{dict_and_extent, extents_for, extents_of_rows}
 use Rattle.dict_match.proofs.InsideLemmas.{each-inside}
 use Rattle.dict_match.proofs.SplitLemmas.{empty-row, number-of_rows}
 use Rattle.dict_match.proofs.pass.DictPass.matches.Goals as goal
@@ -20,10 +20,10 @@ returns-clause-matches c =
       each = λ i dict at.
           let within = slice_get_within dicts i dict at in
           let empty : get_or (extents_of_rows c.in_ok-rows.rows.items) i [] ≡ [] = empty-row c.in_ok-rows.rows.items c.len.result i c.in_ok-rows.ensures (omega (arith, within, number)) in
-          let row : get_or (extents_of_rows c.put_rows.new.rows.items) i [] ≡ extents_for i (map said c.find_all.new.into.items) =
+          let row : get_or (extents_of_rows c.put_rows.new.rows.items) i [] ≡ extents_for i (map dict_and_extent c.find_all.new.into.items) =
           c.in_ok-put_rows.ensures.each i (omega (arith, within, made, number))
-          ∙ ap₂ (λ (es : List Extent) (ms : List DictMatch). es ++ extents_for i (map said ms)) empty c.as_slice.ensures.value in
-          subst (AreDictRows dict c.args.doc.now (extent_of c.args.source)) (sym row) (c.in_ok-find_all.ensures.matches i dict at);
+          ∙ ap₂ (λ (es : List Extent) (ms : List DictMatch). es ++ extents_for i (map dict_and_extent ms)) empty c.as_slice.ensures.value in
+          subst (AreMatches dict c.args.doc.now (extent_of c.args.source)) (sym row) (c.in_ok-find_all.ensures.matches i dict at);
     }
 
 pub returns-clause-within : goal.returns-clause-within
