@@ -25,6 +25,7 @@ are_used program views circle k d below = by k below
   where
     at : (k : ℕ) → k < length views → (name : List ℕ) × CreatesView program (get_or views k 0) name → (name : List ℕ) × CreatesView program (get_or views k d) name
     at k below h = subst (λ (p : ℕ). (name : List ℕ) × CreatesView program p name) (get_or_default views k 0 d below) h
+
     by : (k : ℕ) → k < length views → (name : List ℕ) × CreatesView program (get_or views k d) name
     by zero below = at zero below (circle.last_uses_first.name, circle.last_uses_first.view)
     by (suc k) below =

@@ -197,11 +197,52 @@ fn views_come_by_rank_and_then_by_number(rt: HostRuntime) -> Result<(), Fail> {
         &[
             (&[], "order"),
             (&[Output("P"), View("P", &["Document"])], "order 2"),
-            (&[View("P", &["Document"]), View("Q", &["P"]), View("R", &["P"]), View("S", &["Q", "R"])], "order 1 2 3 4"),
-            (&[View("S", &["Q", "(R"]), View("R", &["P"]), Dictionary("D"), View("Q", &["P"]), View("P", &[])], "order 5 2 4 1"),
-            (&[View("C", &["B", "A"]), View("B", &["A"]), View("A", &["Document"]), View("O", &["Document"])], "order 3 4 2 1"),
-            (&[View("A", &["Document"]), Dictionary("A"), Extract("E", "A"), Where("W", "A"), Export("Nobody")], "order 1 3 4"),
-            (&[Output("Document"), OutputAs("Document", "A"), OutputAs("Document", "B")], "order"),
+            (
+                &[
+                    View("P", &["Document"]),
+                    View("Q", &["P"]),
+                    View("R", &["P"]),
+                    View("S", &["Q", "R"]),
+                ],
+                "order 1 2 3 4",
+            ),
+            (
+                &[
+                    View("S", &["Q", "(R"]),
+                    View("R", &["P"]),
+                    Dictionary("D"),
+                    View("Q", &["P"]),
+                    View("P", &[]),
+                ],
+                "order 5 2 4 1",
+            ),
+            (
+                &[
+                    View("C", &["B", "A"]),
+                    View("B", &["A"]),
+                    View("A", &["Document"]),
+                    View("O", &["Document"]),
+                ],
+                "order 3 4 2 1",
+            ),
+            (
+                &[
+                    View("A", &["Document"]),
+                    Dictionary("A"),
+                    Extract("E", "A"),
+                    Where("W", "A"),
+                    Export("Nobody"),
+                ],
+                "order 1 3 4",
+            ),
+            (
+                &[
+                    Output("Document"),
+                    OutputAs("Document", "A"),
+                    OutputAs("Document", "B"),
+                ],
+                "order",
+            ),
         ],
     )
 }
@@ -213,9 +254,20 @@ fn a_cycle_begins_at_its_earliest_view(rt: HostRuntime) -> Result<(), Fail> {
         &rt,
         rt.alloc(),
         &[
-            (&[View("A", &["B"]), View("B", &["A"]), Output("A")], "cycle A B"),
+            (
+                &[View("A", &["B"]), View("B", &["A"]), Output("A")],
+                "cycle A B",
+            ),
             (&[View("A", &["A"])], "cycle A"),
-            (&[View("X", &["C"]), View("B", &["(C"]), View("A", &["B"]), View("C", &["Document", "A"])], "cycle B C A"),
+            (
+                &[
+                    View("X", &["C"]),
+                    View("B", &["(C"]),
+                    View("A", &["B"]),
+                    View("C", &["Document", "A"]),
+                ],
+                "cycle B C A",
+            ),
         ],
     )
 }
@@ -228,19 +280,47 @@ fn the_first_fault_of_the_rounds_is_named(rt: HostRuntime) -> Result<(), Fail> {
         rt.alloc(),
         &[
             (&[Output("P")], "1: no view P"),
-            (&[View("A", &[]), Dictionary("A"), View("A", &[]), View("A", &[])], "3: A again"),
+            (
+                &[
+                    View("A", &[]),
+                    Dictionary("A"),
+                    View("A", &[]),
+                    View("A", &[]),
+                ],
+                "3: A again",
+            ),
             (&[View("Document", &[])], "1: Document again"),
-            (&[Dictionary("Document"), Dictionary("Document")], "2: Document again"),
+            (
+                &[Dictionary("Document"), Dictionary("Document")],
+                "2: Document again",
+            ),
             (&[View("A", &["B", "C"])], "1: no view B"),
             (&[View("A", &["Document", "(N"])], "1: no view N"),
             (&[Extract("A", "D")], "1: no dictionary D"),
             (&[Where("A", "D")], "1: no dictionary D"),
             (&[View("D", &[]), Extract("A", "D")], "2: no dictionary D"),
-            (&[Output("Document"), OutputAs("Document", "Document")], "2: output Document again"),
-            (&[View("P", &["Document"]), OutputAs("P", "O"), Output("P"), OutputAs("Document", "O")], "4: output O again"),
+            (
+                &[Output("Document"), OutputAs("Document", "Document")],
+                "2: output Document again",
+            ),
+            (
+                &[
+                    View("P", &["Document"]),
+                    OutputAs("P", "O"),
+                    Output("P"),
+                    OutputAs("Document", "O"),
+                ],
+                "4: output O again",
+            ),
             (&[View("A", &["B"]), View("A", &[])], "2: A again"),
-            (&[Output("Document"), Output("Document"), View("A", &["B"])], "3: no view B"),
-            (&[View("A", &["A"]), Output("A"), Output("A")], "3: output A again"),
+            (
+                &[Output("Document"), Output("Document"), View("A", &["B"])],
+                "3: no view B",
+            ),
+            (
+                &[View("A", &["A"]), Output("A"), Output("A")],
+                "3: output A again",
+            ),
             (&[View("A", &["A"]), View("B", &["N"])], "2: no view N"),
         ],
     )
@@ -251,7 +331,11 @@ fn long(alloc: Global, count: u32, chained: bool) -> Result<Option<Vec<u32>>, Fa
     let mut statements = Vec::new(alloc);
     for i in 0..count {
         let name = format!(in alloc; "V{i}")?;
-        let below = if chained { u64::from(i) + 1 } else { u64::from(count) };
+        let below = if chained {
+            u64::from(i) + 1
+        } else {
+            u64::from(count)
+        };
         let used = if below > u64::from(count) {
             format!(in alloc; "Document")?
         } else {

@@ -27,7 +27,7 @@ names_of-requires c =
     let graph : IsUseGraph program (length program) c.args.uses.now = subst (λ (n : ℕ). IsUseGraph program n c.args.uses.now) (sym (length-map c.args.statements.now statement_of)) c.requires.graph in
     let walk : IsClosed (Edge c.args.uses.now) c.in-Circle.places.items × AllDiffer c.in-Circle.places.items = subst (λ (w : Walk). IsWalk c.args.uses.now w) c.in-Circle.is c.in_ok-marks.ensures in
     let begun : IsBegunAtLeast c.in-Circle.places.items c.in_ok-cycle-in-Circle.cycle.items =
-        subst (λ (ps : List ℕ). IsBegunAtLeast ps c.in_ok-cycle-in-Circle.cycle.items) c.deref-in-Circle.ensures.value c.in_ok-cycle-in-Circle.ensures in
+    subst (λ (ps : List ℕ). IsBegunAtLeast ps c.in_ok-cycle-in-Circle.cycle.items) c.deref-in-Circle.ensures.value c.in_ok-cycle-in-Circle.ensures in
     subst (λ (ps : List ℕ). AreViews program ps) (sym c.deref-in-Circle-2.ensures.value)
     (are_views program c.args.uses.now graph c.requires.outputs c.in-Circle.places.items c.in_ok-cycle-in-Circle.cycle.items walk.0 walk.1 begun)
 
@@ -45,6 +45,6 @@ returns-in_ok-views-in-Circle-clause-fault c =
     let graph : IsUseGraph program (length program) c.args.uses.now = subst (λ (n : ℕ). IsUseGraph program n c.args.uses.now) (sym (length-map c.args.statements.now statement_of)) c.requires.graph in
     let walk : IsClosed (Edge c.args.uses.now) c.in-Circle.places.items × AllDiffer c.in-Circle.places.items = subst (λ (w : Walk). IsWalk c.args.uses.now w) c.in-Circle.is c.in_ok-marks.ensures in
     let begun : IsBegunAtLeast c.in-Circle.places.items c.in_ok-cycle-in-Circle.cycle.items =
-        subst (λ (ps : List ℕ). IsBegunAtLeast ps c.in_ok-cycle-in-Circle.cycle.items) c.deref-in-Circle.ensures.value c.in_ok-cycle-in-Circle.ensures in
+    subst (λ (ps : List ℕ). IsBegunAtLeast ps c.in_ok-cycle-in-Circle.cycle.items) c.deref-in-Circle.ensures.value c.in_ok-cycle-in-Circle.ensures in
     cycle_fault program c.args.uses.now graph c.requires.outputs c.in-Circle.places.items c.in_ok-cycle-in-Circle.cycle.items walk.0 walk.1 begun c.in_ok-views-in-Circle.views
     (subst (λ (ps : List ℕ). AllZip (CreatesView program) ps c.in_ok-views-in-Circle.views) c.deref-in-Circle-2.ensures.value c.in_ok-views-in-Circle.ensures)
