@@ -263,5 +263,6 @@ module _ (entry : List ℕ → Option (Option ℕ)) (there : List ℕ → Bool)
     where
       nothing : (q : List ℕ) → ◌≡◌ {A = List Named} [] (view_named q ∷ []) → ⊥
       nothing q e = cc
+
       apart : (q : List ℕ) → view_named (codes "Document") ≡ dictionary_named q → ⊥
       apart q e = cc

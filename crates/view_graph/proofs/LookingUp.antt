@@ -129,6 +129,7 @@ module _ (program : List Statement) where
         undefined = undefined;
         first = All-append (IsDefined program) (names_looked_up before) found.earlier defined found.first;
       }
+
       by : (named : Named) → looked_up_by s ≡ found.earlier ++ named ∷ found.later → ¬ (IsDefined program named) → Unknown number named fault → IsFault program fault
       by (view_named name) is undefined fault_is = subst (λ (f : NameFault). IsFault program f) (sym fault_is) (distinct, unknown (view_named name) is undefined)
       by (dictionary_named name) is undefined fault_is = subst (λ (f : NameFault). IsFault program f) (sym fault_is) (distinct, unknown (dictionary_named name) is undefined)
@@ -154,6 +155,7 @@ graph_more program n uses new used within graph found is = subst (λ (all : List
     at : (place : ℕ) (places : List ℕ) → get_or (uses ++ used ∷ []) place [] ≡ places → PlacesOf program (names_used_by (statement_at program place)) places
         → PlacesOf program (names_used_by (statement_at program place)) (get_or (uses ++ used ∷ []) place [])
     at place places same is = subst (λ (ps : List ℕ). PlacesOf program (names_used_by (statement_at program place)) ps) (sym same) is
+
     by : (place : ℕ) → (place ≡ n) ⊎ ((place < n) ⊎ (n < place)) → place < n + 1 → PlacesOf program (names_used_by (statement_at program place)) (get_or (uses ++ used ∷ []) place [])
     by place (inl same) below =
         at place used (get_or_push uses used [] place (graph.length_is ∙ sym same)) (subst (λ (p : ℕ). PlacesOf program (names_used_by (statement_at program p)) used) (sym same) found.used)

@@ -85,7 +85,7 @@ pub placed_within : (program : List Statement) (marks : List Mark) (placed : Lis
 placed_within program marks placed are = λ k d below.
     let at : get_or (map (λ (v : ℕ × ℕ). v.1) placed) k 0 ≡ (get_or placed k d).1 = get_or-map_within (λ (v : ℕ × ℕ). v.1) placed k d 0 below in
     let inside : get_or (map (λ (v : ℕ × ℕ). v.1) placed) k 0 < 0 + length program =
-        subst (λ (ps : List ℕ). All (λ p. p < 0 + length program) ps) (sym are.places) (views_within 0 program) k 0 (omega (arith, below, length-map placed (λ (v : ℕ × ℕ). v.1))) in
+    subst (λ (ps : List ℕ). All (λ p. p < 0 + length program) ps) (sym are.places) (views_within 0 program) k 0 (omega (arith, below, length-map placed (λ (v : ℕ × ℕ). v.1))) in
     omega (arith, at, inside)
 
 module _ (program : List Statement) (uses : List (List ℕ)) (marks : List Mark) (all : IsDone uses marks) (same_length : length uses ≡ length program) where

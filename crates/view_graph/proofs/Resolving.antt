@@ -1,12 +1,12 @@
 -- From the walk to what `resolve` answers.
-use Rattle.std.proofs.Common.{◌≡◌, ◌∙◌, ◌+◌, ◌-◌, ◌<◌, ℕ, zero, suc, List, length, get_or, map, All, ap, sym, subst, arith}
+use Rattle.std.proofs.Common.{◌≡◌, ◌∙◌, ◌+◌, ◌-◌, ◌<◌, ℕ, zero, suc, List, length, get_or, map, All, AllPairs, ⊎_elim, ap, sym, subst, arith, ◌≤◌}
 use Rattle.std.specs.List.{AllZip}
-use Rattle.std.proofs.lemmas.List.{get_or_default}
+use Rattle.std.proofs.lemmas.List.{get_or_default, take_all}
 use Rattle.aql_syntax.specs.Trees.{Statement, require}
 use Rattle.view_graph.specs.declared.search.Mark.{Mark}
 use Rattle.view_graph.specs.declared.fault.NameFault.{NameFault}
 use Rattle.view_graph.specs.declared.fault.NameFault.TheVariants.{DuplicateOutput, Cycle}
-use Rattle.view_graph.specs.Names.{AllDiffer, outputs_of}
+use Rattle.view_graph.specs.Names.{AllDiffer, names_defined, names_looked_up, IsDefined}
 use Rattle.view_graph.specs.Graphs.{IsClosed, IsCycle, IsByRank}
 use Rattle.view_graph.specs.Uses.{Uses, CreatesView, views_of}
 use Rattle.view_graph.specs.Answers.{HasNames, HasOutputs, IsResolved, IsFault}
@@ -17,7 +17,7 @@ use Rattle.view_graph.specs.Orders.{IsNumbering}
 use Rattle.view_graph.specs.Circles.{IsBegunAtLeast, AreViews}
 use Rattle.view_graph.proofs.Ranking.{numbered_by_rank}
 use Rattle.view_graph.proofs.Turning.{IsCycle-turned}
-use Rattle.view_graph.proofs.Relations.{cycle_along, by_rank_along, edge_uses, uses_edge, no_circle_done}
+use Rattle.view_graph.proofs.Relations.{one_rank, lesser_rank, cycle_along, by_rank_along, edge_uses, uses_edge, no_circle_done}
 
 -- the views of a circle are created by statements
 are_used : (program : List Statement) (views : List ℕ) → IsClosed (Uses program) views → AreViews program views
@@ -25,23 +25,41 @@ are_used program views circle k d below = by k below
   where
     at : (k : ℕ) → k < length views → (name : List ℕ) × CreatesView program (get_or views k 0) name → (name : List ℕ) × CreatesView program (get_or views k d) name
     at k below h = subst (λ (p : ℕ). (name : List ℕ) × CreatesView program p name) (get_or_default views k 0 d below) h
+
     by : (k : ℕ) → k < length views → (name : List ℕ) × CreatesView program (get_or views k d) name
     by zero below = at zero below (circle.last_uses_first.name, circle.last_uses_first.view)
     by (suc k) below =
         let h = circle.each_uses_next k 0 (omega (arith, below)) in
         at (suc k) below (h.name, subst (λ (i : ℕ). CreatesView program (get_or views i 0) h.name) (omega arith) h.view)
 
+-- what comes after a view has no lesser rank, so the view doesn't use it
+used_first : (program : List Statement) (places : List ℕ) → IsByRank (Uses program) (views_of program) places → AllPairs (λ view later. ¬ (Uses program view later)) places
+used_first program places ranks = λ i j d before within uses.
+    let c = ranks.in_order i j d before within in
+    let less = lesser_rank (Uses program) (get_or places i d) (get_or places j d) c.rank c.other_rank uses c.ranked c.other_ranked in
+    ⊎_elim (λ lower. omega (arith, less, lower)) (λ same. omega (arith, less, same.0)) c.in_order
+
+-- names that are defined once and looked up
+pub has_names : (program : List Statement) (count : ℕ) (uses : List (List ℕ)) → length program ≡ count → AllDiffer (names_defined program) → IsUseGraph program count uses → HasNames program
+has_names program count uses all distinct graph = record {
+  distinct = distinct;
+  defined = subst (λ (statements : List Statement). All (IsDefined program) (names_looked_up statements)) (take_all count program (omega (arith, all))) graph.looked_up;
+}
+
 module _ (program : List Statement) (uses : List (List ℕ)) (graph : IsUseGraph program (length program) uses) (outputs : HasOutputs program) where
   -- all views have ranks
   pub resolved : (marks : List Mark) (order : List ℕ) → IsDone uses marks → IsNumbering program marks order → IsResolved program order
   resolved marks order all numbering =
       let h = numbered_by_rank program uses marks all graph.length_is order numbering in
+      let ranks = by_rank_along (Edge uses) (Uses program) (edge_uses program uses graph) (uses_edge program uses graph) (views_of program) h.0 h.1 in
       record {
         outputs = outputs;
         no_cycle = no_circle_done program uses graph marks all;
         places = h.0;
-        by_rank = by_rank_along (Edge uses) (Uses program) (edge_uses program uses graph) (uses_edge program uses graph) (views_of program) h.0 h.1;
+        by_rank = ranks;
         numbers = h.2;
+        one_rank = one_rank (Uses program);
+        used_first = used_first program h.0 ranks;
       }
 
   module _ (places cycle : List ℕ) (circle : IsClosed (Edge uses) places) (distinct : AllDiffer places) (begun : IsBegunAtLeast places cycle) where

@@ -75,11 +75,13 @@ module _ (R : ℕ → ℕ → Type 0) (places turned : List ℕ) (circle : IsClo
     where
       places_same : get_or places a.0 0 ≡ get_or places b.0 0
       places_same = sym (a.2 d) ∙ (same ∙ b.2 d)
+
       never : a.0 ≡ b.0 → (begun.at + i ≡ a.0) ⊎ (begun.at + i ≡ a.0 + length places) → (begun.at + j ≡ b.0) ⊎ (begun.at + j ≡ b.0 + length places) → ⊥
       never e (inl p) (inl q) = omega (arith, p, q, e, before)
       never e (inl p) (inr q) = omega (arith, p, q, e, before, within)
       never e (inr p) (inl q) = omega (arith, p, q, e, before, within)
       never e (inr p) (inr q) = omega (arith, p, q, e, before)
+
       by : (a.0 ≡ b.0) ⊎ ((a.0 < b.0) ⊎ (b.0 < a.0)) → ⊥
       by (inl e) = never e a.3 b.3
       by (inr (inl less)) = distinct a.0 b.0 0 less b.1 places_same

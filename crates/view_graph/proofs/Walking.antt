@@ -67,6 +67,7 @@ module _ (uses : List (List ℕ)) where
         (Contains-get_or (used_in uses frame.place) h.0 0 (omega (arith, h.2, all)), h.3.below),
         omega (arith, h.3.length_is, h.4),
       )
+
       longest : (other : List ℕ) → IsChainBelow (Edge uses) frame.place other → length other ≤ frame.rank
       longest [] below = omega arith
       longest (view ∷ views) below =
@@ -87,10 +88,12 @@ module _ (uses : List (List ℕ)) where
     where
       there : (k r : ℕ) → HasRank (Edge uses) (get_or (used_in uses frame.place) k 0) r → HasRank (Edge uses) (get_or (used_in uses next.place) k 0) r
       there k r h = subst (λ (p : ℕ). HasRank (Edge uses) (get_or (used_in uses p) k 0) r) (sym place_is) h
+
       by : (k : ℕ) → (k ≡ frame.next) ⊎ ((k < frame.next) ⊎ (frame.next < k)) → k < next.next → (r : ℕ) × HasRank (Edge uses) (get_or (used_in uses next.place) k 0) r × (r < next.rank)
       by k (inl same) before = (rank, there k rank (subst (λ (i : ℕ). HasRank (Edge uses) (get_or (used_in uses frame.place) i 0) rank) (sym same) ranked), omega (arith, rank_is))
       by k (inr (inl less)) before = let h = scanned.below k less in (h.0, there k h.0 h.1, omega (arith, rank_is, h.2))
       by k (inr (inr past)) before = absurd (omega (arith, next_is))
+
       reached : (frame.rank < rank + 1) ⊎ (rank + 1 ≤ frame.rank)
           → (frame.rank ≡ 0) ⊎ ((k : ℕ) × (r : ℕ) × (k < frame.next) × HasRank (Edge uses) (get_or (used_in uses frame.place) k 0) r × (frame.rank ≡ r + 1))
           → (next.rank ≡ 0) ⊎ ((k : ℕ) × (r : ℕ) × (k < next.next) × HasRank (Edge uses) (get_or (used_in uses next.place) k 0) r × (next.rank ≡ r + 1))
@@ -112,14 +115,18 @@ module _ (uses : List (List ℕ)) where
       where
         inside : place < length marks
         inside = omega (arith, search.marked)
+
         new : List Mark
         new = set marks place (Open (length stack))
+
         same_done : done (set marks place (Open (length stack))) ≡ done marks
         same_done = let e = count-set marks place (Open (length stack)) inside is_ranked false false (ap is_ranked fresh) refl in omega (arith, e)
+
         ranked : (other rank : ℕ) → (other ≡ place) ⊎ (other ≡ place → ⊥) → mark_at (set marks place (Open (length stack))) other ≡ Ranked rank → HasRank (Edge uses) other rank × (rank < done (set marks place (Open (length stack))))
         ranked other rank (inl same) is = absurd (open_ranked (length stack) rank (sym (ap (mark_at (set marks place (Open (length stack)))) same ∙ mark_there marks place (Open (length stack)) inside) ∙ is))
         ranked other rank (inr differs) is =
             let h = search.ranked other rank (sym (mark_elsewhere marks place (Open (length stack)) inside other differs) ∙ is) in (h.0, omega (arith, same_done, h.1))
+
         kept : (depth : ℕ) (f : Frame) → IsOnWay uses marks depth f → IsOnWay uses (set marks place (Open (length stack))) depth f
         kept depth f on = record {
           within = on.within;
@@ -127,6 +134,7 @@ module _ (uses : List (List ℕ)) where
           low = omega (arith, same_done, on.low);
           marked = mark_elsewhere marks place (Open (length stack)) inside f.place (λ same. unseen_open depth (sym fresh ∙ (ap (mark_at marks) (sym same) ∙ on.marked))) ∙ on.marked;
         }
+
         first : IsOnWay uses (set marks place (Open (length stack))) (length stack) (begun place)
         first = record {
           within = within;
@@ -134,6 +142,7 @@ module _ (uses : List (List ℕ)) where
           low = omega arith;
           marked = mark_there marks place (Open (length stack)) inside;
         }
+
         frames : (depth : ℕ) → (depth ≡ length stack) ⊎ ((depth < length stack) ⊎ (length stack < depth)) → depth < length (stack ++ begun place ∷ []) → IsOnWay uses (set marks place (Open (length stack))) depth (frame_at (stack ++ begun place ∷ []) depth)
         frames depth (inl at) below =
             subst (λ (f : Frame). IsOnWay uses (set marks place (Open (length stack))) depth f) (sym (frame_last stack (begun place) depth at))
@@ -141,6 +150,7 @@ module _ (uses : List (List ℕ)) where
         frames depth (inr (inl less)) below =
             subst (λ (f : Frame). IsOnWay uses (set marks place (Open (length stack))) depth f) (sym (frame_before stack (begun place) depth less)) (kept depth (frame_at stack depth) (search.frames depth less))
         frames depth (inr (inr past)) below = absurd (omega (arith, length_push stack (begun place)))
+
         opened : (other depth : ℕ) → (other ≡ place) ⊎ (other ≡ place → ⊥) → mark_at (set marks place (Open (length stack))) other ≡ Open depth
             → (depth < length (stack ++ begun place ∷ [])) × ((frame_at (stack ++ begun place ∷ []) depth).place ≡ other)
         opened other depth (inl same) is =
@@ -149,6 +159,7 @@ module _ (uses : List (List ℕ)) where
         opened other depth (inr differs) is =
             let h = search.open_ other depth (sym (mark_elsewhere marks place (Open (length stack)) inside other differs) ∙ is) in
             (omega (arith, h.0, length_push stack (begun place)), ap (λ (f : Frame). f.place) (frame_before stack (begun place) depth h.0) ∙ h.1)
+
         path : (depth : ℕ) → (depth + 1 ≡ length stack) ⊎ ((depth + 1 < length stack) ⊎ (length stack < depth + 1)) → depth + 1 < length (stack ++ begun place ∷ [])
             → Edge uses (frame_at (stack ++ begun place ∷ []) depth).place (frame_at (stack ++ begun place ∷ []) (depth + 1)).place
         path depth (inl at) below =
@@ -205,6 +216,7 @@ module _ (uses : List (List ℕ)) where
         same_place depth (inr (inl less)) = ap (λ (h : Frame). h.place) (frame_before stack g depth less ∙ sym (frame_before stack f depth less))
         same_place depth (inr (inr past)) =
             ap (λ (h : Frame). h.place) (get_or_past (stack ++ g ∷ []) depth (begun 0) (omega (arith, length_push stack g)) ∙ sym (get_or_past (stack ++ f ∷ []) depth (begun 0) (omega (arith, length_push stack f))))
+
         frames : (depth : ℕ) → (depth ≡ length stack) ⊎ ((depth < length stack) ⊎ (length stack < depth)) → depth < length (stack ++ g ∷ []) → IsOnWay uses marks depth (frame_at (stack ++ g ∷ []) depth)
         frames depth (inl at) below = subst (λ (h : Frame). IsOnWay uses marks depth h) (sym (frame_last stack g depth at)) (record {
           within = subst (λ (p : ℕ). p < length uses) (sym place_is) last_on_way.within;
@@ -233,14 +245,17 @@ module _ (uses : List (List ℕ)) where
       where
         inside : f.place < length marks
         inside = omega (arith, search.marked, last_within)
+
         one_more : done (set marks f.place (Ranked f.rank)) ≡ done marks + 1
         one_more = let e = count-set marks f.place (Ranked f.rank) inside is_ranked false true (ap is_ranked last_on_way.marked) refl in omega (arith, e)
+
         ranked : (other rank : ℕ) → (other ≡ f.place) ⊎ (other ≡ f.place → ⊥) → mark_at (set marks f.place (Ranked f.rank)) other ≡ Ranked rank → HasRank (Edge uses) other rank × (rank < done (set marks f.place (Ranked f.rank)))
         ranked other rank (inl same) is =
             let rank_is : f.rank ≡ rank = same_rank f.rank rank (sym (ap (mark_at (set marks f.place (Ranked f.rank))) same ∙ mark_there marks f.place (Ranked f.rank) inside) ∙ is) in
             (subst (λ (p : ℕ). HasRank (Edge uses) p rank) (sym same) (subst (λ (r : ℕ). HasRank (Edge uses) f.place r) rank_is (HasRank-scanned f last_scanned all)), omega (arith, rank_is, one_more, last_low))
         ranked other rank (inr differs) is =
             let h = search.ranked other rank (sym (mark_elsewhere marks f.place (Ranked f.rank) inside other differs) ∙ is) in (h.0, omega (arith, one_more, h.1))
+
         frames : (depth : ℕ) → depth < length stack → IsOnWay uses (set marks f.place (Ranked f.rank)) depth (frame_at stack depth)
         frames depth below =
             let on : IsOnWay uses marks depth (frame_at stack depth) = subst (λ (g : Frame). IsOnWay uses marks depth g) (frame_before stack f depth below) (search.frames depth (omega (arith, below, length_push stack f))) in
@@ -251,6 +266,7 @@ module _ (uses : List (List ℕ)) where
               marked = mark_elsewhere marks f.place (Ranked f.rank) inside (frame_at stack depth).place
                   (λ same. let d : depth ≡ length stack = same_depth depth (length stack) (sym on.marked ∙ (ap (mark_at marks) same ∙ last_on_way.marked)) in omega (arith, d, below)) ∙ on.marked;
             }
+
         opened : (other depth : ℕ) → (other ≡ f.place) ⊎ (other ≡ f.place → ⊥) → mark_at (set marks f.place (Ranked f.rank)) other ≡ Open depth → (depth < length stack) × ((frame_at stack depth).place ≡ other)
         opened other depth (inl same) is = absurd (open_ranked depth f.rank (sym is ∙ (ap (mark_at (set marks f.place (Ranked f.rank))) same ∙ mark_there marks f.place (Ranked f.rank) inside)))
         opened other depth (inr differs) is =
@@ -274,7 +290,7 @@ module _ (uses : List (List ℕ)) where
         → after ≡ set marks place (Open (length (stack ++ f ∷ []))) → way ≡ (stack ++ f ∷ []) ++ begun place ∷ [] → GoesOn uses marks after stack way
     goes_on_entered place within fresh edge after way marks_is way_is =
         let new = entered marks (stack ++ f ∷ []) search place within fresh (λ some. subst (λ (p : ℕ). Edge uses p place)
-            (ap (λ (g : Frame). g.place) (sym (frame_last stack f (length (stack ++ f ∷ []) - 1) (omega (arith, length_push stack f))))) edge) in
+        (ap (λ (g : Frame). g.place) (sym (frame_last stack f (length (stack ++ f ∷ []) - 1) (omega (arith, length_push stack f))))) edge) in
         let fewer = unseen-entered marks (stack ++ f ∷ []) search place within fresh in
         subst (λ (ms : List Mark). GoesOn uses marks ms stack way) (sym marks_is) (subst (λ (w : List Frame). GoesOn uses marks (set marks place (Open (length (stack ++ f ∷ [])))) stack w) (sym way_is) (record {
           search = new;
@@ -321,7 +337,7 @@ module _ (uses : List (List ℕ)) where
         let mark_i = (circle.search.frames (depth + i) (omega (arith, length_circle))).marked in
         let mark_j = (circle.search.frames (depth + j) (omega (arith, length_circle))).marked in
         let places : (frame_at stack (depth + i)).place ≡ (frame_at stack (depth + j)).place =
-            sym (at_circle i d (omega (arith, length_circle))) ∙ same ∙ at_circle j d (omega (arith, length_circle)) in
+        sym (at_circle i d (omega (arith, length_circle))) ∙ same ∙ at_circle j d (omega (arith, length_circle)) in
         let depths : depth + i ≡ depth + j = same_depth (depth + i) (depth + j) (sym mark_i ∙ (ap (mark_at marks) places ∙ mark_j)) in
         omega (arith, depths, before)
 
@@ -337,9 +353,10 @@ module _ (uses : List (List ℕ)) where
       → mark_at marks (get_or used frame.next 0) ≡ Ranked rank → IsScanned uses frame → frame.rank ≤ done marks
       → next.place ≡ frame.place → next.next ≡ frame.next + 1 → next.rank ≡ max frame.rank (rank + 1) → IsScanned uses next × (next.rank ≤ done marks)
   scan_more marks ranked frame next rank used same below marked scanned low place_is next_is rank_is =
-      let h = ranked (get_or used frame.next 0) rank marked in
-      (scanned_more frame next rank scanned (subst (λ (u : List ℕ). frame.next < length u) same below) (subst (λ (u : List ℕ). HasRank (Edge uses) (get_or u frame.next 0) rank) same h.0) place_is next_is rank_is,
-      omega (arith, h.1, rank_is, low))
+      let h = ranked (get_or used frame.next 0) rank marked in (
+        scanned_more frame next rank scanned (subst (λ (u : List ℕ). frame.next < length u) same below) (subst (λ (u : List ℕ). HasRank (Edge uses) (get_or u frame.next 0) rank) same h.0) place_is next_is rank_is,
+        omega (arith, h.1, rank_is, low),
+      )
 
   -- the walk begins at a view
   pub started : (marks : List Mark) → IsSearch uses marks [] → (place : ℕ) → place < length uses → mark_at marks place ≡ Unseen → (items : List Frame) → items ≡ [] → (after : List Mark) (way : List Frame)
@@ -348,10 +365,11 @@ module _ (uses : List (List ℕ)) where
       let begins = entered marks [] search place within fresh (λ some. absurd (omega (arith, some))) in
       let inside : place < length marks = omega (arith, search.marked) in
       let after_is : after ≡ set marks place (Open 0) = marks_is ∙ ap (λ (stack : List Frame). set marks place (Open (length stack))) none in
-      let way_at : way ≡ begun place ∷ [] = way_is ∙ ap (λ (stack : List Frame). stack ++ begun place ∷ []) none in
-      (subst (λ (ms : List Mark). IsSearch uses ms way) (sym after_is) (subst (λ (w : List Frame). IsSearch uses (set marks place (Open 0)) w) (sym way_at) begins),
-      subst (λ (ms : List Mark). StaysSeen marks ms) (sym after_is) (stays_seen marks place (Open 0) inside (λ e. unseen_open 0 (sym e))),
-      λ is. unseen_open 0 (sym is ∙ (ap (λ (ms : List Mark). mark_at ms place) after_is ∙ mark_there marks place (Open 0) inside)))
+      let way_at : way ≡ begun place ∷ [] = way_is ∙ ap (λ (stack : List Frame). stack ++ begun place ∷ []) none in (
+        subst (λ (ms : List Mark). IsSearch uses ms way) (sym after_is) (subst (λ (w : List Frame). IsSearch uses (set marks place (Open 0)) w) (sym way_at) begins),
+        subst (λ (ms : List Mark). StaysSeen marks ms) (sym after_is) (stays_seen marks place (Open 0) inside (λ e. unseen_open 0 (sym e))),
+        λ is. unseen_open 0 (sym is ∙ (ap (λ (ms : List Mark). mark_at ms place) after_is ∙ mark_there marks place (Open 0) inside)),
+      )
 
   -- a mark that is neither on the way nor ranked
   pub unseen_from : (m : Mark) → ((depth : ℕ) → m ≡ Open depth → ⊥) → ((rank : ℕ) → m ≡ Ranked rank → ⊥) → m ≡ Unseen

@@ -1,5 +1,5 @@
 -- What `resolve` answers: a graph without a fault, or the first fault of the program.
-use Rattle.std.specs.Prelude.{◌≡◌, ℕ, ◌+◌, List, map, ⊤}
+use Rattle.std.specs.Prelude.{◌≡◌, ℕ, ◌+◌, List, map, AllPairs, ⊤}
 use Rattle.std.specs.List.{AllZip}
 use Rattle.aql_syntax.specs.Trees.{Statement}
 use Rattle.view_graph.specs.declared.fault.NameFault.{NameFault}
@@ -8,7 +8,7 @@ use Rattle.span_token.specs.declared.refusal.Failure.{Failure}
 use Rattle.span_token.specs.declared.refusal.Failure.TheVariants.{OutOfMemory, Fault}
 use Rattle.view_graph.specs.Names.{view_named, dictionary_named, names_defined, outputs_of, AllDiffer, LooksUpDefined}
 use Rattle.view_graph.specs.Faults.{DefinesAgain, LooksUpUndefined, NamesOutputAgain}
-use Rattle.view_graph.specs.Graphs.{IsClosed, IsCycle, IsByRank}
+use Rattle.view_graph.specs.Graphs.{IsClosed, IsCycle, HasRank, IsByRank}
 use Rattle.view_graph.specs.Uses.{Uses, CreatesView, views_of}
 
 -- no name is defined twice, and each that is looked up is defined
@@ -42,10 +42,13 @@ IsFault program (UnknownDictionary number name) =
 IsFault program (DuplicateOutput number name) = HasNames program × NamesOutputAgain program number name
 IsFault program (Cycle views) = HasOutputs program × NamesCycle program views
 
--- the program has no fault, and `order` has the numbers of its views, from 1, by rank and then by number
+-- the program has no fault, and `order` has the numbers of its views, from 1, by rank and then by number;
+-- each view has one rank, and no view uses one that comes after it
 pub record IsResolved (program : List Statement) (order : List ℕ) : Type 0 where
   pub outputs : HasOutputs program
   pub no_cycle : (views : List ℕ) → ¬ (IsClosed (Uses program) views)
   pub places : List ℕ
   pub by_rank : IsByRank (Uses program) (views_of program) places
   pub numbers : order ≡ map (λ place. place + 1) places
+  pub one_rank : (view rank other : ℕ) → HasRank (Uses program) view rank → HasRank (Uses program) view other → rank ≡ other
+  pub used_first : AllPairs (λ view later. ¬ (Uses program view later)) places

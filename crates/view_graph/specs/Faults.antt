@@ -9,6 +9,7 @@ pub record IsNumbered (program : List Statement) (number : ℕ) (before : List S
   pub split : program ≡ before ++ statement ∷ after
   pub number_is : number ≡ length before + 1
 
+-- the name without its space
 abbrev pub text_of : Named → List ℕ
 text_of (view_named text) = text
 text_of (dictionary_named text) = text

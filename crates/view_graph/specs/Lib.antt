@@ -6,7 +6,7 @@ pub mod Graphs
 pub mod Uses
 -- what `resolve` answers
 pub mod Answers
--- how the code keeps names and walks
+-- not in any public clause: how the code keeps names and walks
 pub mod Mentions
 pub mod Indexes
 pub mod Lookups

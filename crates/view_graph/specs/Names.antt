@@ -28,9 +28,11 @@ abbrev mutual
   names_in_terms no_terms = []
   names_in_terms (more_terms term terms) = names_in_term term ++ names_in_terms terms
 
+-- the names in an item's expression
 abbrev pub names_in_item : Item → List Named
 names_in_item item = names_in_term item.expr
 
+-- the names in the target of a consolidation, where there is one
 abbrev pub names_in_cons : Option Cons → List Named
 names_in_cons None = []
 names_in_cons (Some cons) = names_in_term cons.target
@@ -40,11 +42,13 @@ abbrev pub names_in_spec : Spec → List Named
 names_in_spec (dict name flag alias field out) = dictionary_named name.text ∷ []
 names_in_spec spec = []
 
+-- the names in a selection's clauses after its sources
 abbrev pub names_in_clauses : Clauses → List Named
 names_in_clauses clauses =
     flat_map names_in_term clauses.conds ++ (names_in_cons clauses.cons
     ++ (flat_map names_in_term clauses.group ++ flat_map names_in_term clauses.order))
 
+-- the names in an extraction's clauses after its source
 abbrev pub names_in_tail : Tail → List Named
 names_in_tail tail = flat_map names_in_term tail.conds ++ names_in_cons tail.cons
 
@@ -96,9 +100,11 @@ output_of statement = []
 abbrev pub names_defined : List Statement → List Named
 names_defined statements = view_named (codes "Document") ∷ flat_map defined_by statements
 
+-- all names that the statements look up, in the order of the text
 abbrev pub names_looked_up : List Statement → List Named
 names_looked_up statements = flat_map looked_up_by statements
 
+-- the names of all outputs, in order
 abbrev pub outputs_of : List Statement → List (List ℕ)
 outputs_of statements = flat_map output_of statements
 

@@ -4,6 +4,8 @@ use span_token::{OwnedList, OwnedText};
 ///
 /// Names are looked at in three rounds, each through the statements in order: what they define, what
 /// they look up, and how outputs are called. A cycle is a fault where none of these stands.
+///
+/// Meaning: `IsFault`, `specs/Answers.antt`.
 #[derive(Debug, Drop)]
 pub enum NameFault {
     /// The statement defines a view or a dictionary whose name an earlier statement of its kind

@@ -21,7 +21,8 @@ fn output_name(statement: &Statement) -> Option<&str>
 {
     match statement {
         Statement::Output {
-            alias: Some(alias), ..
+            alias: Some(alias),
+            ..
         } => Some(alias.as_str()),
         Statement::Output { name, alias: None } => Some(name.text.as_str()),
         _ => None,

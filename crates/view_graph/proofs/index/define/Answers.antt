@@ -12,7 +12,7 @@ pub loop-place-preserved : goal.loop-place-preserved
 loop-place-preserved c =
     let x = c.index-statements-place in
     let more = c.in_ok-define.ensures.ok (map statement_of (take c.loop-place.place c.args.statements.now))
-        (length-map_take statement_of c.args.statements.now c.loop-place.place c.loop-place-test.true) c.loop-place.invariant in
+    (length-map_take statement_of c.args.statements.now c.loop-place.place c.loop-place-test.true) c.loop-place.invariant in
     subst (λ (before : List Statement). IndexesNames before (entry_of c.define.new.self.views) (has c.define.new.self.dictionaries))
     (ap (λ (s : declared.Statement). map statement_of (take c.loop-place.place c.args.statements.now) ++ statement_of s ∷ []) x.is
     ∙ sym (map-take_more statement_of c.args.statements.now c.loop-place.place x.result c.loop-place-test.true)) more

@@ -9,9 +9,9 @@ pub overflow_add-place : goal.overflow_add-place
 overflow_add-place c =
     let program = map statement_of c.args.statements.now in
     let within : (get_or c.deref-place-items.result.now c.loop-place.place-index (0, 0)).1 < length program =
-        subst (λ (views : List (ℕ × ℕ)). All (λ view. view.1 < length program) views) (sym c.deref-place-items.ensures.value)
-        (All-permutation (λ view. view.1 < length program) c.in_ok-views.views.items c.sort.new.self.items c.in_ok-sort.ensures.permutation (placed_within program c.args.marks.now c.in_ok-views.views.items c.in_ok-views.ensures))
-        c.loop-place.place-index (0, 0) c.loop-place-test.true in
+    subst (λ (views : List (ℕ × ℕ)). All (λ view. view.1 < length program) views) (sym c.deref-place-items.ensures.value)
+    (All-permutation (λ view. view.1 < length program) c.in_ok-views.views.items c.sort.new.self.items c.in_ok-sort.ensures.permutation (placed_within program c.args.marks.now c.in_ok-views.views.items c.in_ok-views.ensures))
+    c.loop-place.place-index (0, 0) c.loop-place-test.true in
     omega (arith, within, length-map c.args.statements.now statement_of, c.requires.short)
 
 pub returns : goal.returns

@@ -15,8 +15,9 @@ loop-frame-init c =
 pub returns-in-Some-2 : goal.returns-in-Some-2
 returns-in-Some-2 c =
     let circle = MatchOption-at_some (GoesOn c.args.uses.now c.loop-frame.marks c.step.new.marks c.pop.new.self.items c.step.new.stack.items) (IsCircle c.args.uses.now c.step.new.marks c.step.new.stack.items)
-        c.in-Some-2.depth c.in-Some-2.is c.in_ok-depth.ensures in
+    c.in-Some-2.depth c.in-Some-2.is c.in_ok-depth.ensures in
     let places_are : c.in_ok-places_from.field-0.items ≡ map (λ f. f.place) (drop c.in-Some-2.depth c.step.new.stack.items) =
-        c.in_ok-places_from.ensures ∙ ap (λ (way : List Frame). map (λ (f : Frame). f.place) (drop c.in-Some-2.depth way)) c.deref.ensures.value in
-    (subst (λ (places : List ℕ). IsClosed (Edge c.args.uses.now) places) (sym places_are) (circle_closed c.args.uses.now c.step.new.marks c.step.new.stack.items c.in-Some-2.depth circle),
-    subst (λ (places : List ℕ). AllDiffer places) (sym places_are) (circle_distinct c.args.uses.now c.step.new.marks c.step.new.stack.items c.in-Some-2.depth circle))
+    c.in_ok-places_from.ensures ∙ ap (λ (way : List Frame). map (λ (f : Frame). f.place) (drop c.in-Some-2.depth way)) c.deref.ensures.value in (
+      subst (λ (places : List ℕ). IsClosed (Edge c.args.uses.now) places) (sym places_are) (circle_closed c.args.uses.now c.step.new.marks c.step.new.stack.items c.in-Some-2.depth circle),
+      subst (λ (places : List ℕ). AllDiffer places) (sym places_are) (circle_distinct c.args.uses.now c.step.new.marks c.step.new.stack.items c.in-Some-2.depth circle),
+    )

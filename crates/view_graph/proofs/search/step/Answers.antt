@@ -26,7 +26,7 @@ returns-then-frame-used c =
     let within = last_within c.args.uses.now c.args.marks.now c.args.stack.now.items c.args.frame c.requires.search in
     let g = c.scan-frame.result in
     let same : c.as_slice-used.result.now ≡ used_in c.args.uses.now g.place =
-        used_is c.args.uses.now g.place c.index-uses-frame.result c.as_slice-used.result.now c.as_slice-used.ensures c.index-uses-frame.is (subst (λ (p : ℕ). p < length c.args.uses.now) (sym c.scan-frame.ensures.place) within) in
+    used_is c.args.uses.now g.place c.index-uses-frame.result c.as_slice-used.result.now c.as_slice-used.ensures c.index-uses-frame.is (subst (λ (p : ℕ). p < length c.args.uses.now) (sym c.scan-frame.ensures.place) within) in
     goes_on_ranked c.args.uses.now c.args.marks.now c.args.stack.now.items g
     (replaced c.args.uses.now c.args.marks.now c.args.stack.now.items c.args.frame c.requires.search g c.scan-frame.ensures.place c.scan-frame.ensures.scanned c.scan-frame.ensures.low)
     (omega (arith, ap (λ (u : List ℕ). length u) same, c.if-frame-used.true, c.scan-frame.ensures.scanned.within))
@@ -37,7 +37,7 @@ bounds c =
     let g = c.scan-frame.result in
     let used = c.as_slice-used.result.now in
     let same : used ≡ used_in c.args.uses.now g.place =
-        used_is c.args.uses.now g.place c.index-uses-frame.result used c.as_slice-used.ensures c.index-uses-frame.is (subst (λ (p : ℕ). p < length c.args.uses.now) (sym c.scan-frame.ensures.place) within) in
+    used_is c.args.uses.now g.place c.index-uses-frame.result used c.as_slice-used.ensures c.index-uses-frame.is (subst (λ (p : ℕ). p < length c.args.uses.now) (sym c.scan-frame.ensures.place) within) in
     let below : get_or used g.next 0 < length c.args.uses.now = c.requires.graph g.place (get_or used g.next 0) (edge_at c.args.uses.now g.place used same g.next c.if-frame-used.false) in
     omega (arith, below, c.requires.search.marked)
 
@@ -47,7 +47,7 @@ returns-in-Open c =
     let g = c.scan-frame.result in
     let used = c.as_slice-used.result.now in
     let same : used ≡ used_in c.args.uses.now g.place =
-        used_is c.args.uses.now g.place c.index-uses-frame.result used c.as_slice-used.ensures c.index-uses-frame.is (subst (λ (p : ℕ). p < length c.args.uses.now) (sym c.scan-frame.ensures.place) within) in
+    used_is c.args.uses.now g.place c.index-uses-frame.result used c.as_slice-used.ensures c.index-uses-frame.is (subst (λ (p : ℕ). p < length c.args.uses.now) (sym c.scan-frame.ensures.place) within) in
     subst (λ (way : List Frame). IsCircle c.args.uses.now c.args.marks.now way c.in-Open.depth) (sym c.in_ok-push.ensures.items)
     (circle_found c.args.uses.now c.args.marks.now c.args.stack.now.items g
     (replaced c.args.uses.now c.args.marks.now c.args.stack.now.items c.args.frame c.requires.search g c.scan-frame.ensures.place c.scan-frame.ensures.scanned c.scan-frame.ensures.low)
@@ -59,7 +59,7 @@ enter-requires c =
     let g = c.scan-frame.result in
     let used = c.as_slice-used.result.now in
     let same : used ≡ used_in c.args.uses.now g.place =
-        used_is c.args.uses.now g.place c.index-uses-frame.result used c.as_slice-used.ensures c.index-uses-frame.is (subst (λ (p : ℕ). p < length c.args.uses.now) (sym c.scan-frame.ensures.place) within) in
+    used_is c.args.uses.now g.place c.index-uses-frame.result used c.as_slice-used.ensures c.index-uses-frame.is (subst (λ (p : ℕ). p < length c.args.uses.now) (sym c.scan-frame.ensures.place) within) in
     let below : get_or used g.next 0 < length c.args.uses.now = c.requires.graph g.place (get_or used g.next 0) (edge_at c.args.uses.now g.place used same g.next c.if-frame-used.false) in
     omega (arith, below, c.requires.search.marked)
 
@@ -70,12 +70,12 @@ returns c =
     let used = c.as_slice-used.result.now in
     let place = get_or used g.next 0 in
     let same : used ≡ used_in c.args.uses.now g.place =
-        used_is c.args.uses.now g.place c.index-uses-frame.result used c.as_slice-used.ensures c.index-uses-frame.is (subst (λ (p : ℕ). p < length c.args.uses.now) (sym c.scan-frame.ensures.place) within) in
+    used_is c.args.uses.now g.place c.index-uses-frame.result used c.as_slice-used.ensures c.index-uses-frame.is (subst (λ (p : ℕ). p < length c.args.uses.now) (sym c.scan-frame.ensures.place) within) in
     let at_first : used ≡ used_in c.args.uses.now c.args.frame.place = same ∙ ap (λ (p : ℕ). used_in c.args.uses.now p) c.scan-frame.ensures.place in
     let edge = edge_at c.args.uses.now g.place used same g.next c.if-frame-used.false in
     let stopped : (rank : ℕ) → mark_at c.args.marks.now place ≡ Ranked rank → ⊥ = λ (rank : ℕ). λ (is : mark_at c.args.marks.now place ≡ Ranked rank).
-        c.scan-frame.ensures.stopped (subst (λ (u : List ℕ). g.next < length u) at_first c.if-frame-used.false) rank
-        (subst (λ (u : List ℕ). mark_at c.args.marks.now (get_or u g.next 0) ≡ Ranked rank) at_first is) in
+    c.scan-frame.ensures.stopped (subst (λ (u : List ℕ). g.next < length u) at_first c.if-frame-used.false) rank
+    (subst (λ (u : List ℕ). mark_at c.args.marks.now (get_or u g.next 0) ≡ Ranked rank) at_first is) in
     goes_on_entered c.args.uses.now c.args.marks.now c.args.stack.now.items g
     (replaced c.args.uses.now c.args.marks.now c.args.stack.now.items c.args.frame c.requires.search g c.scan-frame.ensures.place c.scan-frame.ensures.scanned c.scan-frame.ensures.low)
     place (c.requires.graph g.place place edge) (unseen_from c.args.uses.now (mark_at c.args.marks.now place) c.in_default.not-Open stopped) edge

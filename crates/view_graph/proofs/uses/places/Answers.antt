@@ -26,7 +26,7 @@ loop-mention-preserved c = λ program names.
     let named = named_of (get_or c.args.mentions.now i nothing) in
     subst (λ (ns : List Named). PlacesOf program ns c.match-find.used) (sym (map-take_more named_of c.args.mentions.now i nothing c.loop-mention-test.true))
     (elim c.match-find.branch [
-      in-View+in_ok-push-in-View w ↦
+      | in-View+in_ok-push-in-View w ↦
           subst (λ (used : List ℕ). PlacesOf program (before ++ named ∷ []) used) (sym (w.used-is ∙ w.in_ok-push-in-View.ensures.ok))
           (places_view program before named c.loop-mention.used (c.loop-mention.invariant program names) w.in-View.place (w.in-View.ensures program names))
       | in-Other w ↦

@@ -11,7 +11,7 @@ use Rattle.view_graph.proofs.uses.used_by.Goals as goal
 pub returns-in_ok-query-in-View-clause-ok : goal.returns-in_ok-query-in-View-clause-ok
 returns-in_ok-query-in-View-clause-ok c = λ program names.
     let written : map named_of c.as_slice.result.now ≡ names_in_query (query_of c.in-View.query) =
-        c.as_slice.ensures ∙ (c.in_ok-query-in-View.ensures ∙ ap (λ (before : List Named). before ++ names_in_query (query_of c.in-View.query)) c.new-mentions.ensures) in
+    c.as_slice.ensures ∙ (c.in_ok-query-in-View.ensures ∙ ap (λ (before : List Named). before ++ names_in_query (query_of c.in-View.query)) c.new-mentions.ensures) in
     IfOk-weaker c.places.result (PlacesOf program (map named_of c.as_slice.result.now)) (PlacesUsed program (statement_of c.args.statement.now))
     (λ places found. used_by_view program (statement_of c.args.statement.now) (name_of c.in-View.name) (query_of c.in-View.query) places (map named_of c.as_slice.result.now)
     (ap statement_of c.in-View.is) written found)
