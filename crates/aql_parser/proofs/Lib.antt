@@ -11,3 +11,5 @@ pub mod ClauseRules
 pub mod SoughtRules
 pub mod QueryRules
 pub mod StatementRules
+pub mod RunRules
+pub mod ProgramRules

@@ -6,7 +6,7 @@ use Rattle.span_token.specs.declared.refusal.Failure.TheVariants.{OutOfMemory, F
 use Rattle.aql_lexer.specs.Kinds.{Kind, Token}
 use Rattle.aql_syntax.specs.Trees.{Statement}
 use Rattle.aql_syntax.specs.Programs.{IsNoModule, HasTokens, runs_of, AreTokensOf, placed_in}
-use Rattle.aql_parser.specs.declared.parse.SyntaxFault.{SyntaxFault}
+use Rattle.aql_parser.specs.declared.parsing.SyntaxFault.{SyntaxFault}
 
 abbrev pub kinds_in : List Token → List Kind
 kinds_in tokens = map (λ token. token.kind) tokens

@@ -301,7 +301,8 @@ fn unreserved(alloc: Global, word: &str, at: u32) -> Result<Ident, Refused>
     Ok(ident(alloc, word, at)?)
 }
 
-fn is_symbol(kind: &TokKind, symbol: u8) -> bool
+/// Whether the token is this symbol.
+pub fn is_symbol(kind: &TokKind, symbol: u8) -> bool
     ensures { result ≡ spec.sees_symbol symbol (kind_of kind.now ∷ []) }
 {
     match kind {

@@ -10,10 +10,10 @@ mod clauses;
 mod cursor;
 mod expressions;
 mod extractions;
-mod measure;
-mod parse;
+mod measuring;
+mod parsing;
 mod queries;
 mod statements;
 
-pub use measure::{MAX_NESTING, Sizes, measure};
-pub use parse::{SyntaxFault, parse};
+pub use measuring::{MAX_NESTING, Sizes, measure};
+pub use parsing::{SyntaxFault, parse};

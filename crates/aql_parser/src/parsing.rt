@@ -1,16 +1,16 @@
 //! Whole programs.
 
-ghost use Rattle.std.specs.Prelude.{◌≡◌, ◌<◌, ◌^◌, ◌+◌, List, length, map, IfOk, IfErr, MatchResult};
+ghost use Rattle.std.specs.Prelude.{◌≡◌, ◌<◌, ◌^◌, ◌+◌, ◌&&◌, List, length, map, IfOk, IfErr, MatchResult};
 ghost use Rattle.aql_lexer.specs.Kinds.{kinds_of, token_of};
 ghost use Rattle.aql_syntax.specs.Trees.{Statement as Tree};
 ghost use Rattle.aql_syntax.specs.Views.{statement_of};
 ghost use Rattle.aql_syntax.specs.Programs.{AreTokensOf, placed_in};
 ghost use Rattle.aql_parser.specs.Nesting.{NestsWithin, IsWithin};
 ghost use Rattle.aql_parser.specs.Faults.{IsFaultOf, IsDecided};
-ghost use Rattle.aql_parser.specs.Runs.{IsTreeOf};
+ghost use Rattle.aql_parser.specs.Runs.{IsTreeOf, IsKept, IsNamed, is_module, may_follow};
 
 use crate::cursor::{Cursor, NoTree, Refused};
-use crate::measure::{MAX_NESTING, first_run};
+use crate::measuring::{MAX_NESTING, first_run};
 use crate::statements::statement;
 use aql_lexer::Tok;
 use aql_syntax::Statement;
@@ -24,6 +24,29 @@ pub struct SyntaxFault {
     pub line: u32,
 }
 
+fn is_module(tree: &Statement) -> bool
+    ensures { result ≡ is_module (statement_of tree.now) }
+{
+    match tree {
+        Statement::Module(_) => true,
+        _ => false,
+    }
+}
+
+/// Whether the statement may have so many before it.
+fn may_follow(tree: &Statement, before: usize) -> bool
+    ensures { result ≡ may_follow before (statement_of tree.now) }
+{
+    before == 0 || !is_module(tree)
+}
+
+/// The statement, where nothing speaks against it.
+fn kept(tree: Statement, read_whole: bool, follows: bool) -> Result<Statement, Refused>
+    ensures { IsKept tree (read_whole && follows) result }
+{
+    (read_whole && follows).then_some(tree).ok_or(Failure::Fault(NoTree))
+}
+
 /// The statement whose tokens are all of `run`, where `before` statements stand before it.
 fn whole(alloc: Global, run: &[Tok], at: u32, before: usize) -> Result<Statement, Refused>
     requires few { at + length run.now < 2 ^ 32 }
@@ -32,16 +55,17 @@ fn whole(alloc: Global, run: &[Tok], at: u32, before: usize) -> Result<Statement
 {
     let mut toks = Cursor::new(run, at);
     let tree = statement(alloc, MAX_NESTING, &mut toks)?;
-    if !toks.is_done() || before > 0 && is_module(&tree) {
-        return Err(Failure::Fault(NoTree));
-    }
-    Ok(tree)
+    let follows = may_follow(&tree, before);
+    kept(tree, toks.is_done(), follows)
 }
 
-fn is_module(tree: &Statement) -> bool {
-    match tree {
-        Statement::Module(_) => true,
-        _ => false,
+/// The refusal, with the statement and the line at which it stands.
+fn named(refused: Refused, statement: u32, line: u32) -> Failure<SyntaxFault>
+    ensures { IsNamed refused statement line result }
+{
+    match refused {
+        Failure::OutOfMemory => Failure::OutOfMemory,
+        Failure::Fault(NoTree) => Failure::Fault(SyntaxFault { statement, line }),
     }
 }
 
@@ -73,14 +97,11 @@ pub fn parse(alloc: Global, toks: &[Tok]) -> Result<Vec<Statement>, Failure<Synt
     while let [first, ..] = rest {
         let at = toks.len() - rest.len();
         let len = first_run(rest).len;
-        match whole(alloc, &rest[..len], at as u32, trees.len()) {
-            Ok(tree) => trees.push(tree)?,
-            Err(Failure::OutOfMemory) => return Err(Failure::OutOfMemory),
-            Err(Failure::Fault(NoTree)) => {
-                let statement = trees.len() as u32 + 1;
-                return Err(Failure::Fault(SyntaxFault { statement, line: first.line }));
-            }
-        }
+        let tree = match whole(alloc, &rest[..len], at as u32, trees.len()) {
+            Ok(tree) => tree,
+            Err(refused) => return Err(named(refused, trees.len() as u32 + 1, first.line)),
+        };
+        trees.push(tree)?;
         rest = &rest[len..];
     }
     Ok(trees)

@@ -6,7 +6,8 @@ ghost use Rattle.aql_syntax.specs.Programs.{runs_of};
 ghost use Rattle.aql_parser.specs.Nesting.{IsNesting};
 ghost use Rattle.aql_parser.specs.Runs.{IsFirstRun, IsLeastDepth};
 
-use aql_lexer::{Tok, TokKind};
+use crate::cursor::is_symbol;
+use aql_lexer::Tok;
 
 /// How deep the parentheses of a statement may nest.
 pub const MAX_NESTING: u32 = 64;
@@ -19,6 +20,7 @@ pub struct Sizes {
 }
 
 /// The first statement's tokens: how many they are, and how deep their parentheses nest.
+#[derive(Clone, Copy)]
 pub struct Run {
     pub len: usize,
     pub nesting: u32,
@@ -31,19 +33,16 @@ pub fn first_run(toks: &[Tok]) -> Run
     ensures run { IsFirstRun (kinds_of toks.now) result.len }
     ensures nesting { IsLeastDepth (take result.len (kinds_of toks.now)) result.nesting }
 {
-    let mut open = 0u32;
-    let mut close = 0u32;
+    let mut opened = 0;
+    let mut closed = 0;
     let mut nesting = 0u32;
-    for i in 0..toks.len() {
-        match &toks[i].kind {
-            TokKind::Symbol(b';') => return Run { len: i + 1, nesting },
-            TokKind::Symbol(b'(') => {
-                open += 1;
-                nesting = nesting.max(open.saturating_sub(close));
-            }
-            TokKind::Symbol(b')') => close += 1,
-            _ => {}
+    for (i, tok) in toks.iter().enumerate() {
+        if is_symbol(&tok.kind, b';') {
+            return Run { len: i + 1, nesting };
         }
+        opened += u32::from(is_symbol(&tok.kind, b'('));
+        closed += u32::from(is_symbol(&tok.kind, b')'));
+        nesting = nesting.max(opened.saturating_sub(closed));
     }
     Run { len: toks.len(), nesting }
 }
