@@ -19,13 +19,12 @@ const MOST: usize = PROGRAM_LIMIT + 1;
 /// Runs what `words` ask for: `run PROGRAM` reads the program file PROGRAM of `files`, reads the corpus
 /// to its end and writes to `out` the line of each document, in the corpus's order.
 ///
-/// The words match where they are `run` and one more word. Of the program file at most 1,048,577 bytes
-/// are read; a program with a fault has the status of its first one, in the order of `ProgramFault`, and
-/// nothing of the corpus is read then. A status of 1 to 4 has its one line on
-/// `err`. With the statuses 1 and 2 nothing is written to `out`; with 0, 3 and 4 all lines of the
-/// documents before the bad line, or before the end, are written and flushed; with 5 and after
-/// want of memory a prefix of them. It holds one line of the corpus, and one piece of output beyond
-/// the lines of one document.
+/// The words match where they are `run` and one more word. At most 1,048,577 bytes of the program file
+/// are read, and a program with a fault is refused for its first one (`ProgramFault`). A status of 1 to
+/// 4 has its one line on `err`. With the statuses 1 and 2 nothing is read of the corpus and nothing is
+/// written to `out`; with 0, 3 and 4 all lines of the documents before the bad line, or before the end,
+/// are written and flushed; with 5 and after want of memory a prefix of them. It holds one line of the
+/// corpus, and one piece of output beyond the lines of one document.
 ///
 /// Meaning: `Outcome`, `specs/Outcome.antt`; docs/FORMATS.md, "Exit status and standard error".
 pub fn aqlx<F: Files, S: Source, O: Sink, E: Sink>(
