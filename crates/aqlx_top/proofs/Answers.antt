@@ -1,32 +1,28 @@
 -- From what was carried out and reported to the promise of the top call.
-use Rattle.std.proofs.Common.{◌≡◌, ◌≢◌, ℕ, ◌+◌, ◌<◌, ◌≤◌, true, false, Bool, List, [], ◌∷◌, ◌++◌, length, take, ap, ap₂, sym, subst, ◌∙◌, refl, arith, length-append, append_assoc, Option, Some, None, Result, Ok, Err, IsErr, IfSome, IsSome, IfOk, OnErr, IsSomeAnd, if◌then◌else◌, ◌||◌, All, inl, inr, ◌⊎◌}
-use Rattle.std.proofs.lemmas.List.{append-nil, take_all, length-take}
+use Rattle.std.proofs.Common.{◌≡◌, ◌≢◌, ℕ, ◌+◌, ◌<◌, ◌≤◌, true, false, Bool, List, [], ◌∷◌, ◌++◌, length, take, ap, sym, subst, ◌∙◌, refl, arith, length-append, append_assoc, Option, Some, None, Result, Ok, Err, IsErr, IfSome, IfOk, OnErr, IsSomeAnd, if◌then◌else◌, ◌||◌, All, inl, inr, ◌⊎◌}
+use Rattle.std.proofs.lemmas.List.{append-nil}
 use Rattle.std.proofs.lemmas.List.Elements.{All-append, All-head, All-tail, All-nil, All-cons}
-use Rattle.std.proofs.lemmas.Bool.{lt-ltb, le-ltb, ltb-true}
+use Rattle.std.proofs.lemmas.Bool.{lt-ltb, ltb-true}
 use Rattle.std.specs.Io.KnownBytes.{Appends, Consumes, IsAtEnd}
 use Rattle.aql_io.specs.Bytes.{Names}
 use Rattle.span_token.specs.Documents.{Doc}
 use Rattle.span_token.specs.declared.refusal.OutOfMemory.{OutOfMemory}
 use Rattle.corpus_json.specs.declared.limits.TheConstants.{LINE_LIMIT, CORPUS_LIMIT}
 use Rattle.corpus_json.specs.Documents.{is_bad_line}
-use Rattle.corpus_json.specs.Lines.{is_too_long}
-use Rattle.corpus_json.specs.Lines.{lines_of, last_line, joined, cut, HasNoLf, BeginsTooLong}
+use Rattle.corpus_json.specs.Lines.{is_too_long, lines_of, last_line, joined, cut, HasNoLf, BeginsTooLong}
 use Rattle.corpus_json.proofs.LineCuts.{joined-cut, cut-no_lf, lines_of-joined, lines_of-rest, lines_of-too_long}
-use Rattle.aql_regex_extract.specs.Faults.{IsPattern}
 use Rattle.aqlx_top.specs.declared.status.Status.{Status}
 use Rattle.aqlx_top.specs.declared.status.Status.TheVariants.{Done, Program as Refused, Usage, Corpus, ReadFault, WriteFault}
-use Rattle.aqlx_top.specs.declared.status.ProgramFault.TheVariants.{Syntax}
+use Rattle.aqlx_top.specs.declared.status.ProgramFault.{ProgramFault}
 use Rattle.aqlx_top.specs.declared.status.CorpusFault.{CorpusFault}
 use Rattle.aqlx_top.specs.declared.status.CorpusFault.TheVariants.{BadLine, LineLong, CorpusLarge}
-use Rattle.aqlx_top.specs.Devices.{FilesEnds, SourceEnds, SinkEnds, FilesFailed, SourceFailed, SinkFailed, Gained, IsUntouched}
-use Rattle.aqlx_top.specs.Outcome.{Call, IsCalledFor, RanTo, RanTowards, WroteFront, StoppedBefore, HasCauseOf, LineFailed, IsAnswered, IsOfDocuments, HasNoFault, IsAccepted, IsDoneOrWanting, Outcome, RanForm, RanFormInPart, RanFile, RanFileInPart, IsFileRunTo, IsFileInPart, IsTextRunTo, IsTextInPart, program_of, call_of}
-use Rattle.aqlx_top.specs.ProgramFile.{IsFrontOf}
-use Rattle.aqlx_top.specs.Progress.{InPart, Came, IsRunTo, written_for}
-use Rattle.row_values.specs.Outputs.{OutputNames}
-use Rattle.aqlx_top.specs.FirstForm.{Form, IsFirstForm}
-use Rattle.aqlx_top.specs.Run.{Program, line_of, line_for, output_of}
+use Rattle.aqlx_top.specs.Devices.{SourceEnds, SinkEnds, FilesFailed, SinkFailed, Gained, IsUntouched}
+use Rattle.aqlx_top.specs.Outcome.{Call, IsHeldAs, IsCalledFor, IsCalledWith, RanTo, WroteFront, HasCauseOf, IsAnswered, IsOfDocuments, HasNoFault, IsRefusedOrWanting, IsDoneOrWanting, Outcome}
+use Rattle.aqlx_top.specs.ProgramFaults.{HasFault, IsFaultless}
+use Rattle.aqlx_top.specs.Progress.{InPart, Came, written_for}
+use Rattle.aqlx_top.specs.Run.{Program, line_of}
 use Rattle.aqlx_top.specs.Statuses.{IsToldAs, HasLine}
-use Rattle.aqlx_top.specs.Taken.{How, at_end, failed, at_limit, left_off, is_at_end, IsTaken, HasNoBadLine, IsFirstBad, IsStatusOf}
+use Rattle.aqlx_top.specs.Taken.{How, at_end, failed, at_limit, left_off, is_at_end, HasNoBadLine, IsFirstBad}
 use Rattle.aqlx_top.specs.Words.{IsRun, IsNoRun}
 use Rattle.aqlx_top.proofs.Sinks.{appends_nothing}
 
@@ -54,7 +50,7 @@ front_of_run call status run =
 -- whatever the cause of a status is, a prefix is written
 pub front_of_cause : (call : Call) (status : Status) → HasCauseOf call status → WroteFront call
 front_of_cause call Done cause = front_of_run call Done cause
-front_of_cause call (Refused (Syntax fault)) cause = inl (gained_nothing call.out cause.2.idle.untouched)
+front_of_cause call (Refused fault) cause = inl (gained_nothing call.out cause.idle.untouched)
 front_of_cause call Usage cause = inl (gained_nothing call.out cause.1.untouched)
 front_of_cause call (Corpus fault) cause = front_of_run call (Corpus fault) cause
 front_of_cause call ReadFault cause = elim cause [ inl stopped ↦ inl (gained_nothing call.out stopped.1.idle.untouched) | inr run ↦ front_of_run call ReadFault run ]
@@ -73,7 +69,7 @@ pub answered_of : (call : Call) (err : SinkEnds) (status told : Status) → HasC
 answered_of call err status told cause reported =
     elim reported [
       | inl itself ↦ rw itself.0 (told_as_itself call err status cause itself.1)
-      | inr broken ↦ rw broken.0 (inr (record { replaced = status; cause = cause; failed = broken.1; part = broken.2 }))
+      | inr broken ↦ rw broken.told_is (inr (record { replaced = status; has_line = broken.has_line; cause = cause; failed = broken.failed; part = broken.part }))
     ]
 
 -- whatever is answered, a prefix is written
@@ -90,7 +86,7 @@ front_of call err (Err e) a = a.0
 -- words that ask for no run have the status of usage alone
 usage_alone : (call : Call) (status : Status) → IsNoRun call.words → HasCauseOf call status → status ≡ Usage
 usage_alone call Done none cause = absurd (none cause.called.name cause.called.words)
-usage_alone call (Refused (Syntax fault)) none cause = absurd (none cause.2.name cause.2.words)
+usage_alone call (Refused fault) none cause = absurd (none cause.name cause.words)
 usage_alone call Usage none cause = refl
 usage_alone call (Corpus fault) none cause = absurd (none cause.called.name cause.called.words)
 usage_alone call ReadFault none cause = elim cause [ inl stopped ↦ absurd (none stopped.1.name stopped.1.words) | inr run ↦ absurd (none run.called.name run.called.words) ]
@@ -195,135 +191,91 @@ no_corpus_fault piece corpus out CorpusLarge came of_documents =
     let below = good.0 in
     absurd (omega arith)
 
--- without a fault, with right words, a program that is read and a corpus of documents, all is done
+-- words name one file
+one_name : (words : List (List ℕ)) (a b : List ℕ) → IsRun words a → IsRun words b → a ≡ b
+one_name words a b run other = let e = sym run ∙ other in cc
+
+-- a file that tells its text holds that text alone
+told_text : (told : Option Names) (name text other : List ℕ) → IsSomeAnd told (λ names. names name ≡ Some text)
+    → IfSome told (λ names. names name ≡ Some other) → other ≡ text
+told_text None name text other tells held = absurd tells
+told_text (Some names) name text other tells held = let e : ◌≡◌ {A = Option (List ℕ)} (Some other) (Some text) = sym held ∙ tells in cc
+
+same_text : (call : Call) (text other name : List ℕ) → IsCalledWith call text → IsRun call.words name → IsHeldAs call.files name other → other ≡ text
+same_text call text other name with_text run held =
+    told_text call.files.told with_text.name text other with_text.file
+    (subst (λ (n : List ℕ). IsHeldAs call.files n other) (one_name call.words name with_text.name run with_text.words) held)
+
+-- a text that holds a program isn't one with a fault
+run_has_no_fault : (call : Call) (text : List ℕ) (program : Program) → IsCalledFor call program → IsCalledWith call text → IsFaultless text
+run_has_no_fault call text program called with_text =
+    subst IsFaultless (same_text call text called.text called.name with_text called.words called.file) called.holds.faultless
+
+-- the cause of a status where the text has a fault
+refused_cause : (call : Call) (status : Status) (text : List ℕ) (fault : ProgramFault) → IsCalledWith call text → HasFault text fault → HasCauseOf call status
+    → (status ≡ Refused fault) ⊎ ((status ≡ ReadFault) × FilesFailed call.files)
+refused_cause call Done text fault with_text has cause = absurd (run_has_no_fault call text cause.program cause.called with_text fault has)
+refused_cause call (Refused other) text fault with_text has cause =
+    let same = same_text call text cause.text cause.name with_text cause.words cause.file in
+    inl (ap Refused (sym (cause.cause.only fault (subst (λ (t : List ℕ). HasFault t fault) (sym same) has))))
+refused_cause call Usage text fault with_text has cause = absurd (cause.0 with_text.name with_text.words)
+refused_cause call (Corpus other) text fault with_text has cause = absurd (run_has_no_fault call text cause.program cause.called with_text fault has)
+refused_cause call ReadFault text fault with_text has cause =
+    elim cause [
+      | inl stopped ↦ inr (refl, stopped.0)
+      | inr run ↦ absurd (run_has_no_fault call text run.program run.called with_text fault has)
+    ]
+refused_cause call WriteFault text fault with_text has cause = absurd (run_has_no_fault call text cause.1.program cause.1.called with_text fault has)
+
+as_result : (call : Call) (err : SinkEnds) (status : Status) (fault : ProgramFault)
+    → (status ≡ Refused fault) ⊎ ((status ≡ ReadFault) × FilesFailed call.files) → IsRefusedOrWanting call err fault (Ok status)
+as_result call err status fault found =
+    elim found [ inl refused ↦ inl (ap (λ (s : Status). Ok s) refused) | inr unread ↦ inr (inl (ap (λ (s : Status). Ok s) unread.0, unread.1)) ]
+
+-- a text that has a fault is refused for it, or the file, the line's writing or memory failed
+pub refused_of : (call : Call) (err : SinkEnds) (result : Result Status OutOfMemory) → IsAnswered call err result
+    → (text : List ℕ) (fault : ProgramFault) → IsCalledWith call text → HasFault text fault → IsRefusedOrWanting call err fault result
+refused_of call err (Ok Done) a text fault with_text has = as_result call err Done fault (refused_cause call Done text fault with_text has a.0)
+refused_of call err (Ok (Refused other)) a text fault with_text has =
+    as_result call err (Refused other) fault (refused_cause call (Refused other) text fault with_text has a.0)
+refused_of call err (Ok Usage) a text fault with_text has = as_result call err Usage fault (refused_cause call Usage text fault with_text has a.0)
+refused_of call err (Ok (Corpus other)) a text fault with_text has =
+    as_result call err (Corpus other) fault (refused_cause call (Corpus other) text fault with_text has a.0)
+refused_of call err (Ok ReadFault) a text fault with_text has = as_result call err ReadFault fault (refused_cause call ReadFault text fault with_text has a.0)
+refused_of call err (Ok WriteFault) a text fault with_text has =
+    elim a [
+      | inl itself ↦ as_result call err WriteFault fault (refused_cause call WriteFault text fault with_text has itself.0)
+      | inr line ↦ inr (inr (inl (refl, line.failed)))
+    ]
+refused_of call err (Err e) a text fault with_text has = inr (inr (inr refl))
+
+-- with right words, a text without a fault, a corpus of documents and no failed call, all is done
 pub complete_of : (call : Call) (err : SinkEnds) (result : Result Status OutOfMemory) → IsAnswered call err result
-    → (name : List ℕ) → IsRun call.words name → IsAccepted result → IsOfDocuments call.corpus → HasNoFault call err → IsDoneOrWanting result
-complete_of call err (Ok Done) a name words accepted of_documents no_fault = inl refl
-complete_of call err (Ok (Refused fault)) a name words accepted of_documents no_fault = absurd (accepted fault refl)
-complete_of call err (Ok Usage) a name words accepted of_documents no_fault = absurd (a.0.0 name words)
-complete_of call err (Ok (Corpus fault)) a name words accepted of_documents no_fault =
+    → (text : List ℕ) → IsCalledWith call text → IsFaultless text → IsOfDocuments call.corpus → HasNoFault call err → IsDoneOrWanting result
+complete_of call err (Ok Done) a text with_text faultless of_documents no_fault = inl refl
+complete_of call err (Ok (Refused fault)) a text with_text faultless of_documents no_fault =
+    let same = same_text call text a.0.text a.0.name with_text a.0.words a.0.file in
+    absurd (faultless fault (subst (λ (t : List ℕ). HasFault t fault) same a.0.cause.has))
+complete_of call err (Ok Usage) a text with_text faultless of_documents no_fault = absurd (a.0.0 with_text.name with_text.words)
+complete_of call err (Ok (Corpus fault)) a text with_text faultless of_documents no_fault =
     absurd (no_corpus_fault (line_of a.0.program) call.corpus call.out fault a.0.ran of_documents)
-complete_of call err (Ok ReadFault) a name words accepted of_documents no_fault =
+complete_of call err (Ok ReadFault) a text with_text faultless of_documents no_fault =
     elim a.0 [
       | inl stopped ↦ absurd (no_fault.files stopped.0)
       | inr run ↦ absurd (no_fault.corpus (run.ran.taken.broken run.ran.status_is.0).0)
     ]
-complete_of call err (Ok WriteFault) a name words accepted of_documents no_fault =
+complete_of call err (Ok WriteFault) a text with_text faultless of_documents no_fault =
     elim a [ inl itself ↦ absurd (no_fault.out itself.0.0) | inr line ↦ absurd (no_fault.line line.failed) ]
-complete_of call err (Err e) a name words accepted of_documents no_fault = inr refl
+complete_of call err (Err e) a text with_text faultless of_documents no_fault = inr refl
 
 pub outcome_of : (call : Call) (err : SinkEnds) (result : Result Status OutOfMemory) → IsAnswered call err result → Outcome call err result
-outcome_of call err result a =
-    record { answered = a; front = front_of call err result a; usage = usage_of call err result a; complete = complete_of call err result a }
-
-length_below : (held : List ℕ) (most : ℕ) → length (take most held) < most → length held ≤ most
-length_below held most few = let e = length-take most held in omega arith
-
--- a file whose front is shorter than what was asked for is that front
-whole_front : (file : Option (List ℕ)) (most : ℕ) (bytes : List ℕ) → length bytes < most → IsFrontOf file most bytes → file ≡ Some bytes
-whole_front None most bytes few front = absurd front
-whole_front (Some held) most bytes few front =
-    let few_held : length (take most held) < most = rw front at few in
-    ap (λ (bs : List ℕ). Option.Some bs) (sym (front ∙ take_all most held (length_below held most few_held)))
-
-pub file_of_front : (told : Option Names) (name : List ℕ) (most : ℕ) (bytes : List ℕ) → length bytes < most
-    → IfSome told (λ names. IsFrontOf (names name) most bytes) → IfSome told (λ names. names name ≡ Some bytes)
-file_of_front None name most bytes few front = tt
-file_of_front (Some names) name most bytes few front = whole_front (names name) most bytes few front
-
--- a file of which a front was read is there
-held_at : (file : Option (List ℕ)) (most : ℕ) (bytes : List ℕ) → IsFrontOf file most bytes → IsSome file
-held_at None most bytes front = absurd front
-held_at (Some held) most bytes front = refl
-
-held_of : (told : Option Names) (name : List ℕ) (most : ℕ) (bytes : List ℕ)
-    → IfSome told (λ names. IsFrontOf (names name) most bytes) → IfSome told (λ names. IsSome (names name))
-held_of None name most bytes front = tt
-held_of (Some names) name most bytes front = held_at (names name) most bytes front
-
--- a program text that ran
-pub text_run : (outputs : List OutputNames) (pattern text : List ℕ) (form : Form) (corpus : SourceEnds) (out : SinkEnds) (r : Result Status OutOfMemory)
-    → IsFirstForm text form → length text ≤ 2000 → IsPattern form.pattern → outputs ≡ output_of (program_of form) ∷ [] → pattern ≡ form.pattern
-    → IfOk r (IsRunTo (line_for outputs pattern) corpus out) → IfOk r (IsTextRunTo text corpus out)
-text_run outputs pattern text form corpus out (Ok status) reads few is_pattern outputs_are pattern_is ran =
-    inr (record { form = form; reads = reads; few = few; is_pattern = is_pattern; ran = subst (λ (piece : Doc → List ℕ). IsRunTo piece corpus out status) (ap₂ line_for outputs_are pattern_is) ran })
-text_run outputs pattern text form corpus out (Err e) reads few is_pattern outputs_are pattern_is ran = tt
-
-pub text_part : (outputs : List OutputNames) (pattern text : List ℕ) (form : Form) (corpus : SourceEnds) (out : SinkEnds) (r : Result Status OutOfMemory)
-    → IsFirstForm text form → length text ≤ 2000 → IsPattern form.pattern → outputs ≡ output_of (program_of form) ∷ [] → pattern ≡ form.pattern
-    → OnErr r (InPart (line_for outputs pattern) corpus out.held_before out.held_after) → OnErr r (IsTextInPart text corpus out)
-text_part outputs pattern text form corpus out (Ok status) reads few is_pattern outputs_are pattern_is part = tt
-text_part outputs pattern text form corpus out (Err e) reads few is_pattern outputs_are pattern_is part =
-    inr (record { form = form; reads = reads; few = few; is_pattern = is_pattern; ran = subst (λ (piece : Doc → List ℕ). InPart piece corpus out.held_before out.held_after) (ap₂ line_for outputs_are pattern_is) part })
-
--- a program file whose text ran
-pub file_run : (name bytes : List ℕ) (files : FilesEnds) (corpus : SourceEnds) (out : SinkEnds) (r : Result Status OutOfMemory)
-    → IfSome files.told (λ names. IsFrontOf (names name) 2001 bytes)
-    → IfOk r (IsTextRunTo bytes corpus out) → IfOk r (IsFileRunTo name files corpus out)
-file_run name bytes files corpus out (Ok status) front ran =
-    elim ran [
-      | inl refused ↦ inr (inl (refused.0, held_of files.told name 2001 bytes front, refused.1))
-      | inr form ↦
-          let few : length bytes < 2001 = let f = form.few in omega arith in
-          inr (inr (record { text = bytes; file = file_of_front files.told name 2001 bytes few front; ran = form }))
-    ]
-file_run name bytes files corpus out (Err e) front ran = tt
-
-pub file_part : (name bytes : List ℕ) (files : FilesEnds) (corpus : SourceEnds) (out : SinkEnds) (r : Result Status OutOfMemory)
-    → IfSome files.told (λ names. IsFrontOf (names name) 2001 bytes)
-    → OnErr r (IsTextInPart bytes corpus out) → OnErr r (IsFileInPart name files corpus out)
-file_part name bytes files corpus out (Ok status) front part = tt
-file_part name bytes files corpus out (Err e) front part =
-    elim part [
-      | inl nothing ↦ inl nothing
-      | inr form ↦
-          let few : length bytes < 2001 = let f = form.few in omega arith in
-          inr (record { text = bytes; file = file_of_front files.told name 2001 bytes few front; ran = form })
-    ]
-
-called_by : (words : List (List ℕ)) (name : List ℕ) (files : FilesEnds) (corpus : SourceEnds) (out : SinkEnds) (text : List ℕ) (form : Form)
-    → IsRun words name → IfSome files.told (λ names. names name ≡ Some text) → IsFirstForm text form → length text ≤ 2000 → IsPattern form.pattern
-    → IsCalledFor (call_of words files corpus out) (program_of form)
-called_by words name files corpus out text form run file reads few is_pattern =
-    record { name = name; text = text; form = form; words = run; file = file; reads = reads; few = few; is_pattern = is_pattern; stands_for = refl }
-
-cause_of_run : (words : List (List ℕ)) (name : List ℕ) (files : FilesEnds) (corpus : SourceEnds) (out : SinkEnds) (status : Status)
-    → IsRun words name → RanFile name files corpus out status → HasCauseOf (call_of words files corpus out) status
-cause_of_run words name files corpus out Done run f =
-    record { program = program_of f.ran.form; called = called_by words name files corpus out f.text f.ran.form run f.file f.ran.reads f.ran.few f.ran.is_pattern; ran = f.ran.ran }
-cause_of_run words name files corpus out (Refused fault) run f = absurd f.ran.ran.status_is
-cause_of_run words name files corpus out Usage run f = absurd f.ran.ran.status_is
-cause_of_run words name files corpus out (Corpus fault) run f =
-    record { program = program_of f.ran.form; called = called_by words name files corpus out f.text f.ran.form run f.file f.ran.reads f.ran.few f.ran.is_pattern; ran = f.ran.ran }
-cause_of_run words name files corpus out ReadFault run f =
-    inr (record { program = program_of f.ran.form; called = called_by words name files corpus out f.text f.ran.form run f.file f.ran.reads f.ran.few f.ran.is_pattern; ran = f.ran.ran })
-cause_of_run words name files corpus out WriteFault run f =
-    (f.ran.ran.0, record { program = program_of f.ran.form; called = called_by words name files corpus out f.text f.ran.form run f.file f.ran.reads f.ran.few f.ran.is_pattern; ran = f.ran.ran.1 })
-
-cause_of_file : (words : List (List ℕ)) (name : List ℕ) (files : FilesEnds) (corpus : SourceEnds) (out : SinkEnds) (status : Status)
-    → IsRun words name → IsFileRunTo name files corpus out status → HasCauseOf (call_of words files corpus out) status
-cause_of_file words name files corpus out status run came =
-    elim came [
-      | inl unread ↦ rw unread.0 (inl (unread.1, record { name = name; words = run; idle = unread.2 }))
-      | inr read ↦ elim read [
-        | inl refused ↦ rw refused.0 (refl, refl, record { name = name; words = run; held = refused.1; idle = refused.2 })
-        | inr f ↦ cause_of_run words name files corpus out status run f
-      ]
-    ]
-
-pub carried_out : (words : List (List ℕ)) (name : List ℕ) (files : FilesEnds) (corpus : SourceEnds) (out : SinkEnds) (r : Result Status OutOfMemory)
-    → IsRun words name → IfOk r (IsFileRunTo name files corpus out) → IfOk r (HasCauseOf (call_of words files corpus out))
-carried_out words name files corpus out (Ok status) run came = cause_of_file words name files corpus out status run came
-carried_out words name files corpus out (Err e) run came = tt
-
-pub carried_out_in_part : (words : List (List ℕ)) (name : List ℕ) (files : FilesEnds) (corpus : SourceEnds) (out : SinkEnds) (r : Result Status OutOfMemory)
-    → IsRun words name → OnErr r (IsFileInPart name files corpus out) → OnErr r (WroteFront (call_of words files corpus out))
-carried_out_in_part words name files corpus out (Ok status) run part = tt
-carried_out_in_part words name files corpus out (Err e) run part =
-    elim part [
-      | inl nothing ↦ inl nothing
-      | inr f ↦ inr (record { program = program_of f.ran.form; called = called_by words name files corpus out f.text f.ran.form run f.file f.ran.reads f.ran.few f.ran.is_pattern; ran = f.ran.ran })
-    ]
+outcome_of call err result a = record {
+  answered = a;
+  front = front_of call err result a;
+  usage = usage_of call err result a;
+  refused = refused_of call err result a;
+  complete = complete_of call err result a;
+}
 
 -- what was carried out, and what was told of it
 pub outcome_told : (call : Call) (err : SinkEnds) (status : Status) (r : Result Status OutOfMemory) → HasCauseOf call status

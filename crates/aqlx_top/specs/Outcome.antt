@@ -1,20 +1,17 @@
 -- The promise of the top call: what each answer says of the words, the files, the corpus and what was written.
-use Rattle.std.specs.Prelude.{◌≡◌, ◌≢◌, ℕ, ◌<◌, ◌≤◌, ◌⊎◌, true, List, [], length, take, Option, Some, Result, Ok, Err, IfSome, IsSome, IsSomeAnd, IsErr}
+use Rattle.std.specs.Prelude.{◌≡◌, ◌≢◌, ℕ, ◌<◌, ◌≤◌, ◌⊎◌, true, List, [], length, take, Option, Some, Result, Ok, Err, IfSome, IsSomeAnd, IsErr}
 use Rattle.span_token.specs.declared.refusal.OutOfMemory.{OutOfMemory}
 use Rattle.corpus_json.specs.declared.limits.TheConstants.{CORPUS_LIMIT}
 use Rattle.corpus_json.specs.Lines.{lines_of}
 use Rattle.aqlx_top.specs.declared.status.Status.{Status}
 use Rattle.aqlx_top.specs.declared.status.Status.TheVariants.{Done, Program as Refused, Usage, Corpus, ReadFault, WriteFault}
 use Rattle.aqlx_top.specs.declared.status.ProgramFault.{ProgramFault}
-use Rattle.aqlx_top.specs.declared.status.ProgramFault.TheVariants.{Syntax}
-use Rattle.aqlx_top.specs.declared.status.CorpusFault.{CorpusFault}
 use Rattle.aqlx_top.specs.Devices.{FilesEnds, SourceEnds, SinkEnds, FilesFailed, SourceFailed, SinkFailed, Gained, IsUntouched, IsUnread}
-use Rattle.aql_regex_extract.specs.Faults.{IsPattern}
-use Rattle.aqlx_top.specs.FirstForm.{Form, IsFirstForm}
+use Rattle.aqlx_top.specs.ProgramFaults.{HasFault, HasOnlyFault, IsFaultless, HoldsProgram}
 use Rattle.aqlx_top.specs.Progress.{IsRunTo}
 use Rattle.aqlx_top.specs.Run.{Program, Ran, RanInPart, line_of}
+use Rattle.aqlx_top.specs.Statuses.{HasLine, HasLinePart, message_of}
 use Rattle.aqlx_top.specs.Taken.{HasNoBadLine}
-use Rattle.aqlx_top.specs.Statuses.{HasLine, HasLinePart}
 use Rattle.aqlx_top.specs.Words.{IsRun, IsNoRun}
 
 -- what a call is given, and what it did, standard error apart
@@ -24,25 +21,21 @@ pub record Call : Type 0 where
   pub corpus : SourceEnds
   pub out : SinkEnds
 
--- the program that a form stands for
-abbrev pub program_of : Form → Program
-program_of form = record { view = form.view; pattern = form.pattern; column = form.column }
-
 -- the call of these words over these objects
 abbrev pub call_of : List (List ℕ) → FilesEnds → SourceEnds → SinkEnds → Call
 call_of words files corpus out = record { words = words; files = files; corpus = corpus; out = out }
+
+-- the file of this name holds this text, where the files tell what they hold
+abbrev pub IsHeldAs : FilesEnds → List ℕ → List ℕ → Type 0
+IsHeldAs files name text = IfSome files.told (λ names. names name ≡ Some text)
 
 -- the words name a program file that holds this program
 pub record IsCalledFor (call : Call) (program : Program) : Type 0 where
   pub name : List ℕ
   pub text : List ℕ
-  pub form : Form
   pub words : IsRun call.words name
-  pub file : IfSome call.files.told (λ names. names name ≡ Some text)
-  pub reads : IsFirstForm text form
-  pub few : length text ≤ 2000
-  pub is_pattern : IsPattern form.pattern
-  pub stands_for : program ≡ program_of form
+  pub file : IsHeldAs call.files name text
+  pub holds : HoldsProgram text program
 
 -- the called program ran to this status, and all that it means before it is written and flushed
 pub record RanTo (call : Call) (status : Status) : Type 0 where
@@ -56,62 +49,46 @@ pub record RanTowards (call : Call) : Type 0 where
   pub called : IsCalledFor call program
   pub ran : RanInPart program call.corpus call.out
 
--- the one refusal of a program: its first statement, on its first line
-abbrev pub IsRefusal : Status → Type 0
-IsRefusal status = status ≡ Refused (Syntax (record { statement = 1; line = 1 }))
-
 -- nothing was read of the corpus, and nothing was done with the output
 pub record IsIdle (corpus : SourceEnds) (out : SinkEnds) : Type 0 where
   pub unread : IsUnread corpus
   pub untouched : IsUntouched out
 
--- the text is a program of the one form, and it ran
-pub record RanForm (text : List ℕ) (corpus : SourceEnds) (out : SinkEnds) (status : Status) : Type 0 where
-  pub form : Form
-  pub reads : IsFirstForm text form
-  pub few : length text ≤ 2000
-  pub is_pattern : IsPattern form.pattern
-  pub ran : IsRunTo (line_of (program_of form)) corpus out status
+-- the text holds a program, and it ran
+pub record RanText (text : List ℕ) (corpus : SourceEnds) (out : SinkEnds) (status : Status) : Type 0 where
+  pub program : Program
+  pub holds : HoldsProgram text program
+  pub ran : IsRunTo (line_of program) corpus out status
 
--- the text is a program of the one form, and it ran in part
-pub record RanFormInPart (text : List ℕ) (corpus : SourceEnds) (out : SinkEnds) : Type 0 where
-  pub form : Form
-  pub reads : IsFirstForm text form
-  pub few : length text ≤ 2000
-  pub is_pattern : IsPattern form.pattern
-  pub ran : RanInPart (program_of form) corpus out
+-- the text holds a program, and it ran in part
+pub record RanTextInPart (text : List ℕ) (corpus : SourceEnds) (out : SinkEnds) : Type 0 where
+  pub program : Program
+  pub holds : HoldsProgram text program
+  pub ran : RanInPart program corpus out
 
--- what a program text comes to: it is refused and nothing is done, or it ran
+-- the text is refused for its fault, and nothing is done
+pub record RefusedText (text : List ℕ) (corpus : SourceEnds) (out : SinkEnds) (status : Status) : Type 0 where
+  pub fault : ProgramFault
+  pub told : status ≡ Refused fault
+  pub cause : HasOnlyFault text fault
+  pub idle : IsIdle corpus out
+
+-- what a program text comes to: it is refused, or it ran
 abbrev pub IsTextRunTo : List ℕ → SourceEnds → SinkEnds → Status → Type 0
-IsTextRunTo text corpus out status = (IsRefusal status × IsIdle corpus out) ⊎ RanForm text corpus out status
+IsTextRunTo text corpus out status = RefusedText text corpus out status ⊎ RanText text corpus out status
 
 abbrev pub IsTextInPart : List ℕ → SourceEnds → SinkEnds → Type 0
-IsTextInPart text corpus out = Gained out [] ⊎ RanFormInPart text corpus out
+IsTextInPart text corpus out = Gained out [] ⊎ RanTextInPart text corpus out
 
--- the file holds a text that ran
-pub record RanFile (name : List ℕ) (files : FilesEnds) (corpus : SourceEnds) (out : SinkEnds) (status : Status) : Type 0 where
-  pub text : List ℕ
-  pub file : IfSome files.told (λ names. names name ≡ Some text)
-  pub ran : RanForm text corpus out status
-
--- the file holds a text that ran in part
-pub record RanFileInPart (name : List ℕ) (files : FilesEnds) (corpus : SourceEnds) (out : SinkEnds) : Type 0 where
-  pub text : List ℕ
-  pub file : IfSome files.told (λ names. names name ≡ Some text)
-  pub ran : RanFormInPart text corpus out
-
--- there is a file of this name
-abbrev pub IsHeld : List ℕ → FilesEnds → Type 0
-IsHeld name files = IfSome files.told (λ names. IsSome (names name))
-
--- what a program file comes to: it can't be read, or its program is refused, or it ran
+-- what a program file comes to: it can't be read, or it holds a text, which came to this
 abbrev pub IsFileRunTo : List ℕ → FilesEnds → SourceEnds → SinkEnds → Status → Type 0
 IsFileRunTo name files corpus out status =
     ((status ≡ ReadFault) × FilesFailed files × IsIdle corpus out)
-    ⊎ ((IsRefusal status × IsHeld name files × IsIdle corpus out) ⊎ RanFile name files corpus out status)
+    ⊎ ((text : List ℕ) × IsHeldAs files name text × IsTextRunTo text corpus out status)
 
 abbrev pub IsFileInPart : List ℕ → FilesEnds → SourceEnds → SinkEnds → Type 0
-IsFileInPart name files corpus out = Gained out [] ⊎ RanFileInPart name files corpus out
+IsFileInPart name files corpus out =
+    Gained out [] ⊎ ((text : List ℕ) × IsHeldAs files name text × RanTextInPart text corpus out)
 
 -- whatever a call answers: what it wrote is nothing, or a prefix of what the called program means
 abbrev pub WroteFront : Call → Type 0
@@ -123,25 +100,28 @@ pub record StoppedBefore (call : Call) : Type 0 where
   pub words : IsRun call.words name
   pub idle : IsIdle call.corpus call.out
 
--- the words name a file that is there, whose program is refused
-pub record RefusedBefore (call : Call) : Type 0 where
+-- the words name a file whose text has this fault and no other, and nothing is read of the corpus and written
+pub record RefusedFor (call : Call) (fault : ProgramFault) : Type 0 where
   pub name : List ℕ
+  pub text : List ℕ
   pub words : IsRun call.words name
-  pub held : IsHeld name call.files
+  pub file : IsHeldAs call.files name text
+  pub cause : HasOnlyFault text fault
   pub idle : IsIdle call.corpus call.out
 
 -- the cause of each status, before its line is written
 abbrev pub HasCauseOf : Call → Status → Type 0
 HasCauseOf call Done = RanTo call Done
-HasCauseOf call (Refused (Syntax fault)) = (fault.statement ≡ 1) × (fault.line ≡ 1) × RefusedBefore call
+HasCauseOf call (Refused fault) = RefusedFor call fault
 HasCauseOf call Usage = IsNoRun call.words × IsIdle call.corpus call.out
 HasCauseOf call (Corpus fault) = RanTo call (Corpus fault)
 HasCauseOf call ReadFault = (FilesFailed call.files × StoppedBefore call) ⊎ RanTo call ReadFault
 HasCauseOf call WriteFault = SinkFailed call.out × RanTowards call
 
--- a status in whose place a failed write of its line is answered
+-- a status that has a line, in whose place a failed write of that line is answered
 pub record LineFailed (call : Call) (err : SinkEnds) : Type 0 where
   pub replaced : Status
+  pub has_line : message_of replaced ≢ []
   pub cause : HasCauseOf call replaced
   pub failed : SinkFailed err
   pub part : HasLinePart err replaced
@@ -163,9 +143,17 @@ pub record HasNoFault (call : Call) (err : SinkEnds) : Type 0 where
   pub out : ¬ SinkFailed call.out
   pub line : ¬ SinkFailed err
 
--- the program that the words name is not refused
-abbrev pub IsAccepted : Result Status OutOfMemory → Type 0
-IsAccepted result = (fault : ProgramFault) → result ≢ Ok (Refused fault)
+-- the words name a file that tells its text
+pub record IsCalledWith (call : Call) (text : List ℕ) : Type 0 where
+  pub name : List ℕ
+  pub words : IsRun call.words name
+  pub file : IsSomeAnd call.files.told (λ names. names name ≡ Some text)
+
+-- the text is refused for this fault, or the file or the line failed, or memory is wanting
+abbrev pub IsRefusedOrWanting : Call → SinkEnds → ProgramFault → Result Status OutOfMemory → Type 0
+IsRefusedOrWanting call err fault result =
+    (result ≡ Ok (Refused fault)) ⊎ ((result ≡ Ok ReadFault) × FilesFailed call.files)
+    ⊎ ((result ≡ Ok WriteFault) × SinkFailed err) ⊎ IsErr result
 
 -- all is done, or memory is wanting
 abbrev pub IsDoneOrWanting : Result Status OutOfMemory → Type 0
@@ -179,5 +167,7 @@ pub record Outcome (call : Call) (err : SinkEnds) (result : Result Status OutOfM
   pub front : WroteFront call
   -- words that ask for no run have the status of usage, or memory or the line's writing failed
   pub usage : IsNoRun call.words → (result ≡ Ok Usage) ⊎ ((result ≡ Ok WriteFault) × SinkFailed err) ⊎ IsErr result
-  -- with right words, a program that is read, a corpus of documents and no fault, all is done or memory is wanting
-  pub complete : (name : List ℕ) → IsRun call.words name → IsAccepted result → IsOfDocuments call.corpus → HasNoFault call err → IsDoneOrWanting result
+  -- a program text that has a fault is refused for it, or the file, the line's writing or memory failed
+  pub refused : (text : List ℕ) (fault : ProgramFault) → IsCalledWith call text → HasFault text fault → IsRefusedOrWanting call err fault result
+  -- with right words, a program text without a fault, a corpus of documents and no failed call, all is done or memory is wanting
+  pub complete : (text : List ℕ) → IsCalledWith call text → IsFaultless text → IsOfDocuments call.corpus → HasNoFault call err → IsDoneOrWanting result

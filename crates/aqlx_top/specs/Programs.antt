@@ -1,16 +1,39 @@
--- A compiled program and the text that it was compiled from.
-use Rattle.std.specs.Prelude.{◌≡◌, ℕ, ◌≤◌, List, [], ◌∷◌, length}
-use Rattle.aql_regex_extract.specs.Faults.{IsPattern}
+-- A compiled program, and what it was compiled from.
+use Rattle.std.specs.Prelude.{◌≡◌, ℕ, List, [], ◌∷◌, ⊤}
+use Rattle.span_token.specs.declared.refusal.Failure.{Failure}
+use Rattle.span_token.specs.declared.refusal.Failure.TheVariants.{OutOfMemory, Fault}
+use Rattle.aql_syntax.specs.Trees.{Statement}
+use Rattle.aqlx_top.specs.declared.one_form.Parts.{Parts}
 use Rattle.aqlx_top.specs.declared.program.Compiled.{Compiled}
-use Rattle.aqlx_top.specs.FirstForm.{Form, IsFirstForm}
-use Rattle.aqlx_top.specs.Outcome.{program_of}
-use Rattle.aqlx_top.specs.Run.{output_of}
+use Rattle.aqlx_top.specs.declared.status.ProgramFault.{ProgramFault}
+use Rattle.aqlx_top.specs.declared.status.ProgramFault.TheVariants.{Unbuilt}
+use Rattle.aqlx_top.specs.OneForm.{AreOf, IsUnbuilt}
+use Rattle.aqlx_top.specs.ProgramFaults.{HoldsProgram}
+use Rattle.aqlx_top.specs.Run.{Program, output_of}
 
--- the text is of the one form, and the compiled program has its output and its pattern
+-- the program that parts stand for
+abbrev pub program_of : Parts → Program
+program_of parts = record { view = parts.view.now; pattern = parts.pattern.now; column = parts.column.now }
+
+-- the compiled program has the program's output and pattern
+pub record IsCompiled (compiled : Compiled) (program : Program) : Type 0 where
+  pub outputs_are : compiled.outputs.items ≡ output_of program ∷ []
+  pub pattern_is : compiled.pattern ≡ program.pattern
+
+-- the text holds a program, and this is it, compiled
 pub record IsCompiledFrom (text : List ℕ) (compiled : Compiled) : Type 0 where
-  pub form : Form
-  pub reads : IsFirstForm text form
-  pub few : length text ≤ 2000
-  pub is_pattern : IsPattern form.pattern
-  pub outputs_are : compiled.outputs.items ≡ output_of (program_of form) ∷ []
-  pub pattern_is : compiled.pattern ≡ form.pattern
+  pub program : Program
+  pub holds : HoldsProgram text program
+  pub is_compiled : IsCompiled compiled program
+
+-- the statements are a program's, and this is it, compiled
+pub record IsBuiltFrom (statements : List Statement) (compiled : Compiled) : Type 0 where
+  pub program : Program
+  pub form : AreOf statements program
+  pub is_compiled : IsCompiled compiled program
+
+-- memory ran out, or this statement is the first that isn't built
+abbrev pub IsUnbuiltFor : List Statement → Failure ProgramFault → Type 0
+IsUnbuiltFor statements OutOfMemory = ⊤
+IsUnbuiltFor statements (Fault (Unbuilt number)) = IsUnbuilt statements number
+IsUnbuiltFor statements (Fault _) = ⊥

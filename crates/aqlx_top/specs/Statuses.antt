@@ -1,11 +1,13 @@
 -- The exit status of each status, and its line on standard error.
-use Rattle.std.specs.Prelude.{◌≡◌, ℕ, ◌⊎◌, List, [], ◌∷◌, ◌++◌, take, codes}
+use Rattle.std.specs.Prelude.{◌≡◌, ◌≢◌, ℕ, ◌⊎◌, List, [], ◌∷◌, ◌++◌, take, codes}
 use Rattle.std.specs.Fmt.{decimal}
 use Rattle.aqlx_top.specs.Devices.{SinkEnds, Gained, IsFlushed, IsUntouched, SinkFailed}
 use Rattle.aqlx_top.specs.declared.status.Status.{Status}
 use Rattle.aqlx_top.specs.declared.status.Status.TheVariants.{Done, Program, Usage, Corpus, ReadFault, WriteFault}
 use Rattle.aqlx_top.specs.declared.status.ProgramFault.{ProgramFault}
-use Rattle.aqlx_top.specs.declared.status.ProgramFault.TheVariants.{Syntax}
+use Rattle.aqlx_top.specs.declared.status.ProgramFault.TheVariants.{Text, Large, Lex, Syntax, Unbuilt}
+use Rattle.aqlx_top.specs.declared.status.What.{What}
+use Rattle.aqlx_top.specs.declared.status.What.TheVariants.{Bytes, Statements, Nesting}
 use Rattle.aqlx_top.specs.declared.status.CorpusFault.{CorpusFault}
 use Rattle.aqlx_top.specs.declared.status.CorpusFault.TheVariants.{BadLine, LineLong, CorpusLarge}
 
@@ -22,8 +24,17 @@ code_of WriteFault = 5
 abbrev pub error_line : List ℕ → List ℕ
 error_line text = codes "aqlx: " ++ text ++ 10 ∷ []
 
+abbrev pub what_text : What → List ℕ
+what_text Bytes = codes "bytes"
+what_text Statements = codes "statements"
+what_text Nesting = codes "nesting"
+
 abbrev pub program_text : ProgramFault → List ℕ
+program_text (Text place) = codes "program is not UTF-8 at byte " ++ decimal place
+program_text (Large what number) = codes "program too large: " ++ what_text what ++ codes " " ++ decimal number
+program_text (Lex fault) = codes "no token at byte " ++ decimal fault.place
 program_text (Syntax fault) = codes "syntax: statement " ++ decimal fault.statement ++ codes ", line " ++ decimal fault.line
+program_text (Unbuilt statement) = codes "statement " ++ decimal statement ++ codes ": not built yet"
 
 abbrev pub corpus_text : CorpusFault → List ℕ
 corpus_text (BadLine line) = codes "corpus line " ++ decimal line ++ codes " is not a document"
@@ -49,11 +60,18 @@ HasLine err status = Gained err (message_of status) × IsFlushed err
 abbrev pub HasLinePart : SinkEnds → Status → Type 0
 HasLinePart err status = (count : ℕ) × Gained err (take count (message_of status))
 
+-- a status has a line, and its writing failed, so that a failed write is told in its place
+pub record LineIsCut (err : SinkEnds) (status told : Status) : Type 0 where
+  pub told_is : told ≡ WriteFault
+  pub has_line : message_of status ≢ []
+  pub failed : SinkFailed err
+  pub part : HasLinePart err status
+
 -- what is answered for a status once its line is written: the status, or a failed write in its place
 abbrev pub IsToldAs : SinkEnds → Status → Status → Type 0
-IsToldAs err status told = ((told ≡ status) × HasLine err status) ⊎ ((told ≡ WriteFault) × SinkFailed err × HasLinePart err status)
+IsToldAs err status told = ((told ≡ status) × HasLine err status) ⊎ LineIsCut err status told
 
 -- the same of a status that has a line
 abbrev pub IsWrittenAs : SinkEnds → Status → Status → Type 0
 IsWrittenAs err status told =
-    ((told ≡ status) × Gained err (message_of status) × IsFlushed err) ⊎ ((told ≡ WriteFault) × SinkFailed err × HasLinePart err status)
+    ((told ≡ status) × Gained err (message_of status) × IsFlushed err) ⊎ LineIsCut err status told

@@ -3,14 +3,17 @@
 //! `aqlx` writes exactly the bytes that the program means on the corpus, in the corpus's order, and
 //! answers each other status only for its named cause; whatever it answers, what it wrote is a prefix
 //! of the defined output. Stands on `aql_io` for files, sources and sinks, on `corpus_json` for lines
-//! and documents, and on `aql_regex_extract` for patterns.
+//! and documents, on `aql_lexer`, `aql_parser` and `aql_syntax` for programs, and on
+//! `aql_regex_extract` for patterns.
 #![tactic(auto)]
 
 mod answer;
 mod extraction;
-mod first_form;
+mod limits;
+mod one_form;
 mod program;
 mod program_file;
+mod program_text;
 mod put;
 mod run;
 mod status;
@@ -20,5 +23,8 @@ mod tests;
 mod top;
 mod words;
 
-pub use status::{CorpusFault, ProgramFault, Status, SyntaxFault};
+pub use aql_lexer::LexFault;
+pub use aql_parser::SyntaxFault;
+pub use limits::{PROGRAM_LIMIT, STATEMENT_LIMIT};
+pub use status::{CorpusFault, ProgramFault, Status, What};
 pub use top::aqlx;

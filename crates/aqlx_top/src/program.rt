@@ -1,12 +1,19 @@
-ghost use Rattle.std.specs.Prelude.{◌≡◌, ◌≤◌, [], ◌∷◌, IfOk, IfSome, length};
+ghost use Rattle.std.specs.Prelude.{◌≡◌, [], ◌∷◌, ◌≤◌, IfErr, IfOk, IfNone, IfSome, length, map};
+ghost use Rattle.std.specs.Str.{IsUtf8};
 ghost use Rattle.aql_regex_extract.specs.Faults.{IsPattern};
-ghost use Rattle.aqlx_top.specs.Outcome.{program_of};
-ghost use Rattle.aqlx_top.specs.Programs.{IsCompiledFrom};
-ghost use Rattle.aqlx_top.specs.FirstForm.{parts_of};
-ghost use Rattle.aqlx_top.specs.Run.{output_of};
+ghost use Rattle.aql_syntax.specs.Views.{statement_of};
+ghost use Rattle.aqlx_top.specs.declared.limits.TheConstants.{PROGRAM_LIMIT};
+ghost use Rattle.aqlx_top.specs.OneForm.{IsViewIn};
+ghost use Rattle.aqlx_top.specs.ProgramFaults.{HasCause};
+ghost use Rattle.aqlx_top.specs.Programs.{IsBuiltFrom, IsCompiled, IsCompiledFrom, IsUnbuiltFor, program_of};
+ghost use Rattle.aqlx_top.specs.Run.{Program, output_of};
 
-use crate::first_form::{MOST, Parts, first_form};
+use crate::ProgramFault;
+use crate::one_form::{Parts, is_output_of, view_of};
+use crate::program_text::{check_sizes, text_of, tokens_of};
+use aql_parser::parse;
 use aql_regex_extract::{Pattern, compile_pattern};
+use aql_syntax::Statement;
 use row_values::Output;
 use span_token::{Failure, OutOfMemory, OwnedList, OwnedText};
 use std::alloc::Global;
@@ -18,47 +25,70 @@ pub(crate) struct Compiled {
     pub pattern: Pattern,
 }
 
-/// The program that a file's bytes hold; None where they are no program of the one form, or its
-/// pattern is bad or too large.
-pub(crate) fn compile(alloc: Global, bytes: &[u8]) -> Result<Option<Compiled>, OutOfMemory>
-    ensures compiled { IfOk result (λ found. IfSome found (IsCompiledFrom bytes.now)) }
+/// The program that a file's bytes hold, or their fault.
+pub(crate) fn compile(alloc: Global, bytes: &[u8]) -> Result<Compiled, Failure<ProgramFault>>
+    ensures compiled { IfOk result (IsCompiledFrom bytes.now) }
+    ensures fault { IfErr result (HasCause bytes.now) }
 {
-    if bytes.len() > MOST {
-        return Ok(None);
-    }
-    match std::str::from_utf8(bytes) {
-        Ok(text) => compile_text(alloc, text),
-        Err(_) => Ok(None),
+    let text = text_of(bytes)?;
+    compile_text(alloc, text)
+}
+
+fn compile_text(alloc: Global, text: &str) -> Result<Compiled, Failure<ProgramFault>>
+    requires small { length text.now ≤ PROGRAM_LIMIT }
+    requires utf8 { IsUtf8 text.now }
+    ensures compiled { IfOk result (IsCompiledFrom text.now) }
+    ensures fault { IfErr result (HasCause text.now) }
+{
+    let toks = tokens_of(alloc, text)?;
+    check_sizes(&toks)?;
+    match parse(alloc, &toks) {
+        Ok(statements) => build(alloc, &statements),
+        Err(Failure::Fault(fault)) => Err(Failure::Fault(ProgramFault::Syntax(fault))),
+        Err(Failure::OutOfMemory) => Err(Failure::OutOfMemory),
     }
 }
 
-fn compile_text(alloc: Global, text: &str) -> Result<Option<Compiled>, OutOfMemory>
-    requires few { length text.now ≤ 2000 }
-    ensures compiled { IfOk result (λ found. IfSome found (IsCompiledFrom text.now)) }
+/// The program of these statements, or the first statement that keeps them from being of the one form.
+fn build(alloc: Global, statements: &[Statement]) -> Result<Compiled, Failure<ProgramFault>>
+    ensures built { IfOk result (IsBuiltFrom (map statement_of statements.now)) }
+    ensures fault { IfErr result (IsUnbuiltFor (map statement_of statements.now)) }
 {
-    match first_form(alloc, text)? {
-        Some(parts) => compile_parts(alloc, parts),
-        None => Ok(None),
+    let Some(parts) = first_view(statements) else {
+        return Err(unbuilt(1));
+    };
+    let pattern = match compile_pattern(alloc, parts.pattern) {
+        Ok(pattern) => pattern,
+        Err(Failure::Fault(_)) => return Err(unbuilt(1)),
+        Err(Failure::OutOfMemory) => return Err(Failure::OutOfMemory),
+    };
+    match statements.get(1) {
+        Some(second) if is_output_of(second, parts.view) => {}
+        _ => return Err(unbuilt(2)),
     }
+    if statements.len() > 2 {
+        return Err(unbuilt(3));
+    }
+    let outputs = one_output(alloc, parts)?;
+    Ok(Compiled { outputs, pattern })
 }
 
-fn compile_parts(alloc: Global, parts: Parts<'_>) -> Result<Option<Compiled>, OutOfMemory>
-    ensures outputs { IfOk result (λ found. IfSome found (λ compiled. compiled.outputs.items ≡ output_of (program_of (parts_of parts.entry)) ∷ [])) }
-    ensures pattern { IfOk result (λ found. IfSome found (λ compiled. compiled.pattern ≡ parts.entry.pattern.now)) }
-    ensures is_pattern { IfOk result (λ found. IfSome found (λ compiled. IsPattern parts.entry.pattern.now)) }
+fn unbuilt(statement: u32) -> Failure<ProgramFault>
+    ensures { result ≡ Failure.Fault (ProgramFault.Unbuilt statement) }
 {
-    match compile_pattern(alloc, parts.pattern) {
-        Ok(pattern) => Ok(Some(Compiled {
-            outputs: one_output(alloc, parts)?,
-            pattern,
-        })),
-        Err(Failure::Fault(_)) => Ok(None),
-        Err(Failure::OutOfMemory) => Err(OutOfMemory),
-    }
+    Failure::Fault(ProgramFault::Unbuilt { statement })
+}
+
+/// The parts of statement 1, where it is a view of the one form.
+fn first_view(statements: &[Statement]) -> Option<Parts<'_>>
+    ensures found { IfSome result (λ parts. IsViewIn (map statement_of statements.now) (program_of parts)) }
+    ensures none { IfNone result ((program : Program) → ¬ (IsViewIn (map statement_of statements.now) program)) }
+{
+    view_of(statements.first()?)
 }
 
 fn one_output(alloc: Global, parts: Parts<'_>) -> Result<Vec<Output>, OutOfMemory>
-    ensures { IfOk result (λ outputs. outputs.items ≡ output_of (program_of (parts_of parts.entry)) ∷ []) }
+    ensures { IfOk result (λ outputs. outputs.items ≡ output_of (program_of parts.entry) ∷ []) }
 {
     let mut columns = OwnedList::new(alloc);
     columns.push(OwnedText::copied(alloc, parts.column)?)?;

@@ -1,6 +1,9 @@
 ghost use Rattle.std.specs.Prelude.{◌≡◌};
 ghost use Rattle.aqlx_top.specs.Statuses.{code_of};
 
+use aql_lexer::LexFault;
+use aql_parser::SyntaxFault;
+
 /// How a run ended, want of memory apart.
 #[derive(Clone, Copy, Debug, PartialEq, Eq)]
 pub enum Status {
@@ -19,16 +22,33 @@ pub enum Status {
 }
 
 /// Why a program is refused.
+///
+/// The faults are looked for in this order: bytes, text, tokens, statements, nesting, syntax, and what
+/// isn't built. A program has the first one alone.
+///
+/// Meaning: `HasFault`, `specs/ProgramFaults.antt`.
 #[derive(Clone, Copy, Debug, PartialEq, Eq)]
 pub enum ProgramFault {
+    /// The file's first `place` bytes are UTF-8, and no more of them.
+    Text { place: u32 },
+    /// There is more of something than a program may have, and how many there are: 1,048,577 bytes, where
+    /// there are more than 1,048,576, or the number of statements, or the deepest nesting.
+    Large { what: What, number: u64 },
+    /// At this byte neither white space nor a comment nor a token stands.
+    Lex(LexFault),
+    /// This statement is the first whose tokens are those of no tree.
     Syntax(SyntaxFault),
+    /// This statement, from 1, is the first that keeps the program from being one view of a pattern and its
+    /// output.
+    Unbuilt { statement: u32 },
 }
 
-/// The first statement that isn't one, and the line of its first token; both count from 1.
+/// What a program has too much of.
 #[derive(Clone, Copy, Debug, PartialEq, Eq)]
-pub struct SyntaxFault {
-    pub statement: u32,
-    pub line: u32,
+pub enum What {
+    Bytes,
+    Statements,
+    Nesting,
 }
 
 /// Why a corpus is refused. Lines count from 1.

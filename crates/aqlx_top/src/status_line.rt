@@ -1,10 +1,10 @@
-ghost use Rattle.std.specs.Prelude.{◌≡◌, ◌++◌, ◌∷◌, [], IfOk, OnErr, string_bytes, codes};
+ghost use Rattle.std.specs.Prelude.{◌≡◌, ◌≢◌, ◌++◌, ◌∷◌, [], IfOk, OnErr, string_bytes, codes};
 ghost use Rattle.std.specs.Fmt.{decimal};
 ghost use Rattle.aqlx_top.specs.Devices.{sink_ends, IsUntouched};
 ghost use Rattle.aqlx_top.specs.Statuses.{IsToldAs, IsWrittenAs, message_of, error_line, program_text, corpus_text};
 
 use crate::put::put_and_flush;
-use crate::{CorpusFault, ProgramFault, Status};
+use crate::{CorpusFault, ProgramFault, Status, SyntaxFault, What};
 use aql_io::{Failed, Sink};
 use span_token::OutOfMemory;
 use std::alloc::Global;
@@ -26,6 +26,7 @@ pub(crate) fn report<E: Sink>(
 }
 
 fn write_line<E: Sink>(alloc: Global, err: &mut E, status: Status) -> Result<Status, OutOfMemory>
+    requires has_line { message_of status ≢ [] }
     ensures told { IfOk result (IsWrittenAs (sink_ends (E.held err.old) (E.held err.new) (E.flushed err.old) (E.flushed err.new) (E.faults err.old) (E.faults err.new)) status) }
     ensures memory { OnErr result (IsUntouched (sink_ends (E.held err.old) (E.held err.new) (E.flushed err.old) (E.flushed err.new) (E.faults err.old) (E.faults err.new))) }
 {
@@ -57,16 +58,50 @@ fn program_line(alloc: Global, fault: &ProgramFault) -> Result<String, OutOfMemo
     ensures { IfOk result (λ line. string_bytes line ≡ error_line (program_text fault.now)) }
 {
     match fault {
-        ProgramFault::Syntax(place) => {
-            let first = around(
-                alloc,
-                "aqlx: syntax: statement ",
-                u64::from(place.statement),
-                ", line ",
-            )?;
-            around(alloc, first.as_str(), u64::from(place.line), "\n")
-        }
+        ProgramFault::Text { place } => around(
+            alloc,
+            "aqlx: program is not UTF-8 at byte ",
+            u64::from(*place),
+            "\n",
+        ),
+        ProgramFault::Large { what, number } => large_line(alloc, what, *number),
+        ProgramFault::Lex(fault) => around(
+            alloc,
+            "aqlx: no token at byte ",
+            u64::from(fault.place),
+            "\n",
+        ),
+        ProgramFault::Syntax(fault) => syntax_line(alloc, fault),
+        ProgramFault::Unbuilt { statement } => around(
+            alloc,
+            "aqlx: statement ",
+            u64::from(*statement),
+            ": not built yet\n",
+        ),
     }
+}
+
+fn large_line(alloc: Global, what: &What, number: u64) -> Result<String, OutOfMemory>
+    ensures { IfOk result (λ line. string_bytes line ≡ error_line (program_text (ProgramFault.Large what.now number))) }
+{
+    let before = match what {
+        What::Bytes => "aqlx: program too large: bytes ",
+        What::Statements => "aqlx: program too large: statements ",
+        What::Nesting => "aqlx: program too large: nesting ",
+    };
+    around(alloc, before, number, "\n")
+}
+
+fn syntax_line(alloc: Global, fault: &SyntaxFault) -> Result<String, OutOfMemory>
+    ensures { IfOk result (λ line. string_bytes line ≡ error_line (program_text (ProgramFault.Syntax fault.now))) }
+{
+    let first = around(
+        alloc,
+        "aqlx: syntax: statement ",
+        u64::from(fault.statement),
+        ", line ",
+    )?;
+    around(alloc, first.as_str(), u64::from(fault.line), "\n")
 }
 
 fn corpus_line(alloc: Global, fault: &CorpusFault) -> Result<String, OutOfMemory>

@@ -2,31 +2,29 @@ ghost use Rattle.std.specs.Prelude.{◌≡◌, map, string_bytes, IfOk, OnErr};
 ghost use Rattle.aqlx_top.specs.Devices.{files_ends, source_ends, sink_ends};
 ghost use Rattle.aqlx_top.specs.Outcome.{Outcome, call_of, HasCauseOf, WroteFront, IsFileRunTo, IsFileInPart, IsTextRunTo, IsTextInPart};
 
-use crate::first_form::MOST;
+use crate::Status;
+use crate::limits::PROGRAM_LIMIT;
 use crate::program::compile;
 use crate::program_file::read_file;
 use crate::run::run;
 use crate::status_line::report;
 use crate::words::run_of;
-use crate::{ProgramFault, Status, SyntaxFault};
 use aql_io::{Files, Sink, Source};
-use span_token::OutOfMemory;
+use span_token::{Failure, OutOfMemory};
 use std::alloc::Global;
 
-/// The refusal of a program that isn't of the one form.
-const NOT_THE_FORM: Status = Status::Program(ProgramFault::Syntax(SyntaxFault {
-    statement: 1,
-    line: 1,
-}));
+/// How many bytes of a program file are read: one more than a program has.
+const MOST: usize = PROGRAM_LIMIT + 1;
 
 /// Runs what `words` ask for: `run PROGRAM` reads the program file PROGRAM of `files`, reads the corpus
 /// to its end and writes to `out` the line of each document, in the corpus's order.
 ///
-/// The words match where they are `run` and one more word. A status of 1 to 4 has its one line on
-/// `err`. With the statuses 1 and 2 nothing is written to `out`; with 0, 3 and 4 all lines of the
-/// documents before the bad line, or before the end, are written and flushed; with 5 and after
-/// want of memory a prefix of them. It holds one line of the corpus, and one piece of output beyond
-/// the lines of one document.
+/// The words match where they are `run` and one more word. At most 1,048,577 bytes of the program file
+/// are read, and a program with a fault is refused for its first one (`ProgramFault`). A status of 1 to
+/// 4 has its one line on `err`. With the statuses 1 and 2 nothing is read of the corpus and nothing is
+/// written to `out`; with 0, 3 and 4 all lines of the documents before the bad line, or before the end,
+/// are written and flushed; with 5 and after want of memory a prefix of them. It holds one line of the
+/// corpus, and one piece of output beyond the lines of one document.
 ///
 /// Meaning: `Outcome`, `specs/Outcome.antt`; docs/FORMATS.md, "Exit status and standard error".
 pub fn aqlx<F: Files, S: Source, O: Sink, E: Sink>(
@@ -86,7 +84,7 @@ fn run_file<F: Files, S: Source, O: Sink>(
         (source_ends (S.left corpus.old) (S.left corpus.new) (S.faults corpus.old) (S.faults corpus.new))
         (sink_ends (O.held out.old) (O.held out.new) (O.flushed out.old) (O.flushed out.new) (O.faults out.old) (O.faults out.new))) }
 {
-    match read_file(alloc, files, name, MOST + 1)? {
+    match read_file(alloc, files, name, MOST)? {
         Some(bytes) => run_text(alloc, &bytes, corpus, out),
         None => Ok(Status::ReadFault),
     }
@@ -106,8 +104,9 @@ fn run_text<S: Source, O: Sink>(
         (source_ends (S.left corpus.old) (S.left corpus.new) (S.faults corpus.old) (S.faults corpus.new))
         (sink_ends (O.held out.old) (O.held out.new) (O.flushed out.old) (O.flushed out.new) (O.faults out.old) (O.faults out.new))) }
 {
-    match compile(alloc, bytes)? {
-        Some(program) => run(alloc, &program.outputs, &program.pattern, corpus, out),
-        None => Ok(NOT_THE_FORM),
+    match compile(alloc, bytes) {
+        Ok(program) => run(alloc, &program.outputs, &program.pattern, corpus, out),
+        Err(Failure::Fault(fault)) => Ok(Status::Program(fault)),
+        Err(Failure::OutOfMemory) => Err(OutOfMemory),
     }
 }

@@ -1,0 +1,93 @@
+-- From what each step of compiling answers to the program of a text, or its fault.
+use Rattle.std.proofs.Common.{◌≡◌, ℕ, ◌<◌, ◌≤◌, List, [], ◌∷◌, length, get_or, map, ap, sym, subst, ◌∙◌, refl, arith, Some, slice_get, option_map}
+use Rattle.std.proofs.lemmas.List.{length-map}
+use Rattle.std.proofs.lemmas.Option.{slice_get-map}
+use Rattle.aql_regex_extract.specs.Faults.{IsPattern}
+use Rattle.aql_syntax.specs.declared.tree.Statement as seen
+use Rattle.aql_syntax.specs.Views.{statement_of}
+use Rattle.aqlx_top.specs.OneForm.{AreOf, IsOutputOf, IsViewIn}
+use Rattle.aqlx_top.specs.Run.{Program}
+use Rattle.span_token.specs.declared.refusal.Failure.{Failure}
+use Rattle.span_token.specs.declared.refusal.Failure.TheVariants.{OutOfMemory, Fault}
+use Rattle.aql_lexer.specs.Kinds.{Kind, Token, kind_of, token_of, kinds_of}
+use Rattle.aql_lexer.specs.declared.token.Tok.{Tok}
+use Rattle.aql_lexer.specs.Reading.{IsDecided}
+use Rattle.aql_parser.specs.declared.parsing.SyntaxFault.{SyntaxFault}
+use Rattle.aql_parser.specs.Faults.{kinds_in, IsSyntaxFault}
+use Rattle.aql_parser.specs.Faults as parsing
+use Rattle.aql_syntax.specs.Trees.{Statement}
+use Rattle.aql_syntax.specs.Programs.{AreTokensOf, placed_in}
+use Rattle.aqlx_top.specs.declared.program.Compiled.{Compiled}
+use Rattle.aqlx_top.specs.declared.status.ProgramFault.{ProgramFault}
+use Rattle.aqlx_top.specs.declared.status.ProgramFault.TheVariants.{Text, Large, Lex, Syntax, Unbuilt}
+use Rattle.aqlx_top.specs.declared.status.What.TheVariants.{Bytes, Statements, Nesting}
+use Rattle.aqlx_top.specs.ProgramFaults.{HasCause, HasOnlyFault, HasTooMany, IsTooDeep, IsTooLargeFor}
+use Rattle.aqlx_top.specs.ProgramTexts.{ReadsAs, IsWithinLimits, HoldsStatements}
+use Rattle.aqlx_top.specs.Programs.{IsCompiledFrom, IsBuiltFrom, IsUnbuiltFor}
+use Rattle.aqlx_top.proofs.ProgramLaws.{only_many, only_deep, only_syntax, only_unbuilt, holds_program}
+
+-- the second of some
+pub second_of : (statements : List seen.Statement) (second : seen.Statement) → 1 < length statements → second ≡ get_or statements 1 second
+    → slice_get statements 1 ≡ Some second
+second_of [] second there is = absurd (omega arith)
+second_of (x ∷ []) second there is = absurd (omega arith)
+second_of (x ∷ y ∷ zs) second there is = ap (λ (s : seen.Statement). Some s) (sym is)
+
+-- statements of which the first and the second are a program's
+pub form_of : (statements : List seen.Statement) (program : Program) (second : seen.Statement) → IsViewIn (map statement_of statements) program
+    → IsPattern program.pattern → slice_get statements 1 ≡ Some second → IsOutputOf (statement_of second) program.view → length statements ≤ 2
+    → AreOf (map statement_of statements) program
+form_of statements program second view pattern at output few =
+    let there : slice_get (map statement_of statements) 1 ≡ Some (statement_of second) =
+    slice_get-map statement_of statements 1 ∙ ap (option_map statement_of) at in record {
+      view = (view, pattern);
+      output = rw there output;
+      no_more = rw length-map few;
+    }
+
+-- the kinds of tokens are seen in two ways
+kinds_seen : (toks : List Tok) → kinds_of toks ≡ kinds_in (map token_of toks)
+kinds_seen [] = refl
+kinds_seen (tok ∷ toks) = ap (λ (ks : List Kind). kind_of tok.kind ∷ ks) (kinds_seen toks)
+
+module _ (text : List ℕ) (toks : List Tok) (decided : IsDecided text) (reads : ReadsAs text (map token_of toks)) where
+  as_seen : (P : List Kind → Type 0) → P (kinds_of toks) → P (kinds_in (map token_of toks))
+  as_seen P h = subst P (kinds_seen toks) h
+
+  -- more than a program may have
+  pub refused_sizes : (failure : Failure ProgramFault) → IsTooLargeFor (kinds_of toks) failure → HasCause text failure
+  refused_sizes (Fault (Large Statements number)) h = only_many text (map token_of toks) number decided reads (as_seen (λ (ks : List Kind). HasTooMany ks number) h)
+  refused_sizes (Fault (Large Nesting number)) h = only_deep text (map token_of toks) number decided reads (as_seen (λ (ks : List Kind). IsTooDeep ks number) h)
+  refused_sizes (Fault (Large Bytes number)) h = absurd h
+  refused_sizes (Fault (Text place)) h = absurd h
+  refused_sizes (Fault (Lex fault)) h = absurd h
+  refused_sizes (Fault (Syntax fault)) h = absurd h
+  refused_sizes (Fault (Unbuilt statement)) h = absurd h
+  refused_sizes OutOfMemory h = absurd h
+
+  module _ (within : IsWithinLimits (kinds_of toks)) (one : parsing.IsDecided (map token_of toks)) where
+    -- a statement without a tree
+    pub refused_syntax : (fault : SyntaxFault) → IsSyntaxFault (map token_of toks) fault.statement fault.line → HasOnlyFault text (Syntax fault)
+    refused_syntax fault found = only_syntax text (map token_of toks) fault decided reads (as_seen IsWithinLimits within) one found
+
+    module _ (trees : List Statement) (are : AreTokensOf (kinds_of toks) trees) (placed : placed_in (kinds_of toks) trees ≡ trees) where
+      abbrev held : HoldsStatements text trees
+      held = record {
+        tokens = map token_of toks;
+        reads = reads;
+        within = as_seen IsWithinLimits within;
+        trees = as_seen (λ (ks : List Kind). AreTokensOf ks trees) are;
+        placed = as_seen (λ (ks : List Kind). placed_in ks trees ≡ trees) placed;
+      }
+
+      pub built_from : (compiled : Compiled) → IsBuiltFrom trees compiled → IsCompiledFrom text compiled
+      built_from compiled built =
+          record { program = built.program; holds = holds_program text trees built.program decided held one built.form; is_compiled = built.is_compiled }
+
+      pub refused_form : (failure : Failure ProgramFault) → IsUnbuiltFor trees failure → HasCause text failure
+      refused_form (Fault (Unbuilt number)) h = only_unbuilt text trees number decided held one h
+      refused_form (Fault (Large what number)) h = absurd h
+      refused_form (Fault (Text place)) h = absurd h
+      refused_form (Fault (Lex fault)) h = absurd h
+      refused_form (Fault (Syntax fault)) h = absurd h
+      refused_form OutOfMemory h = tt

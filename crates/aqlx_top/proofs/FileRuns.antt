@@ -1,0 +1,171 @@
+-- From the text of a program file to the file, and to the words that name it.
+use Rattle.std.proofs.Common.{◌≡◌, ℕ, ◌+◌, ◌<◌, ◌≤◌, List, [], ◌∷◌, length, take, ap, ap₂, sym, subst, ◌∙◌, refl, arith, Option, Some, None, Result, Ok, Err, IfSome, IfOk, OnErr, IsSomeAnd, inl, inr, ◌⊎◌}
+use Rattle.std.proofs.lemmas.List.{take_all, length-take}
+use Rattle.std.proofs.lemmas.Bool.{cases_lt}
+use Rattle.aql_io.specs.Bytes.{Names}
+use Rattle.row_values.specs.Outputs.{OutputNames}
+use Rattle.span_token.specs.Documents.{Doc}
+use Rattle.span_token.specs.declared.refusal.OutOfMemory.{OutOfMemory}
+use Rattle.aqlx_top.specs.declared.limits.TheConstants.{PROGRAM_LIMIT}
+use Rattle.aqlx_top.specs.declared.program.Compiled.{Compiled}
+use Rattle.aqlx_top.specs.declared.status.Status.{Status}
+use Rattle.aqlx_top.specs.declared.status.Status.TheVariants.{Done, Program as Refused, Usage, Corpus, ReadFault, WriteFault}
+use Rattle.aqlx_top.specs.declared.status.ProgramFault.{ProgramFault}
+use Rattle.aqlx_top.specs.declared.status.ProgramFault.TheVariants.{Large}
+use Rattle.aqlx_top.specs.declared.status.What.TheVariants.{Bytes}
+use Rattle.aqlx_top.specs.Devices.{FilesEnds, SourceEnds, SinkEnds}
+use Rattle.aqlx_top.specs.Outcome.{IsHeldAs, IsCalledFor, WroteFront, HasCauseOf, RanText, RanTextInPart, RefusedText, IsFileRunTo, IsFileInPart, IsTextRunTo, IsTextInPart, call_of}
+use Rattle.aqlx_top.specs.ProgramFaults.{HasOnlyFault, HoldsProgram}
+use Rattle.aqlx_top.specs.ProgramFile.{IsFrontOf}
+use Rattle.aqlx_top.specs.Programs.{IsCompiled}
+use Rattle.aqlx_top.specs.Progress.{InPart, IsRunTo}
+use Rattle.aqlx_top.specs.Run.{Program, line_of, line_for}
+use Rattle.aqlx_top.specs.Words.{IsRun}
+use Rattle.aqlx_top.proofs.ProgramLaws.{only_large}
+
+-- a compiled program means what the program does
+pub same_lines : (outputs : List OutputNames) (pattern : List ℕ) (compiled : Compiled) (program : Program) → IsCompiled compiled program
+    → outputs ≡ compiled.outputs.items → pattern ≡ compiled.pattern → line_for outputs pattern ≡ line_of program
+same_lines outputs pattern compiled program is_compiled o p = ap₂ line_for (o ∙ is_compiled.outputs_are) (p ∙ is_compiled.pattern_is)
+
+-- a program text that ran
+pub text_run : (text : List ℕ) (program : Program) (piece : Doc → List ℕ) (corpus : SourceEnds) (out : SinkEnds) (r : Result Status OutOfMemory)
+    → HoldsProgram text program → piece ≡ line_of program → IfOk r (IsRunTo piece corpus out) → IfOk r (IsTextRunTo text corpus out)
+text_run text program piece corpus out (Ok status) holds means ran =
+    inr (record { program = program; holds = holds; ran = subst (λ (p : Doc → List ℕ). IsRunTo p corpus out status) means ran })
+text_run text program piece corpus out (Err e) holds means ran = tt
+
+pub text_part : (text : List ℕ) (program : Program) (piece : Doc → List ℕ) (corpus : SourceEnds) (out : SinkEnds) (r : Result Status OutOfMemory)
+    → HoldsProgram text program → piece ≡ line_of program → OnErr r (InPart piece corpus out.held_before out.held_after) → OnErr r (IsTextInPart text corpus out)
+text_part text program piece corpus out (Ok status) holds means part = tt
+text_part text program piece corpus out (Err e) holds means part =
+    inr (record { program = program; holds = holds; ran = subst (λ (p : Doc → List ℕ). InPart p corpus out.held_before out.held_after) means part })
+
+-- ---- a front of a file
+
+-- the text that a file holds, of which this is the front, and whether the front is all of it
+whole_or_large : (held bytes : List ℕ) → bytes ≡ take (PROGRAM_LIMIT + 1) held
+    → (bytes ≡ held) ⊎ ((PROGRAM_LIMIT < length held) × (PROGRAM_LIMIT < length bytes))
+whole_or_large held bytes front =
+    elim (cases_lt PROGRAM_LIMIT (length held)) [
+      | inl large ↦ inr (large, let e = ap length front ∙ length-take (PROGRAM_LIMIT + 1) held in omega arith)
+      | inr small ↦ inl (front ∙ take_all (PROGRAM_LIMIT + 1) held (omega arith))
+    ]
+
+fault_of_held : (held bytes : List ℕ) (fault : ProgramFault) → bytes ≡ take (PROGRAM_LIMIT + 1) held → HasOnlyFault bytes fault → HasOnlyFault held fault
+fault_of_held held bytes fault front cause =
+    elim (whole_or_large held bytes front) [
+      | inl whole ↦ subst (λ (t : List ℕ). HasOnlyFault t fault) whole cause
+      | inr large ↦
+          subst (λ (f : ProgramFault). HasOnlyFault held f)
+          (cause.only (Large Bytes (PROGRAM_LIMIT + 1)) (only_large bytes large.1).has)
+          (only_large held large.0)
+    ]
+
+program_of_held : (held bytes : List ℕ) (program : Program) → bytes ≡ take (PROGRAM_LIMIT + 1) held → HoldsProgram bytes program → HoldsProgram held program
+program_of_held held bytes program front holds =
+    elim (whole_or_large held bytes front) [
+      | inl whole ↦ subst (λ (t : List ℕ). HoldsProgram t program) whole holds
+      | inr large ↦ let small = holds.holds.reads.small in let long = large.1 in absurd (omega arith)
+    ]
+
+-- a text that the file holds, of which something is so
+abbrev Held : Option (List ℕ) → (List ℕ → Type 0) → Type 0
+Held file P = (text : List ℕ) × (file ≡ Some text) × P text
+
+fault_at : (file : Option (List ℕ)) (bytes : List ℕ) (fault : ProgramFault) → IsFrontOf file (PROGRAM_LIMIT + 1) bytes → HasOnlyFault bytes fault
+    → Held file (λ text. HasOnlyFault text fault)
+fault_at None bytes fault front cause = absurd front
+fault_at (Some held) bytes fault front cause = (held, refl, fault_of_held held bytes fault front cause)
+
+program_at : (file : Option (List ℕ)) (bytes : List ℕ) (program : Program) → IsFrontOf file (PROGRAM_LIMIT + 1) bytes → HoldsProgram bytes program
+    → Held file (λ text. HoldsProgram text program)
+program_at None bytes program front holds = absurd front
+program_at (Some held) bytes program front holds = (held, refl, program_of_held held bytes program front holds)
+
+fault_of_front : (told : Option Names) (name bytes : List ℕ) (fault : ProgramFault) → IfSome told (λ names. IsFrontOf (names name) (PROGRAM_LIMIT + 1) bytes)
+    → HasOnlyFault bytes fault → (text : List ℕ) × IfSome told (λ names. names name ≡ Some text) × HasOnlyFault text fault
+fault_of_front None name bytes fault front cause = (bytes, tt, cause)
+fault_of_front (Some names) name bytes fault front cause = fault_at (names name) bytes fault front cause
+
+program_of_front : (told : Option Names) (name bytes : List ℕ) (program : Program) → IfSome told (λ names. IsFrontOf (names name) (PROGRAM_LIMIT + 1) bytes)
+    → HoldsProgram bytes program → (text : List ℕ) × IfSome told (λ names. names name ≡ Some text) × HoldsProgram text program
+program_of_front None name bytes program front holds = (bytes, tt, holds)
+program_of_front (Some names) name bytes program front holds = program_at (names name) bytes program front holds
+
+-- ---- a file that ran
+
+file_run_to : (name bytes : List ℕ) (files : FilesEnds) (corpus : SourceEnds) (out : SinkEnds) (status : Status)
+    → IfSome files.told (λ names. IsFrontOf (names name) (PROGRAM_LIMIT + 1) bytes)
+    → IsTextRunTo bytes corpus out status → IsFileRunTo name files corpus out status
+file_run_to name bytes files corpus out status front ran =
+    elim ran [
+      | inl refused ↦
+          let found = fault_of_front files.told name bytes refused.fault front refused.cause in
+          inr (found.0, found.1, inl (record { fault = refused.fault; told = refused.told; cause = found.2; idle = refused.idle }))
+      | inr run ↦
+          let found = program_of_front files.told name bytes run.program front run.holds in
+          inr (found.0, found.1, inr (record { program = run.program; holds = found.2; ran = run.ran }))
+    ]
+
+pub file_run : (name bytes : List ℕ) (files : FilesEnds) (corpus : SourceEnds) (out : SinkEnds) (r : Result Status OutOfMemory)
+    → IfSome files.told (λ names. IsFrontOf (names name) (PROGRAM_LIMIT + 1) bytes)
+    → IfOk r (IsTextRunTo bytes corpus out) → IfOk r (IsFileRunTo name files corpus out)
+file_run name bytes files corpus out (Ok status) front ran = file_run_to name bytes files corpus out status front ran
+file_run name bytes files corpus out (Err e) front ran = tt
+
+pub file_part : (name bytes : List ℕ) (files : FilesEnds) (corpus : SourceEnds) (out : SinkEnds) (r : Result Status OutOfMemory)
+    → IfSome files.told (λ names. IsFrontOf (names name) (PROGRAM_LIMIT + 1) bytes)
+    → OnErr r (IsTextInPart bytes corpus out) → OnErr r (IsFileInPart name files corpus out)
+file_part name bytes files corpus out (Ok status) front part = tt
+file_part name bytes files corpus out (Err e) front part =
+    elim part [
+      | inl nothing ↦ inl nothing
+      | inr run ↦
+          let found = program_of_front files.told name bytes run.program front run.holds in
+          inr (found.0, found.1, record { program = run.program; holds = found.2; ran = run.ran })
+    ]
+
+-- ---- words that name a file
+
+called_by : (words : List (List ℕ)) (name text : List ℕ) (files : FilesEnds) (corpus : SourceEnds) (out : SinkEnds) (program : Program)
+    → IsRun words name → IsHeldAs files name text → HoldsProgram text program → IsCalledFor (call_of words files corpus out) program
+called_by words name text files corpus out program run held holds = record { name = name; text = text; words = run; file = held; holds = holds }
+
+cause_of_run : (words : List (List ℕ)) (name text : List ℕ) (files : FilesEnds) (corpus : SourceEnds) (out : SinkEnds) (status : Status)
+    → IsRun words name → IsHeldAs files name text → RanText text corpus out status → HasCauseOf (call_of words files corpus out) status
+cause_of_run words name text files corpus out Done run held f =
+    record { program = f.program; called = called_by words name text files corpus out f.program run held f.holds; ran = f.ran }
+cause_of_run words name text files corpus out (Refused fault) run held f = absurd f.ran.status_is
+cause_of_run words name text files corpus out Usage run held f = absurd f.ran.status_is
+cause_of_run words name text files corpus out (Corpus fault) run held f =
+    record { program = f.program; called = called_by words name text files corpus out f.program run held f.holds; ran = f.ran }
+cause_of_run words name text files corpus out ReadFault run held f =
+    inr (record { program = f.program; called = called_by words name text files corpus out f.program run held f.holds; ran = f.ran })
+cause_of_run words name text files corpus out WriteFault run held f =
+    (f.ran.0, record { program = f.program; called = called_by words name text files corpus out f.program run held f.holds; ran = f.ran.1 })
+
+cause_of_file : (words : List (List ℕ)) (name : List ℕ) (files : FilesEnds) (corpus : SourceEnds) (out : SinkEnds) (status : Status)
+    → IsRun words name → IsFileRunTo name files corpus out status → HasCauseOf (call_of words files corpus out) status
+cause_of_file words name files corpus out status run came =
+    elim came [
+      | inl unread ↦ rw unread.0 (inl (unread.1, record { name = name; words = run; idle = unread.2 }))
+      | inr read ↦ elim read.2 [
+        | inl refused ↦ rw refused.told (record { name = name; text = read.0; words = run; file = read.1; cause = refused.cause; idle = refused.idle })
+        | inr f ↦ cause_of_run words name read.0 files corpus out status run read.1 f
+      ]
+    ]
+
+pub carried_out : (words : List (List ℕ)) (name : List ℕ) (files : FilesEnds) (corpus : SourceEnds) (out : SinkEnds) (r : Result Status OutOfMemory)
+    → IsRun words name → IfOk r (IsFileRunTo name files corpus out) → IfOk r (HasCauseOf (call_of words files corpus out))
+carried_out words name files corpus out (Ok status) run came = cause_of_file words name files corpus out status run came
+carried_out words name files corpus out (Err e) run came = tt
+
+pub carried_out_in_part : (words : List (List ℕ)) (name : List ℕ) (files : FilesEnds) (corpus : SourceEnds) (out : SinkEnds) (r : Result Status OutOfMemory)
+    → IsRun words name → OnErr r (IsFileInPart name files corpus out) → OnErr r (WroteFront (call_of words files corpus out))
+carried_out_in_part words name files corpus out (Ok status) run part = tt
+carried_out_in_part words name files corpus out (Err e) run part =
+    elim part [
+      | inl nothing ↦ inl nothing
+      | inr f ↦ inr (record { program = f.2.program; called = called_by words name f.0 files corpus out f.2.program run f.1 f.2.holds; ran = f.2.ran })
+    ]

@@ -1,0 +1,66 @@
+-- The faults of a program file's bytes, each with its exact cause.
+use Rattle.std.specs.Prelude.{◌≡◌, ℕ, ◌+◌, ◌<◌, ◌≤◌, List, length, ⊤}
+use Rattle.std.specs.Str.{IsUtf8, IsValidUpTo}
+use Rattle.span_token.specs.declared.refusal.Failure.{Failure}
+use Rattle.span_token.specs.declared.refusal.Failure.TheVariants.{OutOfMemory, Fault}
+use Rattle.aql_lexer.specs.Kinds.{Kind, Token}
+use Rattle.aql_lexer.specs.Reading.{IsFault}
+use Rattle.aql_syntax.specs.Trees.{Statement}
+use Rattle.aql_syntax.specs.Programs.{runs_of}
+use Rattle.aql_parser.specs.declared.measuring.TheConstants.{MAX_NESTING}
+use Rattle.aql_parser.specs.Faults.{kinds_in, IsSyntaxFault}
+use Rattle.aql_parser.specs.Nesting.{IsNesting}
+use Rattle.aqlx_top.specs.declared.limits.TheConstants.{PROGRAM_LIMIT, STATEMENT_LIMIT}
+use Rattle.aqlx_top.specs.declared.status.ProgramFault.{ProgramFault}
+use Rattle.aqlx_top.specs.declared.status.ProgramFault.TheVariants.{Text, Large, Lex, Syntax, Unbuilt}
+use Rattle.aqlx_top.specs.declared.status.What.TheVariants.{Bytes, Statements, Nesting}
+use Rattle.aqlx_top.specs.OneForm.{IsUnbuilt, AreOf}
+use Rattle.aqlx_top.specs.ProgramTexts.{ReadsAs, IsWithinLimits, HoldsStatements}
+use Rattle.aqlx_top.specs.Run.{Program}
+
+-- more statements than a program may have
+abbrev pub HasTooMany : List Kind → ℕ → Type 0
+HasTooMany kinds number = (number ≡ length (runs_of kinds)) × (STATEMENT_LIMIT < number)
+
+-- no more statements than that, and deeper parentheses than they may be
+abbrev pub IsTooDeep : List Kind → ℕ → Type 0
+IsTooDeep kinds number = (length (runs_of kinds) ≤ STATEMENT_LIMIT) × IsNesting kinds number × (MAX_NESTING < number)
+
+-- the bytes of a program file have the fault
+abbrev pub HasFault : List ℕ → ProgramFault → Type 0
+HasFault bytes (Large Bytes number) = (PROGRAM_LIMIT < length bytes) × (number ≡ PROGRAM_LIMIT + 1)
+HasFault bytes (Text place) = (length bytes ≤ PROGRAM_LIMIT) × IsValidUpTo bytes place
+HasFault bytes (Lex fault) = (length bytes ≤ PROGRAM_LIMIT) × IsUtf8 bytes × IsFault bytes fault.place
+HasFault bytes (Large Statements number) = (tokens : List Token) × ReadsAs bytes tokens × HasTooMany (kinds_in tokens) number
+HasFault bytes (Large Nesting number) = (tokens : List Token) × ReadsAs bytes tokens × IsTooDeep (kinds_in tokens) number
+HasFault bytes (Syntax fault) =
+    (tokens : List Token) × ReadsAs bytes tokens × IsWithinLimits (kinds_in tokens) × IsSyntaxFault tokens fault.statement fault.line
+HasFault bytes (Unbuilt number) =
+    (statements : List Statement) × HoldsStatements bytes statements × IsUnbuilt statements number
+
+-- the bytes have the fault and no other
+pub record HasOnlyFault (bytes : List ℕ) (fault : ProgramFault) : Type 0 where
+  pub has : HasFault bytes fault
+  pub only : (other : ProgramFault) → HasFault bytes other → other ≡ fault
+
+-- memory ran out, or the bytes have the fault and no other
+abbrev pub HasCause : List ℕ → Failure ProgramFault → Type 0
+HasCause bytes OutOfMemory = ⊤
+HasCause bytes (Fault fault) = HasOnlyFault bytes fault
+
+-- the kept number of statements or of nested parentheses is more than a program may have
+abbrev pub IsTooLargeFor : List Kind → Failure ProgramFault → Type 0
+IsTooLargeFor kinds (Fault (Large Statements number)) = HasTooMany kinds number
+IsTooLargeFor kinds (Fault (Large Nesting number)) = IsTooDeep kinds number
+IsTooLargeFor kinds _ = ⊥
+
+-- the bytes have no fault
+abbrev pub IsFaultless : List ℕ → Type 0
+IsFaultless bytes = (fault : ProgramFault) → ¬ (HasFault bytes fault)
+
+-- the bytes are the text of the program, and have no fault
+pub record HoldsProgram (bytes : List ℕ) (program : Program) : Type 0 where
+  pub statements : List Statement
+  pub holds : HoldsStatements bytes statements
+  pub form : AreOf statements program
+  pub faultless : IsFaultless bytes
