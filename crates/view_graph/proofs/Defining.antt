@@ -1,17 +1,17 @@
 -- One more statement: what it defines, and what the code's maps keep of it.
-use Rattle.std.proofs.Common.{◌≡◌, ◌≢◌, ◌∙◌, ◌+◌, ◌<◌, ◌≤◌, ◌⊎◌, inl, inr, ℕ, zero, suc, Bool, true, false, cond, if◌then◌else◌, List, [], ◌∷◌, ◌++◌, map, flat_map, take, drop, length, get_or, Option, Some, None, Contains, All, AllPairs, refl, ap, sym, subst, ⊎_elim, append_assoc, length-append, add-one, arith, codes, IsSome, true≢false, not}
+use Rattle.std.proofs.Common.{◌≡◌, ◌∙◌, ◌+◌, ◌<◌, ◌≤◌, ◌⊎◌, inl, inr, ℕ, Bool, true, false, cond, if◌then◌else◌, List, [], ◌∷◌, ◌++◌, flat_map, length, get_or, Option, Some, None, Contains, refl, ap, sym, subst, ⊎_elim, append_assoc, arith, codes, IsSome, true≢false}
 use Rattle.std.specs.Str.{bytes_eq}
 use Rattle.std.specs.Map.{update}
 use Rattle.std.proofs.lemmas.Slice.Eq.{bytes_eq-Decides}
-use Rattle.std.proofs.lemmas.List.{append-nil, get_or_append_left, get_or_push, get_or_past, get_or_default, take_more, map-append, length_push}
-use Rattle.std.proofs.lemmas.List.Elements.{Contains-push, Contains-push_cases, Contains-append_left, Contains-append_cases, Contains-get_or}
+use Rattle.std.proofs.lemmas.List.{append-nil, get_or_append_left, get_or_push, get_or_past, get_or_default, length_push}
+use Rattle.std.proofs.lemmas.List.Elements.{Contains-push, Contains-push_cases, Contains-append_left, Contains-append_cases}
 use Rattle.std.proofs.lemmas.Bool.{cases_lt, cases_order}
 use Rattle.std.proofs.lemmas.List.Quantifiers.{all_pairs_push}
-use Rattle.aql_syntax.specs.Trees.{Statement, require, create, output, dictionary, module_, export}
+use Rattle.aql_syntax.specs.Trees.{Statement, require}
 use Rattle.view_graph.specs.Names.{Named, view_named, dictionary_named, defined_by, names_defined, AllDiffer}
-use Rattle.view_graph.specs.Faults.{IsNumbered, DefinesAgain, text_of}
-use Rattle.view_graph.specs.Uses.{statement_at, CreatesView}
-use Rattle.view_graph.specs.Indexes.{Adds, AddsText, IndexesViews, IndexesDictionaries, IndexesNames}
+use Rattle.view_graph.specs.Faults.{DefinesAgain, text_of}
+use Rattle.view_graph.specs.Uses.{CreatesView}
+use Rattle.view_graph.specs.Indexes.{IndexesViews, IndexesDictionaries, IndexesNames}
 
 two : (m n : ℕ) → (m < n) ⊎ (n ≤ m)
 two m n = cases_lt m n

@@ -1,15 +1,13 @@
 -- What is found of a name that is looked up, and of one name after another.
-use Rattle.std.proofs.Common.{◌≡◌, ◌∙◌, ◌+◌, ◌<◌, ◌⊎◌, inl, inr, ⊎_elim, ℕ, Bool, true, false, List, [], ◌∷◌, ◌++◌, map, flat_map, take, length, get_or, Option, Some, None, IsSome, Contains, All, refl, ap, sym, subst, arith}
+use Rattle.std.proofs.Common.{◌≡◌, ◌∙◌, ◌+◌, ◌<◌, ◌⊎◌, inl, inr, ⊎_elim, ℕ, Bool, true, false, List, [], ◌∷◌, ◌++◌, take, length, get_or, Option, Some, None, IsSome, Contains, All, refl, ap, sym, subst, arith}
 use Rattle.std.proofs.lemmas.List.Elements.{All-push, All-append, Contains-push, Contains-push_cases, Contains-append_left}
 use Rattle.std.proofs.lemmas.List.{take_more, get_or_push, get_or_append_left, length_push}
 use Rattle.std.proofs.lemmas.Bool.{cases_order}
 use Rattle.aql_syntax.specs.Trees.{Name, Query, Statement, create, require}
-use Rattle.view_graph.specs.declared.uses.Found.{Found}
 use Rattle.view_graph.specs.declared.uses.Found.TheVariants.{View, Other, Nothing}
 use Rattle.view_graph.specs.declared.fault.NameFault.{NameFault}
-use Rattle.view_graph.specs.declared.fault.NameFault.TheVariants.{UnknownView, UnknownDictionary}
 use Rattle.view_graph.specs.Names.{Named, view_named, dictionary_named, names_defined, names_looked_up, names_used_by, names_in_query, looked_up_by, IsDefined, AllDiffer}
-use Rattle.view_graph.specs.Faults.{IsNumbered, LooksUpUndefined}
+use Rattle.view_graph.specs.Faults.{LooksUpUndefined}
 use Rattle.view_graph.specs.Uses.{CreatesView, statement_at}
 use Rattle.view_graph.specs.Answers.{IsFault}
 use Rattle.view_graph.specs.Indexes.{IndexesNames}

@@ -1,27 +1,26 @@
 -- Views that are placed and sorted are by rank and then by number.
-use Rattle.std.proofs.Common.{◌≡◌, ◌∙◌, ◌+◌, ◌<◌, ◌≤◌, ◌⊎◌, inl, inr, ⊎_elim, ℕ, zero, suc, Bool, true, false, List, [], ◌∷◌, ◌++◌, map, drop, length, get_or, All, AllPairs, refl, ap, sym, subst, arith, add-one, append_assoc, true≢false}
+use Rattle.std.proofs.Common.{◌≡◌, ◌∙◌, ◌+◌, ◌<◌, ◌≤◌, ◌⊎◌, inl, inr, ℕ, suc, false, List, [], ◌∷◌, ◌++◌, map, length, get_or, All, refl, ap, sym, subst, arith, add-one, append_assoc, true≢false}
 use Rattle.std.specs.Ordering.{ordering_then, nat_cmp, is_lt}
 use Rattle.std.specs.declared.cmp.Ordering.{Ordering}
-use Rattle.std.specs.declared.cmp.Ordering.TheVariants.{Less, Equal, Greater}
+use Rattle.std.specs.declared.cmp.Ordering.TheVariants.{Less, Equal}
 use Rattle.std.specs.Cmp.{IsStrictWeakOrder}
 use Rattle.std.proofs.lemmas.Cmp.{nat_cmp_total, on_total, then_total}
 use Rattle.std.proofs.lemmas.Bool.{cases_lt, cases_order}
 use Rattle.std.proofs.lemmas.Bool.Decides.{nat_tests}
-use Rattle.std.proofs.lemmas.List.{get_or_default, length-map}
-use Rattle.std.proofs.lemmas.List.Elements.{All-cons, All-weaker, All-map, All-push}
+use Rattle.std.proofs.lemmas.List.{length-map}
+use Rattle.std.proofs.lemmas.List.Elements.{All-cons, All-weaker, All-map}
 use Rattle.std.proofs.lemmas.List.Sorted.{ranks_by, sorted_far, All-permutation, IsPermutation-map}
-use Rattle.std.specs.List.Sorted.{IsPermutation, IsSorted}
-use Rattle.aql_syntax.specs.Trees.{Name, Query, Statement, module_, require, export, dictionary, create, output}
+use Rattle.std.specs.List.Sorted.{IsPermutation}
+use Rattle.aql_syntax.specs.Trees.{Statement, module_, require, export, dictionary, create, output}
 use Rattle.aql_syntax.specs.declared.tree.Statement as declared
 use Rattle.aql_syntax.specs.declared.tree.Statement.TheVariants as variant
 use Rattle.aql_syntax.specs.declared.tree.Ident.{Ident}
 use Rattle.aql_syntax.specs.declared.tree.Query as declared_query
 use Rattle.aql_syntax.specs.Views.{statement_of}
 use Rattle.view_graph.specs.declared.search.Mark.{Mark}
-use Rattle.view_graph.specs.declared.search.Mark.TheVariants.{Ranked}
 use Rattle.view_graph.specs.Graphs.{HasRank, ComesBefore, IsByRank}
 use Rattle.view_graph.specs.Uses.{views_from, views_of}
-use Rattle.view_graph.specs.Search.{Edge, mark_at, IsDone}
+use Rattle.view_graph.specs.Search.{Edge, IsDone}
 use Rattle.view_graph.specs.Orders.{by_rank, Placed, IsNumbering}
 use Rattle.view_graph.proofs.Splits.{get_or-map_within}
 

@@ -1,5 +1,5 @@
 -- What one statement's maps and its fault say, from what the code's calls answer.
-use Rattle.std.proofs.Common.{◌≡◌, ◌∙◌, ◌+◌, ℕ, Bool, true, false, if◌then◌else◌, List, [], ◌∷◌, ◌++◌, length, Option, Some, None, IsSome, Contains, refl, ap, sym, subst}
+use Rattle.std.proofs.Common.{◌≡◌, ◌∙◌, ◌+◌, ℕ, Bool, true, false, List, [], ◌∷◌, ◌++◌, length, Option, Some, IsSome, Contains, refl, ap, sym, subst}
 use Rattle.std.specs.Str.{bytes_eq}
 use Rattle.std.specs.Map.{update}
 use Rattle.span_token.specs.declared.refusal.Failure.{Failure}
@@ -9,8 +9,6 @@ use Rattle.aql_syntax.specs.declared.tree.Statement as declared
 use Rattle.aql_syntax.specs.declared.tree.Statement.TheVariants as variant
 use Rattle.aql_syntax.specs.declared.tree.Ident.{Ident}
 use Rattle.aql_syntax.specs.declared.tree.Query.{Query}
-use Rattle.std.specs.declared.vec.Vec.{Vec}
-use Rattle.std.specs.declared.alloc.Global.{Global}
 use Rattle.aql_syntax.specs.Views.{statement_of}
 use Rattle.view_graph.specs.declared.fault.NameFault.{NameFault}
 use Rattle.view_graph.specs.declared.fault.NameFault.TheVariants.{DuplicateName}

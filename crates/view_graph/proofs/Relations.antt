@@ -1,15 +1,14 @@
 -- The views' relation in numbers is the relation of the program.
-use Rattle.std.proofs.Common.{◌≡◌, ◌∙◌, ◌+◌, ◌-◌, ◌<◌, ◌≤◌, ◌⊎◌, inl, inr, ⊎_elim, ℕ, zero, suc, List, [], ◌∷◌, ◌++◌, take, length, get_or, Contains, All, AllPairs, refl, ap, sym, subst, arith}
+use Rattle.std.proofs.Common.{◌≡◌, ◌+◌, ◌-◌, ◌<◌, ◌≤◌, ◌⊎◌, inl, inr, ℕ, zero, suc, List, [], ◌∷◌, ◌++◌, length, get_or, Contains, subst, arith}
 use Rattle.std.specs.List.{AllZip}
 use Rattle.std.proofs.lemmas.Bool.{cases_lt}
-use Rattle.std.proofs.lemmas.List.{get_or_past, get_or_default}
-use Rattle.std.proofs.lemmas.List.Elements.{All-weaker}
+use Rattle.std.proofs.lemmas.List.{get_or_past}
 use Rattle.aql_syntax.specs.Trees.{Statement, require}
 use Rattle.view_graph.specs.declared.search.Mark.{Mark}
 use Rattle.view_graph.specs.Names.{Named, view_named, names_used_by}
-use Rattle.view_graph.specs.Graphs.{IsClosed, IsCycle, IsChainBelow, HasRank, ComesBefore, IsByRank}
-use Rattle.view_graph.specs.Uses.{Uses, CreatesView, statement_at}
-use Rattle.view_graph.specs.Search.{Edge, IsGraph, used_in, mark_at, IsDone}
+use Rattle.view_graph.specs.Graphs.{IsClosed, IsCycle, IsChainBelow, HasRank, IsByRank}
+use Rattle.view_graph.specs.Uses.{Uses}
+use Rattle.view_graph.specs.Search.{Edge, IsGraph, IsDone}
 use Rattle.view_graph.specs.Lookups.{IsUseGraph}
 use Rattle.view_graph.proofs.Defining.{creates_within}
 

@@ -1,11 +1,11 @@
 -- From the walk to what `resolve` answers.
-use Rattle.std.proofs.Common.{◌≡◌, ◌∙◌, ◌+◌, ◌-◌, ◌<◌, ℕ, zero, suc, List, length, get_or, map, All, AllPairs, ⊎_elim, ap, sym, subst, arith, ◌≤◌}
+use Rattle.std.proofs.Common.{◌≡◌, ◌<◌, ℕ, zero, suc, List, length, get_or, All, AllPairs, ⊎_elim, sym, subst, arith}
 use Rattle.std.specs.List.{AllZip}
 use Rattle.std.proofs.lemmas.List.{get_or_default, take_all}
-use Rattle.aql_syntax.specs.Trees.{Statement, require}
+use Rattle.aql_syntax.specs.Trees.{Statement}
 use Rattle.view_graph.specs.declared.search.Mark.{Mark}
 use Rattle.view_graph.specs.declared.fault.NameFault.{NameFault}
-use Rattle.view_graph.specs.declared.fault.NameFault.TheVariants.{DuplicateOutput, Cycle}
+use Rattle.view_graph.specs.declared.fault.NameFault.TheVariants.{Cycle}
 use Rattle.view_graph.specs.Names.{AllDiffer, names_defined, names_looked_up, IsDefined}
 use Rattle.view_graph.specs.Graphs.{IsClosed, IsCycle, IsByRank}
 use Rattle.view_graph.specs.Uses.{Uses, CreatesView, views_of}

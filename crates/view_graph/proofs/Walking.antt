@@ -1,7 +1,7 @@
 -- Steps of the walk: what is met, what is done, and a circle.
-use Rattle.std.proofs.Common.{◌≡◌, ◌∙◌, ◌+◌, ◌-◌, ◌*◌, ◌<◌, ◌≤◌, ◌⊎◌, inl, inr, ⊎_elim, ℕ, zero, suc, max, Bool, true, false, cond, List, [], ◌∷◌, ◌++◌, map, drop, length, get_or, set, Contains, count_by, All, AllPairs, replicate, refl, ap, sym, subst, arith, true≢false}
+use Rattle.std.proofs.Common.{◌≡◌, ◌∙◌, ◌+◌, ◌-◌, ◌<◌, ◌≤◌, ◌⊎◌, inl, inr, ⊎_elim, ℕ, max, Bool, true, false, cond, List, [], ◌∷◌, ◌++◌, map, drop, length, get_or, set, Contains, count_by, replicate, refl, ap, sym, subst, arith}
 use Rattle.std.proofs.lemmas.List.{get_or_append_left, get_or_push, get_or_past, get_or_default, get_or-set_same, get_or-set_other, get_or-drop, get_or-replicate, length-replicate, length-set, length_push, length-map, length-drop}
-use Rattle.std.proofs.lemmas.List.Sums.{sum_by-set, count_by-le-length}
+use Rattle.std.proofs.lemmas.List.Sums.{sum_by-set}
 use Rattle.std.proofs.lemmas.List.Elements.{Contains-get_or}
 use Rattle.std.proofs.lemmas.Bool.{cases_eq, cases_lt, cases_order}
 use Rattle.view_graph.specs.declared.search.Mark.{Mark}
@@ -9,7 +9,7 @@ use Rattle.view_graph.specs.declared.search.Mark.TheVariants.{Unseen, Open, Rank
 use Rattle.view_graph.specs.declared.search.Frame.{Frame}
 use Rattle.view_graph.specs.Names.{AllDiffer}
 use Rattle.view_graph.specs.Graphs.{HasRank, IsChainBelow, IsClosed}
-use Rattle.view_graph.specs.Search.{used_in, Edge, IsGraph, mark_at, is_unseen, unseen, is_ranked, done, StaysSeen, begun, frame_at, IsScanned, AreRanked, IsOnWay, IsSearch, GoesOn, IsCircle, IsDone}
+use Rattle.view_graph.specs.Search.{used_in, Edge, mark_at, is_unseen, unseen, is_ranked, done, StaysSeen, begun, frame_at, IsScanned, AreRanked, IsOnWay, IsSearch, GoesOn, IsCircle, IsDone}
 use Rattle.view_graph.proofs.Splits.{get_or-map_within}
 
 -- one mark that is set: the counts

@@ -1,7 +1,7 @@
 -- Which names a statement defines and which it looks up, in the order of the text.
 use Rattle.std.specs.Prelude.{◌≡◌, ℕ, Bool, if◌then◌else◌, ◌||◌, List, [], ◌∷◌, ◌++◌, Option, Some, None, codes, flat_map, AllPairs, Contains, All}
 use Rattle.std.specs.Str.{bytes_eq}
-use Rattle.aql_syntax.specs.Trees.{Name, Term, int, str, regex, column, bare, call, star, Terms, no_terms, more_terms, Item, Cons, Clauses, Tail, Spec, pattern, dict, blocks, Query, select, extract, union, minus, Queries, no_queries, more_queries, Source, view, nested, Sources, no_sources, more_sources, Statement, module_, require, export, dictionary, create, output}
+use Rattle.aql_syntax.specs.Trees.{Term, str, call, Terms, no_terms, more_terms, Item, Cons, Clauses, Tail, Spec, dict, Query, select, extract, union, minus, Queries, no_queries, more_queries, Source, view, nested, Sources, no_sources, more_sources, Statement, dictionary, create, output}
 
 -- a name in its space: views and dictionaries have names apart from each other
 pub data Named : Type 0 where

@@ -1,5 +1,5 @@
 -- The walk that finds ranks: its marks, and the way from its first view to its last.
-use Rattle.std.specs.Prelude.{◌≡◌, ℕ, ◌+◌, ◌-◌, ◌*◌, ◌<◌, ◌≤◌, ◌⊎◌, Bool, true, false, List, [], ◌∷◌, length, slice_index, slice_index_or, Contains, count_by}
+use Rattle.std.specs.Prelude.{◌≡◌, ℕ, ◌+◌, ◌-◌, ◌*◌, ◌<◌, ◌≤◌, ◌⊎◌, Bool, true, false, List, [], length, slice_index, slice_index_or, Contains, count_by}
 use Rattle.view_graph.specs.declared.search.Mark.{Mark}
 use Rattle.view_graph.specs.declared.search.Mark.TheVariants.{Unseen, Open, Ranked}
 use Rattle.view_graph.specs.declared.search.Frame.{Frame}

@@ -3,7 +3,6 @@ use Rattle.std.specs.List.{AllZip}
 use Rattle.std.proofs.lemmas.Bool.{cases_lt}
 use Rattle.std.proofs.lemmas.List.{take_more, length-map}
 use Rattle.aql_syntax.specs.Trees.{require}
-use Rattle.aql_syntax.specs.declared.tree.Statement.{Statement}
 use Rattle.aql_syntax.specs.Views.{statement_of}
 use Rattle.view_graph.specs.Names.{view_named, defined_by}
 use Rattle.view_graph.specs.Uses.{CreatesView, statement_at}

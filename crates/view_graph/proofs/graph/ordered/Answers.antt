@@ -1,8 +1,8 @@
-use Rattle.std.proofs.Common.{◌≡◌, ap, sym, subst, List, map, length}
+use Rattle.std.proofs.Common.{map, length}
 use Rattle.std.proofs.lemmas.List.{length-map}
 use Rattle.std.proofs.lemmas.Result.{err_from_is_err_and}
 use Rattle.aql_syntax.specs.Views.{statement_of}
-use Rattle.view_graph.specs.Answers.{IfFault, IsFault, HasNames}
+use Rattle.view_graph.specs.Answers.{IsFault, HasNames}
 use Rattle.view_graph.specs.Outputs.{IsOutputAgain}
 use Rattle.view_graph.proofs.Refusing.{IfFault-weaker}
 use Rattle.view_graph.proofs.Resolving.{has_names, output_fault}

@@ -1,4 +1,4 @@
-use Rattle.std.proofs.Common.{◌≡◌, ap, sym, subst, List, ℕ, map, length}
+use Rattle.std.proofs.Common.{sym, subst, List, ℕ, map, length}
 use Rattle.std.proofs.lemmas.List.{length-map}
 use Rattle.aql_syntax.specs.Views.{statement_of}
 use Rattle.view_graph.specs.declared.search.Mark.{Mark}

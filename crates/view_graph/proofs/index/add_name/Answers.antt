@@ -1,4 +1,4 @@
-use Rattle.std.proofs.Common.{◌≡◌, ◌∙◌, ap, sym, ℕ, List, Bool, true, false, true≢false, not, if◌then◌else◌, Bor}
+use Rattle.std.proofs.Common.{◌≡◌, sym, ℕ, List, Bool, true, false, true≢false, not, if◌then◌else◌}
 use Rattle.std.specs.Str.{bytes_eq}
 use Rattle.view_graph.specs.Indexes.{AddsText, has}
 use Rattle.view_graph.proofs.index.add_name.Goals as goal

@@ -1,4 +1,3 @@
-use Rattle.std.proofs.Common.{sym, ◌∙◌}
 use Rattle.aql_syntax.specs.Views.{statement_of}
 use Rattle.view_graph.specs.Indexes.{has}
 use Rattle.view_graph.proofs.Outputting.{seen_none, seen_more}

@@ -1,8 +1,7 @@
-use Rattle.std.proofs.Common.{◌≡◌, ◌∙◌, ◌+◌, ◌++◌, ◌∷◌, [], ◌<◌, ◌≤◌, ap, sym, subst, List, ℕ, length, get_or, set, arith}
-use Rattle.view_graph.specs.declared.search.Mark.{Mark}
-use Rattle.view_graph.specs.declared.search.Mark.TheVariants.{Unseen, Open, Ranked}
+use Rattle.std.proofs.Common.{◌≡◌, ◌∙◌, ◌++◌, ◌∷◌, [], ◌<◌, ap, sym, subst, List, ℕ, length, get_or, set, arith}
+use Rattle.view_graph.specs.declared.search.Mark.TheVariants.{Open, Ranked}
 use Rattle.view_graph.specs.declared.search.Frame.{Frame}
-use Rattle.view_graph.specs.Search.{used_in, mark_at, begun, Edge, IsSearch, IsCircle}
+use Rattle.view_graph.specs.Search.{used_in, mark_at, begun, IsCircle}
 use Rattle.view_graph.proofs.Walking.{used_is, edge_at, last_within, last_scanned, last_low, replaced, goes_on_ranked, goes_on_entered, circle_found, unseen_from}
 use Rattle.view_graph.proofs.search.step.Goals as goal
 

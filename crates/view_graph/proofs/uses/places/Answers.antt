@@ -1,4 +1,4 @@
-use Rattle.std.proofs.Common.{◌≡◌, ◌∙◌, ◌+◌, ap, sym, subst, ℕ, List, [], ◌∷◌, ◌++◌, map, take, drop, get_or}
+use Rattle.std.proofs.Common.{◌∙◌, ◌+◌, sym, subst, ℕ, List, [], ◌∷◌, ◌++◌, map, take, drop, get_or}
 use Rattle.view_graph.specs.declared.names.mentions.Mention.{Mention}
 use Rattle.view_graph.specs.declared.names.mentions.Mention.TheVariants.{View}
 use Rattle.view_graph.specs.Names.{Named}

@@ -1,6 +1,5 @@
-use Rattle.std.proofs.Common.{◌≡◌, ◌∙◌, ◌++◌, ap, sym, map, List, IfOk}
+use Rattle.std.proofs.Common.{◌≡◌, ◌∙◌, ◌++◌, ap, map, List}
 use Rattle.std.proofs.lemmas.Result.{IfOk-weaker}
-use Rattle.aql_syntax.specs.declared.tree.Statement.{Statement}
 use Rattle.aql_syntax.specs.Views.{statement_of, name_of, query_of}
 use Rattle.view_graph.specs.Names.{Named, names_in_query}
 use Rattle.view_graph.specs.Mentions.{named_of}

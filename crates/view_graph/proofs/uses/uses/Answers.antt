@@ -1,11 +1,11 @@
-use Rattle.std.proofs.Common.{◌≡◌, ◌∙◌, ◌+◌, ◌++◌, ◌∷◌, [], ap, sym, subst, List, map, take, drop, length, arith, All, ℕ}
+use Rattle.std.proofs.Common.{◌∙◌, ◌+◌, ◌++◌, ◌∷◌, ap, sym, subst, List, map, take, drop, arith, All, ℕ}
 use Rattle.std.proofs.lemmas.List.{length-map, take-map}
 use Rattle.std.proofs.lemmas.Result.{err_from_is_err_and}
 use Rattle.aql_syntax.specs.Trees.{Statement, require}
 use Rattle.aql_syntax.specs.declared.tree.Statement as declared
 use Rattle.aql_syntax.specs.Views.{statement_of}
 use Rattle.view_graph.specs.Names.{IsDefined, names_looked_up, looked_up_by}
-use Rattle.view_graph.specs.Answers.{IfFault, IsFault}
+use Rattle.view_graph.specs.Answers.{IsFault}
 use Rattle.view_graph.specs.Lookups.{PlacesUsed, MentionsUndefined}
 use Rattle.view_graph.proofs.Splits.{map_split, length-map_take, get_or-map_within}
 use Rattle.view_graph.proofs.LookingUp.{graph_more, undefined_fault}

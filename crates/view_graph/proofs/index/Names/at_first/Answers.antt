@@ -1,4 +1,3 @@
-use Rattle.std.proofs.Common.{◌≡◌, rules}
 use Rattle.view_graph.specs.Indexes.{entry_of, has}
 use Rattle.view_graph.proofs.Defining.{index_first}
 use Rattle.view_graph.proofs.index.Names.at_first.Goals as goal
