@@ -224,8 +224,7 @@ const NOT_BUILT_1: &str = "aqlx: statement 1: not built yet\n";
 
 const NOT_BUILT_2: &str = "aqlx: statement 2: not built yet\n";
 
-/// Each row: a program that isn't a view of a pattern and its output, the first statement that keeps it from
-/// being that, and the line.
+/// Each row: a program that isn't of the one form, the first statement off it, and the line.
 const UNBUILT: [(&str, u32, &str); 18] = [
     ("", 1, NOT_BUILT_1),
     ("-- nothing\n/* at all */", 1, NOT_BUILT_1),
@@ -450,28 +449,18 @@ fn sixty_four_parentheses_are_read_and_one_more_is_not(rt: HostRuntime) -> Resul
 #[test]
 fn a_program_of_the_limit_is_read_and_a_longer_one_is_not(rt: HostRuntime) -> Result<(), Fail> {
     let alloc = rt.alloc();
+    let long = ProgramFault::Large {
+        what: What::Bytes,
+        number: 1_048_577,
+    };
     let rows = [
         (
             1_048_576usize,
             ProgramFault::Unbuilt { statement: 1 },
             NOT_BUILT_1,
         ),
-        (
-            1_048_577,
-            ProgramFault::Large {
-                what: What::Bytes,
-                number: 1_048_577,
-            },
-            "aqlx: program too large: bytes 1048577\n",
-        ),
-        (
-            1_100_000,
-            ProgramFault::Large {
-                what: What::Bytes,
-                number: 1_048_577,
-            },
-            "aqlx: program too large: bytes 1048577\n",
-        ),
+        (1_048_577, long, "aqlx: program too large: bytes 1048577\n"),
+        (1_100_000, long, "aqlx: program too large: bytes 1048577\n"),
     ];
     for (count, fault, line) in &rows {
         let spaces = vec![in alloc; b' '; *count]?;

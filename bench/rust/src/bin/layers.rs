@@ -1,6 +1,7 @@
 //! The work of the benches of `aql_bench`, written by hand over the crate `regex` and std. For comparison only.
 //!
 //! usage: layers NAME FILE ROUNDS
+use std::collections::HashMap;
 use std::time::{Duration, Instant};
 
 /// A span of characters, half-open, from 0.
@@ -279,6 +280,81 @@ fn rows(name: &str, text: &str, rounds: u32, order: &str) {
     });
 }
 
+/// So many entries: each tenth is a token of the documents, the others stand in no text.
+fn entries(docs: &[Document<'_>], number: usize) -> Vec<String> {
+    let mut entries = Vec::new();
+    for i in 0..number {
+        if i % 10 == 0 && !docs.is_empty() {
+            let doc = &docs[i % docs.len()];
+            if !doc.tokens.is_empty() {
+                let token = doc.tokens[i % doc.tokens.len()];
+                entries.push(doc.text[doc.byte(token.begin)..doc.byte(token.end)].to_owned());
+                continue;
+            }
+        }
+        entries.push(format!("zq{i}"));
+    }
+    entries
+}
+
+/// Folds a token into the buffer: ASCII letter by letter, anything else by std.
+fn fold(token: &str, into: &mut String) {
+    into.clear();
+    if token.is_ascii() {
+        into.push_str(token);
+        into.make_ascii_lowercase();
+    } else {
+        into.push_str(&token.to_lowercase());
+    }
+}
+
+/// The text of a document's tokens is folded into one buffer and looked up in a map.
+fn dictionary(name: &str, text: &str, rounds: u32, number: usize) {
+    let mut buffer = String::new();
+    let mut map: HashMap<String, usize> = HashMap::new();
+    for entry in entries(&documents(text), number) {
+        fold(&entry, &mut buffer);
+        map.insert(buffer.clone(), 0);
+    }
+    let mut found: Vec<(usize, Span)> = Vec::new();
+    run(name, text.len(), rounds, || {
+        let mut count = 0;
+        for line in text.lines() {
+            let doc = Document::new(line);
+            found.clear();
+            for token in &doc.tokens {
+                fold(&doc.text[doc.byte(token.begin)..doc.byte(token.end)], &mut buffer);
+                if let Some(dict) = map.get(buffer.as_str()) {
+                    found.push((*dict, *token));
+                }
+            }
+            count += found.len() as u64;
+        }
+        count
+    });
+}
+
+/// From each span's begin to the end of one of the five from it on.
+fn nested(spans: &[Span]) -> Vec<Span> {
+    let of = |(i, span): (usize, &Span)| {
+        let last = spans.get(i + i % 5).unwrap_or(span);
+        Span { begin: span.begin, end: last.end.max(span.end) }
+    };
+    spans.iter().enumerate().map(of).collect()
+}
+
+/// Rows of one span, made, and sorted where that is asked. The policies are measured against the sort.
+fn span_rows(name: &str, text: &str, rounds: u32, sorted: bool) {
+    let spans = nested(&if text.is_ascii() { ascii_tokens(text.as_bytes()) } else { decoded_tokens(text) });
+    run(name, text.len(), rounds, || {
+        let mut values: Vec<Value> = spans.iter().map(|span| Value::Span(*span)).collect();
+        if sorted && !values.is_sorted() {
+            values.sort_unstable();
+        }
+        values.len() as u64
+    });
+}
+
 fn main() {
     let words: Vec<String> = std::env::args().collect();
     let [_, name, file, rounds] = words.as_slice() else {
@@ -305,6 +381,10 @@ fn main() {
         "rows-rising" => rows(name, &text, rounds, "rising"),
         "rows-falling" => rows(name, &text, rounds, "falling"),
         "rows-mixed" => rows(name, &text, rounds, "mixed"),
+        "dictionary-10" => dictionary(name, &text, rounds, 10),
+        "dictionary-10000" => dictionary(name, &text, rounds, 10_000),
+        "spans-made" => span_rows(name, &text, rounds, false),
+        "spans-sorted" => span_rows(name, &text, rounds, true),
         _ => {
             eprintln!("no bench has the name {name}");
             std::process::exit(2);
