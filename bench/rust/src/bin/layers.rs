@@ -236,12 +236,12 @@ fn token_runs(name: &str, text: &str, rounds: u32, pattern: &str) {
 }
 
 /// Swaps each place with one far from it.
-fn mix(pairs: &mut [(Span, Span)]) {
-    let count = pairs.len();
+fn mix<T>(items: &mut [T]) {
+    let count = items.len();
     let mut other = 0usize;
     for i in 0..count {
         other = other.wrapping_add(0x9e37_79b9) % count;
-        pairs.swap(i, other);
+        items.swap(i, other);
     }
 }
 
@@ -334,13 +334,15 @@ fn dictionary(name: &str, text: &str, rounds: u32, number: usize) {
     });
 }
 
-/// From each span's begin to the end of one of the five from it on.
+/// From each span's begin to the end of one of the five from it on; in mixed order.
 fn nested(spans: &[Span]) -> Vec<Span> {
     let of = |(i, span): (usize, &Span)| {
         let last = spans.get(i + i % 5).unwrap_or(span);
         Span { begin: span.begin, end: last.end.max(span.end) }
     };
-    spans.iter().enumerate().map(of).collect()
+    let mut nested: Vec<Span> = spans.iter().enumerate().map(of).collect();
+    mix(&mut nested);
+    nested
 }
 
 /// Rows of one span, made, and sorted where that is asked. The policies are measured against the sort.
