@@ -194,44 +194,43 @@ fn run(name: &str, bytes: usize, rounds: u32, mut round: impl FnMut() -> u64) {
     eprintln!("{name}: {speed} MB/s, best of {rounds}, {} us, came to {came}", nanos / 1000);
 }
 
-fn matches(name: &str, text: &str, rounds: u32, pattern: &str) {
-    let regex = regex::Regex::new(pattern).expect("a pattern");
+/// A search over each document puts what it finds into one list that is kept; the spans are counted.
+fn search(name: &str, text: &str, rounds: u32, mut put: impl FnMut(&Document<'_>, &mut Vec<Option<Span>>)) {
     let docs = documents(text);
     let mut found = Vec::new();
     run(name, text.len(), rounds, || {
         let mut count = 0;
         for doc in &docs {
             found.clear();
-            for at in regex.find_iter(doc.text) {
-                found.push(Some(Span { begin: doc.place(at.start()), end: doc.place(at.end()) }));
-            }
+            put(doc, &mut found);
             count += found.len() as u64;
         }
         count
     });
 }
 
+fn matches(name: &str, text: &str, rounds: u32, pattern: &str) {
+    let regex = regex::Regex::new(pattern).expect("a pattern");
+    search(name, text, rounds, |doc, found| {
+        for at in regex.find_iter(doc.text) {
+            found.push(Some(Span { begin: doc.place(at.start()), end: doc.place(at.end()) }));
+        }
+    });
+}
+
 fn token_runs(name: &str, text: &str, rounds: u32, pattern: &str) {
     let regex = regex::Regex::new(&format!("^(?:{pattern})$")).expect("a pattern");
-    let docs = documents(text);
-    let mut found = Vec::new();
-    run(name, text.len(), rounds, || {
-        let mut count = 0;
-        for doc in &docs {
-            found.clear();
-            for i in 0..doc.tokens.len() {
-                let begin = doc.byte(doc.tokens[i].begin);
-                for k in (1..=4.min(doc.tokens.len() - i)).rev() {
-                    let end = doc.byte(doc.tokens[i + k - 1].end);
-                    if regex.is_match(&doc.text[begin..end]) {
-                        found.push(Some(Span { begin: doc.tokens[i].begin, end: doc.tokens[i + k - 1].end }));
-                        break;
-                    }
+    search(name, text, rounds, |doc, found| {
+        for i in 0..doc.tokens.len() {
+            let begin = doc.byte(doc.tokens[i].begin);
+            for k in (1..=4.min(doc.tokens.len() - i)).rev() {
+                let end = doc.byte(doc.tokens[i + k - 1].end);
+                if regex.is_match(&doc.text[begin..end]) {
+                    found.push(Some(Span { begin: doc.tokens[i].begin, end: doc.tokens[i + k - 1].end }));
+                    break;
                 }
             }
-            count += found.len() as u64;
         }
-        count
     });
 }
 
