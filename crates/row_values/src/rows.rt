@@ -39,6 +39,24 @@ impl<'d> Rows<'d> {
         }
     }
 
+    /// The list of `rows`, each of `width` columns. It takes no memory.
+    pub fn from_vec(width: u32, rows: Vec<Row<'d>>) -> Rows<'d>
+        requires few { vec_len rows < 2 ^ 32 }
+        requires width { All (λ row. length row ≡ width) rows.items }
+        ensures { result ≡ record { width = width; rows = rows.entry.items } }
+    {
+        Rows { width, rows }
+    }
+
+    /// The rows themselves, in their order. It takes no memory.
+    pub fn into_vec(self) -> Vec<Row<'d>>
+        ensures rows { result.items ≡ self.entry.rows }
+        ensures few { vec_len result < 2 ^ 32 }
+        ensures each_row { All (λ row. length row ≡ self.entry.width) result.items }
+    {
+        self.rows
+    }
+
     /// The number of columns of each row.
     pub fn width(&self) -> u32
         ensures width { result ≡ self.now.width }

@@ -170,6 +170,20 @@ fn a_list_of_rows_keeps_its_width_and_is_copied_whole(rt: HostRuntime) -> Result
     Ok(())
 }
 
+#[test]
+fn a_list_gives_its_rows_back(rt: HostRuntime) -> Result<(), Fail> {
+    let alloc = rt.alloc();
+    let given = column(alloc, &[Value::Int(2), Value::Null])?;
+    let rows = given.into_vec();
+    assert_eq!(rt; rows.len(), 2);
+    assert!(rt; rows[0] == Row::single(alloc, Value::Int(2)));
+    let mut made = Vec::new(alloc);
+    made.push(Row::single(alloc, Value::Null))?;
+    let list = Rows::from_vec(1, made);
+    assert_eq!(rt; (list.width(), list.len()), (1, 1));
+    Ok(())
+}
+
 /// The texts, as a list of names.
 fn names(alloc: Global, texts: &[&str]) -> Result<OwnedList<OwnedText>, Fail> {
     let mut names = OwnedList::new(alloc);
