@@ -1,0 +1,6 @@
+use Rattle.std.proofs.Common.{◌≡◌, map, take}
+use Rattle.group_agg.specs.Groups.{value_in, key_of}
+use Rattle.group_agg.proofs.groups.key_of.Given as goal
+
+abbrev pub invariant-loop-column : goal.invariant-loop-column
+invariant-loop-column l = l.key ≡ map (value_in l.row) (take l.column-index l.keys)

@@ -1,0 +1,104 @@
+-- Groups: the rows that have equal values in the key columns, and what is told of each group.
+use Rattle.std.specs.Prelude.{ℕ, ℤ, pos, ◌+ℤ◌, ◌≡◌, ◌≢◌, ◌<◌, ◌↔◌, Bool, true, false, not, List, [], ◌∷◌, Option, Some, None, length, map, fold, filter, slice_index_or, All, Contains}
+use Rattle.std.specs.Int.{saturate_to_bits}
+use Rattle.std.specs.List.{AllPairs, AllZip, filter_map}
+use Rattle.std.specs.Ordering.{is_lt, eq_by_cmp}
+use Rattle.aql_base.specs.Bags.{SameBag}
+use Rattle.row_values.specs.Datums.{Datum, null, int, truth, text, span, datum_cmp}
+use Rattle.row_values.specs.Rows.{row_cmp}
+use Rattle.group_agg.specs.declared.agg.Agg.{Agg}
+use Rattle.group_agg.specs.declared.agg.Agg.TheVariants.{Key, Count, CountOf, Sum, Min, Max}
+
+-- the value of a row in a column
+abbrev pub value_in : List Datum → ℕ → Datum
+value_in row column = slice_index_or row column null
+
+-- the values of a row in the key columns
+abbrev pub key_of : List ℕ → List Datum → List Datum
+key_of keys row = map (value_in row) keys
+
+-- the rows whose values in the key columns are these; Null equals Null
+abbrev pub group_of : List ℕ → List (List Datum) → List Datum → List (List Datum)
+group_of keys rows key = filter (λ row. eq_by_cmp row_cmp (key_of keys row) key) rows
+
+-- whether a value is Null
+abbrev pub is_null : Datum → Bool
+is_null null = true
+is_null value = false
+
+-- the values of a column that aren't Null
+abbrev pub values_of : ℕ → List (List Datum) → List Datum
+values_of column rows = filter (λ value. not (is_null value)) (map (λ row. value_in row column) rows)
+
+-- the integer that a value is
+abbrev pub integer_of : Datum → Option ℤ
+integer_of (int n) = Some n
+integer_of value = None
+
+-- the integers of a column
+abbrev pub integers_of : ℕ → List (List Datum) → List ℤ
+integers_of column rows = filter_map integer_of (map (λ row. value_in row column) rows)
+
+-- the exact total
+abbrev pub total_of : List ℤ → ℤ
+total_of ns = fold ◌+ℤ◌ (pos 0) ns
+
+-- the value is the total of the integers, or the nearer end of 64 bits where it is out of range; Null where there are none
+abbrev pub IsSum : List ℤ → Datum → Type 0
+IsSum [] value = value ≡ null
+IsSum (n ∷ ns) value = value ≡ int (saturate_to_bits 63 (total_of (n ∷ ns)))
+
+-- the value is one of the values, and none of them comes before it; Null where there are none
+abbrev pub IsFirst : (Datum → Datum → Bool) → List Datum → Datum → Type 0
+IsFirst before [] value = value ≡ null
+IsFirst before (x ∷ xs) value = Contains (x ∷ xs) value × All (λ other. before other value ≡ false) (x ∷ xs)
+
+-- in value order, or from its end
+abbrev pub comes_before : Bool → Datum → Datum → Bool
+comes_before false a b = is_lt (datum_cmp a b)
+comes_before true a b = is_lt (datum_cmp b a)
+
+-- the least of the values, Null where there are none
+abbrev pub IsLeast : List Datum → Datum → Type 0
+IsLeast = IsFirst (comes_before false)
+
+-- the greatest of the values, Null where there are none
+abbrev pub IsGreatest : List Datum → Datum → Type 0
+IsGreatest = IsFirst (comes_before true)
+
+-- the value of an aggregate for a group with this key
+abbrev pub IsAggregate : List Datum → List (List Datum) → Agg → Datum → Type 0
+IsAggregate key group (Key k) value = value ≡ slice_index_or key k null
+IsAggregate key group Count value = value ≡ int (pos (length group))
+IsAggregate key group (CountOf column) value = value ≡ int (pos (length (values_of column group)))
+IsAggregate key group (Sum column) value = IsSum (integers_of column group) value
+IsAggregate key group (Min column) value = IsLeast (values_of column group) value
+IsAggregate key group (Max column) value = IsGreatest (values_of column group) value
+
+-- the row of a group: the value of each aggregate
+abbrev pub IsGroupRow : List ℕ → List Agg → List (List Datum) → List Datum → List Datum → Type 0
+IsGroupRow keys aggs rows key row = AllZip (IsAggregate key (group_of keys rows key)) aggs row
+
+-- out has one row for each set of rows with equal keys, in any order
+pub record IsGrouped (keys : List ℕ) (aggs : List Agg) (rows out : List (List Datum)) : Type 0 where
+  -- the keys of the groups, each once
+  pub groups : List (List Datum)
+  pub distinct : AllPairs (λ a b. a ≢ b) groups
+  pub exactly : (key : List Datum) → Contains groups key ↔ Contains (map (key_of keys) rows) key
+  pub row_of : List Datum → List Datum
+  pub each_row : (key : List Datum) → IsGroupRow keys aggs rows key (row_of key)
+  pub same_bag : SameBag (map row_of groups) out
+
+-- an aggregate that gives a key gives one of so many
+abbrev pub HasKey : ℕ → Agg → Type 0
+HasKey keys (Key k) = k < keys
+HasKey keys agg = Unit {0}
+
+-- an aggregate's column is one of so many
+abbrev pub HasColumn : ℕ → Agg → Type 0
+HasColumn width (Key k) = Unit {0}
+HasColumn width Count = Unit {0}
+HasColumn width (CountOf column) = column < width
+HasColumn width (Sum column) = column < width
+HasColumn width (Min column) = column < width
+HasColumn width (Max column) = column < width

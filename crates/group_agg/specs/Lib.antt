@@ -1,0 +1,6 @@
+-- groups of rows, and their aggregates
+pub mod Groups
+-- the first rows by some columns
+pub mod Limits
+-- Not in any public clause: how an aggregate is added up
+pub mod Tallies
