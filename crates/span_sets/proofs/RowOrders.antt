@@ -61,6 +61,21 @@ pub row_order_of-shown : {R : Type 0} (shown : R → List Datum × ℕ) (rows : 
 row_order_of-shown shown rows before after is moved up =
     row_order_of-unique rows (map shown after) (IsSorted-map numbered_cmp shown after up) (subst (λ xs. IsPermutation xs (map shown after)) is (IsPermutation-map shown before after moved))
 
+less_first_two : (o p q : Ordering) → is_lt (ordering_then o (ordering_then p q)) ≡ false → is_lt (ordering_then o p) ≡ false
+less_first_two Less p q e = e
+less_first_two Equal Less q e = e
+less_first_two Equal Equal q e = refl
+less_first_two Equal Greater q e = refl
+less_first_two Greater p q e = refl
+
+-- a list that is sorted by row, number and more is sorted by row and number
+pub IsSorted-first_two : {R : Type 0} (shown : R → List Datum × ℕ) (more : R → R → Ordering) (xs : List R)
+    → IsSorted (λ a b. ordering_then (row_cmp (shown a).0 (shown b).0) (ordering_then (nat_cmp (shown a).1 (shown b).1) (more a b))) xs → IsSorted (λ a b. numbered_cmp (shown a) (shown b)) xs
+IsSorted-first_two shown more xs up = λ k d low high.
+    let next = get_or xs (k + 1) d in
+    let here = get_or xs k d in
+    less_first_two (row_cmp (shown next).0 (shown here).0) (nat_cmp (shown next).1 (shown here).1) (more next here) (up k d low high)
+
 -- numbers are those of the rows
 numbers_from : (P : List Datum → Type 0) (i : ℕ) (rows : List (List Datum)) → All P rows → All (λ p. P p.0 × (i ≤ p.1) × (p.1 < i + length rows)) (numbered_from i rows)
 unfolding numbered_from

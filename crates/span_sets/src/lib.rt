@@ -9,6 +9,7 @@ mod candidate;
 mod consolidation;
 mod containment;
 mod left_to_right;
+mod placed;
 mod policy;
 mod runs;
 mod stays;

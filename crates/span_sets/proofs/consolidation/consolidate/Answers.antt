@@ -1,11 +1,11 @@
-use Rattle.std.proofs.Common.{◌≡◌, ℕ, ◌<◌, List, [], Bool, Option, None, map, length, get_or, sym, ap, ap₂, subst, ◌∙◌, arith, Bor, All}
+use Rattle.std.proofs.Common.{◌≡◌, ℕ, suc, ◌<◌, List, [], ◌∷◌, Bool, Option, None, map, length, get_or, refl, sym, ap, ap₂, subst, ◌∙◌, arith, All}
 use Rattle.std.proofs.lemmas.List.{length-map}
 use Rattle.row_values.specs.Datums.{Datum}
 use Rattle.row_values.specs.Rows.{RowList, IsInOrder}
 use Rattle.row_values.proofs.Sorted.{IsInOrder-sorted}
 use Rattle.std.proofs.lemmas.List.Elements.{Contains-get_or}
 use Rattle.span_sets.specs.declared.policy.Policy.{Policy}
-use Rattle.row_values.specs.declared.row.Row.{Row}
+use Rattle.span_sets.specs.declared.placed.PlacedRow.{PlacedRow}
 use Rattle.span_token.specs.Extents.{Extent}
 use Rattle.span_token.specs.declared.span.Span.{Span}
 use Rattle.span_sets.specs.Consolidation.{target_of, in_row_order, rows_in_order, targets_in_order, IsKept, IsConsolidated}
@@ -14,93 +14,111 @@ use Rattle.span_sets.specs.Orders.{row_order_of}
 use Rattle.span_sets.proofs.RowOrders.{rows_in_order-sorted, IsInOrder-picked, All-row_order_of, All-shown, targets_in_order-shown, rows_in_order-shown, length-order}
 use Rattle.span_sets.proofs.consolidation.consolidate.Goals as goal
 
-abbrev shown : Bor Row × ℕ → List Datum × ℕ
-shown p = (p.0.now, p.1)
+abbrev shown : PlacedRow → List Datum × ℕ
+shown p = (p.row, p.place)
 
--- what holds of each row, and that its number is below their count
-ranged : (P : List Datum → Type 0) (rows : List (List Datum)) (order : List (Bor Row × ℕ)) → map shown order ≡ row_order_of rows → All P rows → All (λ p. P p.0.now × (p.1 < length rows)) order
-ranged P rows order is all =
-    All-shown (λ q. P q.0 × (q.1 < length rows)) shown order
-    (subst (λ (qs : List (List Datum × ℕ)). All (λ q. P q.0 × (q.1 < length rows)) qs) (sym is) (λ k d h. let one = All-row_order_of P rows all k d h in (one.0, omega (arith, one.2))))
+-- what holds of each row holds of the rows in row order
+each_placed : (P : List Datum → Type 0) (rows : List (List Datum)) (order : List PlacedRow) → map shown order ≡ row_order_of rows → All P rows → All (λ p. P p.row) order
+each_placed P rows order is all =
+    All-shown (λ q. P q.0) shown order
+    (subst (λ (qs : List (List Datum × ℕ)). All (λ q. P q.0) qs) (sym is) (λ k d h. (All-row_order_of P rows all k d h).0))
 
-pub in_order-requires : goal.in_order-requires
-in_order-requires c = rw (c.as_slice.ensures.value)
-    (λ k d h. omega (arith, (ranged (λ r. Unit {0}) c.args.rows.rows c.in_ok-order.order.items c.in_ok-order.ensures.order (λ i e g. tt) k d h).1, c.as_slice-2.ensures.len, c.requires))
+in_range : (rows : List (List Datum)) (targets : List (Option Span)) (order : List PlacedRow) → map shown order ≡ row_order_of rows → length targets ≡ length rows → length order ≡ length rows
+in_range rows targets order is each = length-order shown rows (map target_of targets) order is (length-map targets target_of ∙ each)
 
 pub stays-requires : goal.stays-requires
 stays-requires c =
-    let targets : List (Option Extent) = map target_of c.args.targets.items in
-    let each : length targets ≡ length c.args.rows.rows = length-map c.args.targets.items target_of ∙ sym c.args.targets.ok.0 ∙ c.requires.one_target_each in
+    let is : map shown c.in_ok-order.order.items ≡ row_order_of c.args.rows.rows = c.in_ok-order.ensures.order ∙ ap row_order_of c.into_vec.ensures.rows in
     omega (
       arith,
       ap (λ (ts : List (Option Span)). length ts) c.as_slice-3.ensures.value,
-      c.in_ok-order.ensures.few,
-      ap (λ (ts : List (Option Extent)). length ts) c.in_ok-targets.ensures,
-      length-map c.in_ok-targets.targets.items target_of,
-      length-map c.as_slice.result.now (λ p. get_or (map target_of c.as_slice-2.result.now) p.1 None),
-      ap (λ (ps : List (Bor Row × ℕ)). length ps) c.as_slice.ensures.value,
-      length-order shown c.args.rows.rows targets c.in_ok-order.order.items c.in_ok-order.ensures.order each,
+      ap (λ (ts : List (Option Span)). length ts) c.in_ok-targets.ensures,
+      length-map c.as_slice-2.result.now (λ (p : PlacedRow). p.target),
+      ap (λ (ps : List PlacedRow). length ps) c.as_slice-2.ensures.value,
+      in_range c.args.rows.rows c.args.targets.items c.in_ok-order.order.items is (sym c.args.targets.ok.0 ∙ c.requires.one_target_each),
+      c.into_vec.ensures.few,
+      c.into_vec.result.ok.0,
+      ap (λ (rs : List (List Datum)). length rs) c.into_vec.ensures.rows,
+    )
+
+pub marked-requires-clause-few : goal.marked-requires-clause-few
+marked-requires-clause-few c =
+    let is : map shown c.in_ok-order.order.items ≡ row_order_of c.args.rows.rows = c.in_ok-order.ensures.order ∙ ap row_order_of c.into_vec.ensures.rows in
+    omega (
+      arith,
+      c.in_ok-order.order.ok.0,
+      in_range c.args.rows.rows c.args.targets.items c.in_ok-order.order.items is (sym c.args.targets.ok.0 ∙ c.requires.one_target_each),
+      c.into_vec.ensures.few,
+      c.into_vec.result.ok.0,
+      ap (λ (rs : List (List Datum)). length rs) c.into_vec.ensures.rows,
     )
 
 pub marked-requires-clause-width : goal.marked-requires-clause-width
-marked-requires-clause-width c = rw (c.as_slice-4.ensures.value, c.width.ensures.width)
-    (λ k d h. (ranged (λ r. length r ≡ c.args.rows.width) c.args.rows.rows c.in_ok-order.order.items c.in_ok-order.ensures.order c.width.ensures.each_row k d h).0)
+marked-requires-clause-width c = rw (c.width-width.ensures.width)
+    (each_placed (λ r. length r ≡ c.args.rows.width) c.args.rows.rows c.in_ok-order.order.items (c.in_ok-order.ensures.order ∙ ap row_order_of c.into_vec.ensures.rows) c.width-width.ensures.each_row)
 
 same_list : (a b : RowList) → a.width ≡ b.width → a.rows ≡ b.rows → a ≡ b
 same_list a b w r = λ i. record { width = w i; rows = r i }
 
+all_fetched : (targets : List (Option Extent)) (order : List PlacedRow) → All (λ p. target_of p.target ≡ get_or targets p.place None) order → map target_of (map (λ (p : PlacedRow). p.target) order) ≡ map (λ (p : PlacedRow). get_or targets p.place None) order
+all_fetched targets [] all = refl
+all_fetched targets (p ∷ ps) all = ap₂ (λ (t : Option Extent) (ts : List (Option Extent)). t ∷ ts) (all 0 p (omega arith)) (all_fetched targets ps (λ k d h. all (suc k) d (omega (arith, h))))
+
 -- the targets that `stays` looks at are those of the rows in row order
-placed : (rows : List (List Datum)) (targets : List (Option Span)) (order seen : List (Bor Row × ℕ)) (given fetched passed : List (Option Span))
-    → map shown order ≡ row_order_of rows → length targets ≡ length rows → seen ≡ order → given ≡ targets → map target_of fetched ≡ map (λ p. get_or (map target_of given) p.1 None) seen → passed ≡ fetched
-    → map target_of passed ≡ targets_in_order rows (map target_of targets)
-placed rows targets order seen given fetched passed is each saw gave got pass =
-    ap (λ (ts : List (Option Span)). map target_of ts) pass ∙ got
-    ∙ ap₂ (λ (ts : List (Option Span)) (ps : List (Bor Row × ℕ)). map (λ p. get_or (map target_of ts) p.1 None) ps) gave saw
+placed : (rows : List (List Datum)) (targets : List (Option Span)) (order seen : List PlacedRow) (given fetched passed : List (Option Span))
+    → map shown order ≡ row_order_of rows → length targets ≡ length rows → seen ≡ order → given ≡ targets → All (λ p. target_of p.target ≡ get_or (map target_of given) p.place None) order
+    → fetched ≡ map (λ p. p.target) seen → passed ≡ fetched → map target_of passed ≡ targets_in_order rows (map target_of targets)
+placed rows targets order seen given fetched passed is each saw gave found got pass =
+    ap (λ (ts : List (Option Span)). map target_of ts) (pass ∙ got ∙ ap (λ (ps : List PlacedRow). map (λ (p : PlacedRow). p.target) ps) saw)
+    ∙ all_fetched (map target_of targets) order (subst (λ (ts : List (Option Span)). All (λ (p : PlacedRow). target_of p.target ≡ get_or (map target_of ts) p.place None) order) gave found)
     ∙ targets_in_order-shown shown rows (map target_of targets) order is (length-map targets target_of ∙ each)
 
 -- the rows that `marked` gives are those at the places
-picked : (rows : List (List Datum)) (targets : List (Option Span)) (order seen : List (Bor Row × ℕ)) (marks looked : List Bool)
-    → map shown order ≡ row_order_of rows → length targets ≡ length rows → seen ≡ order → looked ≡ marks
-    → map (λ i. get_or (map (λ (p : Bor Row × ℕ). p.0.now) seen) i []) (marked_places looked) ≡ map (λ i. get_or (rows_in_order rows (map target_of targets)) i []) (marked_places marks)
-picked rows targets order seen marks looked is each saw look =
-    ap₂ (λ (ps : List (Bor Row × ℕ)) (bs : List Bool). map (λ i. get_or (map (λ (p : Bor Row × ℕ). p.0.now) ps) i []) (marked_places bs)) saw look
+picked : (rows : List (List Datum)) (targets : List (Option Span)) (order : List PlacedRow) (marks looked : List Bool)
+    → map shown order ≡ row_order_of rows → length targets ≡ length rows → looked ≡ marks
+    → map (λ i. get_or (map (λ (p : PlacedRow). p.row) order) i []) (marked_places looked) ≡ map (λ i. get_or (rows_in_order rows (map target_of targets)) i []) (marked_places marks)
+picked rows targets order marks looked is each look =
+    ap (λ (bs : List Bool). map (λ i. get_or (map (λ (p : PlacedRow). p.row) order) i []) (marked_places bs)) look
     ∙ ap (λ (rs : List (List Datum)). map (λ i. get_or rs i []) (marked_places marks)) (rows_in_order-shown shown rows (map target_of targets) order is (length-map targets target_of ∙ each))
 
 pub returns-clause-kept : goal.returns-clause-kept
 returns-clause-kept c =
     let rows : List (List Datum) = c.args.rows.rows in
     let targets : List (Option Span) = c.args.targets.items in
-    let order : List (Bor Row × ℕ) = c.in_ok-order.order.items in
+    let order : List PlacedRow = c.in_ok-order.order.items in
     let marks : List Bool = c.in_ok-marks.marks.items in
+    let is : map shown order ≡ row_order_of rows = c.in_ok-order.ensures.order ∙ ap row_order_of c.into_vec.ensures.rows in
     let each : length targets ≡ length rows = sym c.args.targets.ok.0 ∙ c.requires.one_target_each in
-    let own = placed rows targets order c.as_slice.result.now c.as_slice-2.result.now c.in_ok-targets.targets.items c.as_slice-3.result.now c.in_ok-order.ensures.order each c.as_slice.ensures.value c.as_slice-2.ensures.value c.in_ok-targets.ensures c.as_slice-3.ensures.value in
+    let own = placed rows targets order c.as_slice-2.result.now c.as_slice.result.now c.in_ok-targets.targets.items c.as_slice-3.result.now is each c.as_slice-2.ensures.value c.as_slice.ensures.value c.in_ok-order.ensures.targets c.in_ok-targets.ensures c.as_slice-3.ensures.value in
     record {
       kept = marked_places marks;
       stay = subst (λ (ts : List (Option Extent)). IsKept c.args.policy ts (marked_places marks)) own c.in_ok-marks.ensures.kept;
-      rows_are = ap (λ (out : RowList). out.rows) c.in_ok-out.ensures ∙ picked rows targets order c.as_slice-4.result.now marks c.as_slice-5.result.now c.in_ok-order.ensures.order each c.as_slice-4.ensures.value c.as_slice-5.ensures.value;
-      width_is = ap (λ (out : RowList). out.width) c.in_ok-out.ensures ∙ c.width.ensures.width;
+      rows_are = ap (λ (out : RowList). out.rows) c.in_ok-out.ensures ∙ picked rows targets order marks c.as_slice-4.result.now is each c.as_slice-4.ensures.value;
+      width_is = ap (λ (out : RowList). out.width) c.in_ok-out.ensures ∙ c.width-width.ensures.width;
     }
 
 pub returns-clause-only : goal.returns-clause-only
 unfolding returns-clause-kept
-returns-clause-only c = λ other is.
+returns-clause-only c = λ other same.
     let rows : List (List Datum) = c.args.rows.rows in
     let targets : List (Option Span) = c.args.targets.items in
-    let order : List (Bor Row × ℕ) = c.in_ok-order.order.items in
+    let order : List PlacedRow = c.in_ok-order.order.items in
+    let is : map shown order ≡ row_order_of rows = c.in_ok-order.ensures.order ∙ ap row_order_of c.into_vec.ensures.rows in
     let each : length targets ≡ length rows = sym c.args.targets.ok.0 ∙ c.requires.one_target_each in
-    let own = placed rows targets order c.as_slice.result.now c.as_slice-2.result.now c.in_ok-targets.targets.items c.as_slice-3.result.now c.in_ok-order.ensures.order each c.as_slice.ensures.value c.as_slice-2.ensures.value c.in_ok-targets.ensures c.as_slice-3.ensures.value in
+    let own = placed rows targets order c.as_slice-2.result.now c.as_slice.result.now c.in_ok-targets.targets.items c.as_slice-3.result.now is each c.as_slice-2.ensures.value c.as_slice.ensures.value c.in_ok-order.ensures.targets c.in_ok-targets.ensures c.as_slice-3.ensures.value in
     let mine : IsConsolidated c.args.policy c.args.rows (map target_of targets) c.in_ok-out.out = returns-clause-kept c in
-    let same : is.kept ≡ marked_places c.in_ok-marks.marks.items = c.in_ok-marks.ensures.only is.kept (subst (λ (ts : List (Option Extent)). IsKept c.args.policy ts is.kept) (sym own) is.stay) in
-    same_list other c.in_ok-out.out (is.width_is ∙ sym mine.width_is)
-    (is.rows_are ∙ ap (λ (ks : List ℕ). map (λ i. get_or (rows_in_order rows (map target_of targets)) i []) ks) same ∙ sym mine.rows_are)
+    let kept : same.kept ≡ marked_places c.in_ok-marks.marks.items = c.in_ok-marks.ensures.only same.kept (subst (λ (ts : List (Option Extent)). IsKept c.args.policy ts same.kept) (sym own) same.stay) in
+    same_list other c.in_ok-out.out (same.width_is ∙ sym mine.width_is)
+    (same.rows_are ∙ ap (λ (ks : List ℕ). map (λ i. get_or (rows_in_order rows (map target_of targets)) i []) ks) kept ∙ sym mine.rows_are)
 
 pub returns-clause-one_set : goal.returns-clause-one_set
 returns-clause-one_set c = λ a b is_a is_b.
     let rows : List (List Datum) = c.args.rows.rows in
     let targets : List (Option Span) = c.args.targets.items in
-    let order : List (Bor Row × ℕ) = c.in_ok-order.order.items in
+    let order : List PlacedRow = c.in_ok-order.order.items in
+    let is : map shown order ≡ row_order_of rows = c.in_ok-order.ensures.order ∙ ap row_order_of c.into_vec.ensures.rows in
     let each : length targets ≡ length rows = sym c.args.targets.ok.0 ∙ c.requires.one_target_each in
-    let own = placed rows targets order c.as_slice.result.now c.as_slice-2.result.now c.in_ok-targets.targets.items c.as_slice-3.result.now c.in_ok-order.ensures.order each c.as_slice.ensures.value c.as_slice-2.ensures.value c.in_ok-targets.ensures c.as_slice-3.ensures.value in
+    let own = placed rows targets order c.as_slice-2.result.now c.as_slice.result.now c.in_ok-targets.targets.items c.as_slice-3.result.now is each c.as_slice-2.ensures.value c.as_slice.ensures.value c.in_ok-order.ensures.targets c.in_ok-targets.ensures c.as_slice-3.ensures.value in
     c.in_ok-marks.ensures.only a (subst (λ (ts : List (Option Extent)). IsKept c.args.policy ts a) (sym own) is_a)
     ∙ sym (c.in_ok-marks.ensures.only b (subst (λ (ts : List (Option Extent)). IsKept c.args.policy ts b) (sym own) is_b))
 

@@ -1,12 +1,13 @@
-use Rattle.std.proofs.Common.{◌≡◌, ℕ, ◌+◌, List, [], ◌∷◌, ◌++◌, Bool, true, false, cond, map, filter, get_or, refl, sym, ap, ap₂, ◌∙◌, arith, Bor}
+use Rattle.std.proofs.Common.{◌≡◌, ℕ, ◌+◌, ◌<◌, List, [], ◌∷◌, ◌++◌, Bool, true, false, cond, map, filter, length, get_or, refl, sym, ap, ap₂, ◌∙◌, arith, All}
 use Rattle.std.specs.List.{range_with_len}
-use Rattle.std.proofs.lemmas.List.{map_push, map-id, get_or-map}
+use Rattle.std.proofs.lemmas.List.{map_push, map-id, get_or-map, length_push}
+use Rattle.std.proofs.lemmas.List.Elements.{All-push}
 use Rattle.std.proofs.lemmas.List.FromFn.{filter_of_map_range_with_len_more}
+use Rattle.std.proofs.lemmas.Iterator.Adapters.{YieldsList-from_vec}
+use Rattle.std.proofs.lemmas.Iterator.Consumers.{YieldsList-turn}
 use Rattle.row_values.specs.Datums.{Datum}
-use Rattle.row_values.specs.Rows.{RowList}
-use Rattle.row_values.specs.declared.row.Row.{Row}
+use Rattle.span_sets.specs.declared.placed.PlacedRow.{PlacedRow}
 use Rattle.span_sets.proofs.consolidation.marked.Goals as goal
-use Rattle.span_sets.proofs.consolidation.marked.Goals.{then-marks-i+in_ok-copy+in_ok-push, else-marks-i}
 
 -- one more number
 more : (p : ℕ → Bool) (n : ℕ) → filter p (range_with_len 0 (n + 1)) ≡ filter p (range_with_len 0 n) ++ cond (p n) (n ∷ []) []
@@ -15,31 +16,40 @@ more p n =
     ap (λ (xs : List ℕ). filter p xs) (sym (map-id (range_with_len 0 (n + 1)))) ∙ filter_of_map_range_with_len_more p (λ (x : ℕ). x) 0 n n whole
     ∙ ap (λ (xs : List ℕ). filter p xs ++ cond (p n) (n ∷ []) []) (map-id (range_with_len 0 n))
 
-abbrev listed : ℕ → List (List Datum) → RowList
-listed width rows = record { width = width; rows = rows }
-
 no_more : (xs : List ℕ) → xs ++ [] ≡ xs
 no_more [] = refl
 no_more (x ∷ xs) = ap (λ ys. x ∷ ys) (no_more xs)
 
-grown : (f : ℕ → List Datum) (p : ℕ → Bool) (n width : ℕ) (out : RowList) (row : List Datum) → out ≡ record { width = width; rows = map f (filter p (range_with_len 0 n)) } → p n ≡ true → row ≡ f n
-    → ◌≡◌ {A = RowList} (record { width = out.width; rows = out.rows ++ row ∷ [] }) (record { width = width; rows = map f (filter p (range_with_len 0 (n + 1))) })
-grown f p n width out row is passed same =
-    let rows : out.rows ++ row ∷ [] ≡ map f (filter p (range_with_len 0 (n + 1))) =
-    ap₂ (λ (rs : List (List Datum)) (r : List Datum). rs ++ r ∷ []) (ap (λ (list : RowList). list.rows) is) same ∙ sym (map_push f (filter p (range_with_len 0 n)) n)
-    ∙ ap (λ (ks : List ℕ). map f ks) (sym (more p n ∙ ap (λ (b : Bool). filter p (range_with_len 0 n) ++ cond b (n ∷ []) []) passed)) in
-    λ i. record { width = (is i).width; rows = rows i }
+one_more : (f : ℕ → List Datum) (mark : Bool) (n : ℕ) (ns : List ℕ) → cond mark (map f ns ++ f n ∷ []) (map f ns) ≡ map f (ns ++ cond mark (n ∷ []) [])
+one_more f true n ns = sym (map_push f ns n)
+one_more f false n ns = ap (λ (ks : List ℕ). map f ks) (sym (no_more ns))
 
-pub loop-i-preserved : goal.loop-i-preserved
-loop-i-preserved c =
-    let order : List (Bor Row × ℕ) = c.args.order.now in
-    let f : ℕ → List Datum = λ k. get_or (map (λ (q : Bor Row × ℕ). q.0.now) order) k [] in
+grown : (f : ℕ → List Datum) (p : ℕ → Bool) (n : ℕ) (out : List (List Datum)) (row : List Datum) (mark : Bool) → out ≡ map f (filter p (range_with_len 0 n)) → mark ≡ p n → row ≡ f n
+    → cond mark (out ++ row ∷ []) out ≡ map f (filter p (range_with_len 0 (n + 1)))
+grown f p n out row mark is e same =
+    ap₂ (λ (rs : List (List Datum)) (r : List Datum). cond mark (rs ++ r ∷ []) rs) is same ∙ one_more f mark n (filter p (range_with_len 0 n))
+    ∙ ap (λ (ks : List ℕ). map f ks) (ap (λ (b : Bool). filter p (range_with_len 0 n) ++ cond b (n ∷ []) []) e ∙ sym (more p n))
+
+-- what holds of the rows and of one more
+All-if : (P : List Datum → Type 0) (mark : Bool) (out : List (List Datum)) (row : List Datum) → All P out → P row → All P (cond mark (out ++ row ∷ []) out)
+All-if P true out row all one = All-push P out row all one
+All-if P false out row all one = all
+
+pub loop-placed-preserved : goal.loop-placed-preserved
+loop-placed-preserved c =
+    let order : List PlacedRow = c.args.order.items in
+    let n : ℕ = c.loop-placed.i in
+    let f : ℕ → List Datum = λ k. get_or (map (λ (q : PlacedRow). q.row) order) k [] in
     let p : ℕ → Bool = λ k. get_or c.args.marks.now k false in
-    elim c.if-marks-i.branch [
-      | then-marks-i+in_ok-copy+in_ok-push w ↦
-          w.out-is ∙ w.in_ok-push.ensures.ok ∙ grown f p c.loop-i.i c.args.width c.loop-i.out w.in_ok-copy.field-0 c.loop-i.invariant w.if-marks-i.true
-          (w.in_ok-copy.ensures ∙ sym (get_or-map (λ (q : Bor Row × ℕ). q.0.now) order c.loop-i.i w.index-order-i.result [] c.loop-i-test.true))
-      | else-marks-i w ↦
-          w.out-is ∙ c.loop-i.invariant
-          ∙ ap (λ (ks : List ℕ). listed c.args.width (map f ks)) (sym (more p c.loop-i.i ∙ ap (λ (b : Bool). filter p (range_with_len 0 c.loop-i.i) ++ cond b (c.loop-i.i ∷ []) []) w.if-marks-i.false ∙ no_more (filter p (range_with_len 0 c.loop-i.i))))
-    ]
+    let turn = YieldsList-turn (YieldsList-from_vec {s = c.into_iter-placed-iterator.result} order (cc) (cc)) c.loop-placed.yielded c.loop-placed.placed-iterator c.loop-placed.yielded_by c.next.result c.next.new.self c.in-Some.placed c.in-Some.is c.next.ensures.steps in
+    let placed : PlacedRow = c.in-Some.placed in
+    let short : n < length order = omega (arith, turn.0, c.loop-placed.invariant.counted) in
+    let at : placed ≡ get_or order n placed = turn.1 ∙ ap (λ (k : ℕ). get_or order k placed) (sym c.loop-placed.invariant.counted) in
+    let row : placed.row ≡ f n = ap (λ (q : PlacedRow). q.row) at ∙ sym (get_or-map (λ (q : PlacedRow). q.row) order n placed [] short) in
+    let wide : length placed.row ≡ c.args.width = ap (λ (q : PlacedRow). length q.row) at ∙ c.requires.width n placed short in
+    record {
+      counted = omega (arith, c.loop-placed.invariant.counted, length_push c.loop-placed.yielded placed);
+      few = omega (arith, c.in_ok-push_marked.ensures.len, c.loop-placed.invariant.few);
+      picked = c.in_ok-push_marked.ensures.rows ∙ grown f p n c.loop-placed.out.items placed.row (p n) c.loop-placed.invariant.picked refl row;
+      width = rw (c.in_ok-push_marked.ensures.rows) (All-if (λ r. length r ≡ c.args.width) (p n) c.loop-placed.out.items placed.row c.loop-placed.invariant.width wide);
+    }

@@ -1,6 +1,11 @@
-use Rattle.std.proofs.Common.{◌≡◌, map, get_or, [], filter, false}
+use Rattle.std.proofs.Common.{◌≡◌, ◌≤◌, length, map, get_or, [], filter, false, All, vec_len}
 use Rattle.std.specs.List.{range_with_len}
 use Rattle.span_sets.proofs.consolidation.marked.Given as goal
 
-abbrev pub invariant-loop-i : goal.invariant-loop-i
-invariant-loop-i l = l.out ≡ record { width = l.width; rows = map (λ k. get_or (map (λ p. p.0.now) l.order) k []) (filter (λ k. get_or l.marks k false) (range_with_len 0 l.i)) }
+abbrev pub invariant-loop-placed : goal.invariant-loop-placed
+invariant-loop-placed l = record {
+  counted : l.i ≡ length l.yielded;
+  few : vec_len l.out ≤ l.i;
+  picked : l.out.items ≡ map (λ k. get_or (map (λ p. p.row) l.fn.order.items) k []) (filter (λ k. get_or l.marks k false) (range_with_len 0 l.i));
+  width : All (λ row. length row ≡ l.width) l.out.items;
+}
