@@ -13,3 +13,4 @@ pub mod Capped
 pub mod Faults
 -- token-bounded patterns
 pub mod TokenRuns
+pub mod Offsets

@@ -8,6 +8,7 @@
 
 mod find;
 mod list;
+mod offsets;
 mod pattern;
 mod rows;
 mod runs;

@@ -6,11 +6,13 @@ ghost use Rattle.span_token.specs.Extents.{Extent, extent_of};
 ghost use Rattle.span_token.specs.Relations.{ContainsExtent};
 ghost use Rattle.span_token.specs.Tokens.{tokens_of};
 ghost use Rattle.aql_regex_extract.specs.Matches.{extents_of, extents_of_rows, IsInside};
+ghost use Rattle.aql_regex_extract.specs.Offsets.{AreOffsets};
 ghost use Rattle.aql_regex_extract.specs.Patterns.{whole_form};
 ghost use Rattle.aql_regex_extract.specs.Steps.{PutsRow};
 ghost use Rattle.aql_regex_extract.specs.TokenRuns.{run_between, whole_row, longest_run, run_rows, flat_run_rows, HoldsTokens};
 ghost use Rattle.aql_regex_extract.specs.Views.{Finds};
 
+use crate::offsets::{TokenBytes, put_offsets, run_text};
 use crate::search::push_from;
 use regex::Matcher;
 use span_token::{Document, OutOfMemory, Span};
@@ -28,37 +30,46 @@ fn run_span(doc: &Document<'_>, first: u32, last: u32) -> Span
     Span { begin, end }
 }
 
-/// Puts the row of the first match in the text of a span after the others, if there is one.
+/// Puts the row of the first match in the text of a run after the others, if there is one. The run's
+/// span is made only then.
 fn push_row(
     matcher: &mut Matcher<'_>,
     doc: &Document<'_>,
-    source: Span,
+    first: u32,
+    last: u32,
     text: &str,
     groups: &[u32],
     into: &mut Vec<Option<Span>>,
 ) -> Result<bool, OutOfMemory>
-    requires in_document { LiesIn (extent_of source) doc.now }
-    requires in_source { text.now ≡ text_in doc.now (extent_of source) }
+    requires in_order { first ≤ last }
+    requires there { last < length (tokens_of (characters doc.now)) }
+    requires in_run { text.now ≡ text_in doc.now (run_between (tokens_of (characters doc.now)) first last) }
     ensures row { (pattern : List ℕ) → Finds (matcher_pattern matcher.old) (whole_form pattern)
-        → IfOk result (PutsRow (whole_row pattern doc.now groups.now (extent_of source))
+        → IfOk result (PutsRow (whole_row pattern doc.now groups.now
+        (run_between (tokens_of (characters doc.now)) first last))
         (extents_of into.old.items) (extents_of into.new.items)) }
-    ensures within { (wide : Extent) → ContainsExtent wide (extent_of source)
+    ensures within { (wide : Extent) → ContainsExtent wide (run_between (tokens_of (characters doc.now)) first last)
         → All (IsInside wide) into.old.items → OnOk result (All (IsInside wide) into.new.items) }
     ensures same { matcher_pattern matcher.new ≡ matcher_pattern matcher.old }
 {
-    match push_from(matcher, doc, source, text, 0, 0, groups, into)? {
+    if !matcher.is_match(text) {
+        return Ok(false);
+    }
+    let run = run_span(doc, first, last);
+    match push_from(matcher, doc, run, text, 0, 0, groups, into)? {
         Some(_) => Ok(true),
         None => Ok(false),
     }
 }
 
 /// Puts the row of the longest run from one token on after the others, if there is one. `past` is one
-/// more than the last token that a run may have.
+/// more than the last token that a run may have, and `offsets` are the bytes of the tokens up to it.
 fn push_run(
     matcher: &mut Matcher<'_>,
     doc: &Document<'_>,
     first: u32,
     past: u32,
+    offsets: &[TokenBytes],
     low: u32,
     high: u32,
     groups: &[u32],
@@ -66,6 +77,8 @@ fn push_run(
 ) -> Result<bool, OutOfMemory>
     requires in_order { first ≤ past }
     requires there { past ≤ length (tokens_of (characters doc.now)) }
+    requires number { length offsets.now ≡ past - first }
+    requires offsets { AreOffsets doc.now first offsets.now }
     requires at_least_one { 1 ≤ low }
     ensures run { (pattern : List ℕ) → Finds (matcher_pattern matcher.old) (whole_form pattern)
         → IfOk result (PutsRow (longest_run pattern doc.now (tokens_of (characters doc.now)) groups.now first
@@ -77,9 +90,8 @@ fn push_run(
 {
     let mut count = high.min(past - first);
     'lengths: while count >= low {
-        let run = run_span(doc, first, first + (count - 1));
-        let text = doc.text_of(run);
-        if push_row(matcher, doc, run, text, groups, into)? {
+        let text = run_text(doc, first, count, offsets);
+        if push_row(matcher, doc, first, first + (count - 1), text, groups, into)? {
             return Ok(true);
         }
         count -= 1;
@@ -95,6 +107,7 @@ pub(crate) fn push_runs(
     low: u32,
     high: u32,
     groups: &[u32],
+    offsets: &mut Vec<TokenBytes>,
     into: &mut Vec<Option<Span>>,
 ) -> Result<(), OutOfMemory>
     requires in_document { LiesIn (extent_of source) doc.now }
@@ -107,8 +120,10 @@ pub(crate) fn push_runs(
     ensures same { matcher_pattern matcher.new ≡ matcher_pattern matcher.old }
 {
     let (first, past) = doc.tokens_in(source);
+    put_offsets(doc, source, first, past, offsets)?;
     for token in first..past {
-        push_run(matcher, doc, token, past, low, high, groups, into)?;
+        let bytes = &offsets[(token - first) as usize..];
+        push_run(matcher, doc, token, past, bytes, low, high, groups, into)?;
     }
     Ok(())
 }
@@ -120,6 +135,7 @@ fn list_run(
     doc: &Document<'_>,
     first: u32,
     past: u32,
+    offsets: &[TokenBytes],
     low: u32,
     high: u32,
     groups: &[u32],
@@ -127,6 +143,8 @@ fn list_run(
 ) -> Result<(), OutOfMemory>
     requires in_order { first ≤ past }
     requires there { past ≤ length (tokens_of (characters doc.now)) }
+    requires number { length offsets.now ≡ past - first }
+    requires offsets { AreOffsets doc.now first offsets.now }
     requires at_least_one { 1 ≤ low }
     ensures run { (pattern : List ℕ) → Finds (matcher_pattern matcher.old) (whole_form pattern)
         → OnOk result (extents_of_rows rows.new.items ≡ extents_of_rows rows.old.items
@@ -138,7 +156,9 @@ fn list_run(
     ensures same { matcher_pattern matcher.new ≡ matcher_pattern matcher.old }
 {
     let mut row = Vec::new(alloc);
-    if !push_run(matcher, doc, first, past, low, high, groups, &mut row)? {
+    if !push_run(
+        matcher, doc, first, past, offsets, low, high, groups, &mut row,
+    )? {
         return Ok(());
     }
     rows.push(row)?;
@@ -154,6 +174,7 @@ pub(crate) fn list_runs(
     low: u32,
     high: u32,
     groups: &[u32],
+    offsets: &mut Vec<TokenBytes>,
 ) -> Result<Vec<Vec<Option<Span>>>, OutOfMemory>
     requires in_document { LiesIn (extent_of source) doc.now }
     requires at_least_one { 1 ≤ low }
@@ -165,9 +186,11 @@ pub(crate) fn list_runs(
 {
     let mut rows = Vec::new(alloc);
     let (first, past) = doc.tokens_in(source);
+    put_offsets(doc, source, first, past, offsets)?;
     for token in first..past {
+        let bytes = &offsets[(token - first) as usize..];
         list_run(
-            alloc, matcher, doc, token, past, low, high, groups, &mut rows,
+            alloc, matcher, doc, token, past, bytes, low, high, groups, &mut rows,
         )?;
     }
     Ok(rows)

@@ -5,6 +5,7 @@ ghost use Rattle.aql_regex_extract.specs.Matches.{has_match, extents_of, extents
 ghost use Rattle.aql_regex_extract.specs.Patterns.{whole_form};
 ghost use Rattle.aql_regex_extract.specs.TokenRuns.{run_rows, flat_run_rows};
 
+use crate::offsets::TokenBytes;
 use crate::pattern::Pattern;
 use crate::runs::{list_runs, push_runs};
 use crate::search::has_found;
@@ -19,6 +20,8 @@ use std::marker::Model;
 pub struct WholeSearcher<'p> {
     pattern: &'p Pattern,
     matcher: Matcher<'p>,
+    /// Where the tokens of the source at hand stand among the bytes of its document.
+    offsets: Vec<TokenBytes>,
 }
 
 impl<'p> Model for WholeSearcher<'p> {
@@ -40,7 +43,11 @@ impl<'p> WholeSearcher<'p> {
         ensures { IfOk result (λ s. s ≡ pattern.now) }
     {
         let matcher = pattern.whole.matcher(alloc)?;
-        Ok(WholeSearcher { pattern, matcher })
+        Ok(WholeSearcher {
+            pattern,
+            matcher,
+            offsets: Vec::new(alloc),
+        })
     }
 
     /// The rows of the token runs of `source`, put after what `into` holds: for each token wholly in
@@ -67,7 +74,17 @@ impl<'p> WholeSearcher<'p> {
             → OnOk result (All (IsInside (extent_of source)) into.new.items) }
         ensures same { self.new ≡ self.old }
     {
-        push_runs(&mut self.matcher, doc, source, low, high, groups, into)
+        let offsets = &mut self.offsets;
+        push_runs(
+            &mut self.matcher,
+            doc,
+            source,
+            low,
+            high,
+            groups,
+            offsets,
+            into,
+        )
     }
 
     /// The same, with a list for each token that has a run.
@@ -89,7 +106,17 @@ impl<'p> WholeSearcher<'p> {
         ensures within { IfOk result (λ rows. All (λ row. All (IsInside (extent_of source)) row.items) rows.items) }
         ensures same { self.new ≡ self.old }
     {
-        list_runs(alloc, &mut self.matcher, doc, source, low, high, groups)
+        let offsets = &mut self.offsets;
+        list_runs(
+            alloc,
+            &mut self.matcher,
+            doc,
+            source,
+            low,
+            high,
+            groups,
+            offsets,
+        )
     }
 
     /// Whether the pattern matches `text` from end to end: whether its whole-text form has a match.

@@ -1,12 +1,12 @@
-use Rattle.std.proofs.Common.{◌≡◌, ◌∙◌, ◌+◌, ◌-◌, min, subst, sym, arith, ap, ℕ, List}
+use Rattle.std.proofs.Common.{◌≡◌, ◌∙◌, ◌+◌, ◌-◌, min, subst, sym, refl, arith, ap, ℕ, List}
 use Rattle.regex.specs.Patterns.{Re}
 use Rattle.regex.specs.Strings.{matcher_pattern}
-use Rattle.span_token.specs.Documents.{characters}
+use Rattle.span_token.specs.Documents.{characters, text_in}
 use Rattle.span_token.specs.Extents.{extent_of}
 use Rattle.span_token.specs.Tokens.{tokens_of}
 use Rattle.aql_regex_extract.specs.Matches.{extents_of}
 use Rattle.aql_regex_extract.specs.Patterns.{whole_form}
-use Rattle.aql_regex_extract.specs.TokenRuns.{whole_row, longest_run, run_at}
+use Rattle.aql_regex_extract.specs.TokenRuns.{run_between, whole_row, longest_run, run_at}
 use Rattle.aql_regex_extract.specs.Views.{Finds}
 use Rattle.aql_regex_extract.proofs.TokenRunLemmas.{PutsRow-found, longest-passed, run_at-count, ContainsExtent-run}
 use Rattle.aql_regex_extract.proofs.runs.push_run.Goals as goal
@@ -16,10 +16,10 @@ pub returns-then-branch-clause-run : goal.returns-then-branch-clause-run
 returns-then-branch-clause-run c = λ pattern finds.
     let tokens = tokens_of (characters c.args.doc.now) in
     let row = λ (k : ℕ). whole_row pattern c.args.doc.now c.args.groups.now (run_at tokens c.args.first k) in
-    let run = run_at-count tokens c.args.first c.lengths.count (extent_of c.run_span-run.result) (omega arith) c.run_span-run.ensures.run in
+    let run = run_at-count tokens c.args.first c.lengths.count (run_between tokens c.args.first (c.args.first + (c.lengths.count - 1))) (omega arith) refl in
     let puts = c.in_ok-push_row.ensures.row pattern (subst (λ (re : Re). Finds re (whole_form pattern)) (sym c.lengths.invariant.same) finds) in
     PutsRow-found row c.args.low c.lengths.count (min c.args.high (c.args.past - c.args.first) + 1 - c.args.low)
-    (whole_row pattern c.args.doc.now c.args.groups.now (extent_of c.run_span-run.result)) _ _ _ c.in_ok-push_row.field-0
+    (whole_row pattern c.args.doc.now c.args.groups.now (run_between tokens c.args.first (c.args.first + (c.lengths.count - 1)))) _ _ _ c.in_ok-push_row.field-0
     c.lengths-test.true (ap (whole_row pattern c.args.doc.now c.args.groups.now) run) (c.lengths.invariant.left pattern finds).1
     (c.lengths.invariant.left pattern finds).0 c.if-branch.true puts
 
@@ -31,9 +31,9 @@ left : (c : Else-branch) (pattern : List ℕ) → Finds (matcher_pattern c.args.
 left c pattern finds =
     let tokens = tokens_of (characters c.args.doc.now) in
     let row = λ (k : ℕ). whole_row pattern c.args.doc.now c.args.groups.now (run_at tokens c.args.first k) in
-    let run = run_at-count tokens c.args.first c.lengths.count (extent_of c.run_span-run.result) (omega arith) c.run_span-run.ensures.run in
+    let run = run_at-count tokens c.args.first c.lengths.count (run_between tokens c.args.first (c.args.first + (c.lengths.count - 1))) (omega arith) refl in
     let puts = c.in_ok-push_row.ensures.row pattern (subst (λ (re : Re). Finds re (whole_form pattern)) (sym c.lengths.invariant.same) finds) in
-    let passed = longest-passed row c.args.low c.lengths.count (whole_row pattern c.args.doc.now c.args.groups.now (extent_of c.run_span-run.result)) _ _
+    let passed = longest-passed row c.args.low c.lengths.count (whole_row pattern c.args.doc.now c.args.groups.now (run_between tokens c.args.first (c.args.first + (c.lengths.count - 1)))) _ _
     c.in_ok-push_row.field-0 (omega arith) c.lengths-test.true (ap (whole_row pattern c.args.doc.now c.args.groups.now) run) c.if-branch.false puts in
     (passed.1 ∙ (c.lengths.invariant.left pattern finds).0, passed.0 ∙ (c.lengths.invariant.left pattern finds).1)
 
@@ -46,7 +46,13 @@ lengths-preserved c =
       left = λ pattern finds. left c pattern finds;
       within = λ wide holds all.
           c.in_ok-push_row.ensures.within wide
-          (ContainsExtent-run wide (extent_of c.run_span-run.result) tokens c.args.first c.args.past c.lengths.count (omega arith)
-          (omega (arith, c.lengths.invariant.count)) c.run_span-run.ensures.run holds)
+          (ContainsExtent-run wide (run_between tokens c.args.first (c.args.first + (c.lengths.count - 1))) tokens c.args.first c.args.past c.lengths.count (omega arith)
+          (omega (arith, c.lengths.invariant.count)) refl holds)
           (c.lengths.invariant.within wide holds all);
     }
+
+pub push_row-requires-clause-in_run : goal.push_row-requires-clause-in_run
+push_row-requires-clause-in_run c =
+    let tokens = tokens_of (characters c.args.doc.now) in
+    c.run_text-text.ensures
+    ∙ ap (text_in c.args.doc.now) (sym (run_at-count tokens c.args.first c.lengths.count (run_between tokens c.args.first (c.args.first + (c.lengths.count - 1))) (omega arith) refl))
