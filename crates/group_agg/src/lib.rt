@@ -8,7 +8,11 @@
 
 mod agg;
 mod groups;
+mod limits;
 mod tally;
+#[cfg(test)]
+mod tests;
 
 pub use agg::Agg;
 pub use groups::group;
+pub use limits::order_limit;

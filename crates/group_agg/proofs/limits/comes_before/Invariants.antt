@@ -1,0 +1,7 @@
+use Rattle.std.proofs.Common.{◌≡◌}
+use Rattle.std.specs.Ordering.{is_lt}
+use Rattle.group_agg.proofs.Pairs.{compared_from}
+use Rattle.group_agg.proofs.limits.comes_before.Given as goal
+
+abbrev pub invariant-loop-i : goal.invariant-loop-i
+invariant-loop-i l = compared_from l.keys l.row l.held 0 ≡ compared_from l.keys l.row l.held l.i
