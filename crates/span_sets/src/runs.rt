@@ -20,7 +20,7 @@ use std::alloc::Global;
 /// block. Nothing comes where `high` is 0 or below `low`; where `gap_high` is below `gap_low` or below
 /// 0, no two spans are neighbours.
 ///
-/// Takes one sort, a test for each pair of spans next to each other, and a step for each block.
+/// Takes one sort, at most two tests for each distinct span, and a step for each block.
 ///
 /// Meaning: `AreBlocks`, `specs/Blocks.antt`; docs/LANGUAGE.md, "Blocks".
 pub fn blocks(
