@@ -1,6 +1,6 @@
 -- Where the tokens of a document stand among the bytes of its text.
-use Rattle.std.proofs.Common.{◌≡◌, ◌≤◌, ◌<◌, ◌+◌, ◌-◌, ◌++◌, ◌∙◌, ◌∷◌, [], ℕ, List, length, refl, inl, inr, take, drop, get_or, sym, ap, subst, arith, IsTrue, nat_eq, IsUtf8, chars, encode_utf8_all, slice_range}
-use Rattle.std.proofs.lemmas.List.{take-append-drop, length-take-le, length-append, take_at, drop_at, take_all, length-drop, get_or-drop, get_or_append_left, get_or_push, length_push}
+use Rattle.std.proofs.Common.{◌≡◌, ◌≤◌, ◌+◌, ◌-◌, ◌++◌, ◌∙◌, ◌∷◌, [], ℕ, List, length, refl, inl, inr, take, drop, sym, ap, subst, arith, IsTrue, nat_eq, IsUtf8, chars, encode_utf8_all, slice_range}
+use Rattle.std.proofs.lemmas.List.{take-append-drop, length-take-le, length-append, take_at, drop_at, take_all, length-drop, get_or_append_left, get_or_push, length_push}
 use Rattle.std.proofs.lemmas.Bool.{cases_lt}
 use Rattle.std.proofs.lemmas.Bool.Decides.{nat_tests}
 use Rattle.std.proofs.lemmas.Str.{IsCharBoundary-from_drop, encodes-chars, encodes-append}

@@ -1,4 +1,3 @@
-use Rattle.std.proofs.Common.{refl}
 use Rattle.aql_regex_extract.proofs.OffsetLemmas.{place_each}
 use Rattle.aql_regex_extract.proofs.offsets.byte_of.Goals as goal
 

@@ -1,4 +1,4 @@
-use Rattle.std.proofs.Common.{◌≡◌, ◌≤◌, ◌+◌, ◌-◌, ◌∙◌, [], ◌∷◌, ◌++◌, ℕ, List, length, get_or, ap, sym, subst, arith, chars, IsUtf8}
+use Rattle.std.proofs.Common.{◌≡◌, ◌∙◌, [], ◌∷◌, ◌++◌, ℕ, List, length, ap, sym, subst, arith, chars, IsUtf8}
 use Rattle.std.proofs.lemmas.List.{length_push}
 use Rattle.span_token.specs.Documents.{characters}
 use Rattle.span_token.specs.Extents.{Extent, extent_of}

@@ -1,9 +1,9 @@
-use Rattle.std.proofs.Common.{◌≡◌, ◌++◌, [], ◌∙◌, ℕ, List, Option, Some, None, is_some, unwrap_or, false, true≢false, refl, ap, sym, subst, arith}
+use Rattle.std.proofs.Common.{◌≡◌, ◌++◌, [], ◌∙◌, Option, Some, None, is_some, unwrap_or, false, true≢false, refl, ap, sym, subst, arith}
 use Rattle.std.proofs.lemmas.List.{append-nil}
 use Rattle.regex.specs.Patterns.{Match, Re}
 use Rattle.regex.specs.Strings.{matcher_pattern}
 use Rattle.span_token.specs.Documents.{characters, text_in}
-use Rattle.span_token.specs.Extents.{Extent, extent_of}
+use Rattle.span_token.specs.Extents.{extent_of}
 use Rattle.span_token.specs.Tokens.{tokens_of}
 use Rattle.aql_regex_extract.specs.Matches.{extents_of}
 use Rattle.aql_regex_extract.specs.Patterns.{whole_form}

@@ -2,7 +2,6 @@ use Rattle.std.proofs.Common.{◌≡◌, ◌∙◌, ◌+◌, ◌-◌, min, subst
 use Rattle.regex.specs.Patterns.{Re}
 use Rattle.regex.specs.Strings.{matcher_pattern}
 use Rattle.span_token.specs.Documents.{characters, text_in}
-use Rattle.span_token.specs.Extents.{extent_of}
 use Rattle.span_token.specs.Tokens.{tokens_of}
 use Rattle.aql_regex_extract.specs.Matches.{extents_of}
 use Rattle.aql_regex_extract.specs.Patterns.{whole_form}
