@@ -1,0 +1,69 @@
+-- What a test of one span against another tells a sweep that goes through the other spans by their begins.
+use Rattle.std.specs.Prelude.{ℕ, ◌-◌, Bool, true, false, cond, ◌&&◌, nat_lt, nat_le, ℤ, pos, int_le}
+use Rattle.span_token.specs.Extents.{Extent}
+use Rattle.span_token.specs.Documents.{LiesIn, characters}
+use Rattle.span_token.specs.Tokens.{tokens_of}
+use Rattle.span_token.specs.Relations.{do_overlap, does_contain, tokens_between}
+use Rattle.span_joins.specs.declared.rule.Rule.{Rule}
+use Rattle.span_joins.specs.declared.rule.Rule.TheVariants.{Gap, Tokens, Contains, OverlapsFromLeft, OverlapsFromRight}
+use Rattle.span_joins.specs.declared.rule.Answer.{Answer}
+use Rattle.span_joins.specs.declared.rule.Answer.TheVariants.{Before, Pair, Neither, Beyond}
+
+-- by how much lies between: too little, within the bounds, or too much
+abbrev pub by_gap : ℤ → ℤ → ℕ → Answer
+by_gap low high n = cond (int_le low (pos n)) (cond (int_le (pos n) high) Pair Beyond) Before
+
+-- the same where the other span begins at or after the end, and else too little
+abbrev pub by_count : (ℕ → ℕ → ℕ) → ℤ → ℤ → Extent → Extent → Answer
+by_count count low high a b = cond (nat_le a.end b.begin) (by_gap low high (count a.end b.begin)) Before
+
+-- by where the other span begins, and then by a test
+abbrev pub by_begin : Bool → Bool → Bool → Answer
+by_begin before beyond pair = cond before Before (cond beyond Beyond (cond pair Pair Neither))
+
+-- the answer of a rule
+abbrev pub answer_of : Rule → Extent → Extent → Answer
+answer_of (Gap low high) a b = by_count (λ from to. to - from) low high a b
+answer_of (Tokens doc low high) a b = by_count (tokens_between (tokens_of (characters doc.now))) low high a b
+answer_of Contains a b = by_begin (nat_lt b.begin a.begin) (nat_lt a.end b.begin) (does_contain a b)
+answer_of OverlapsFromLeft a b =
+    by_begin (nat_lt b.begin a.begin) (nat_lt a.begin b.begin && nat_le a.end b.begin) (do_overlap a b)
+answer_of OverlapsFromRight a b = by_begin (nat_le b.begin a.begin) (nat_le a.end b.begin) (do_overlap a b)
+
+-- what the first spans of a sweep rise by
+abbrev pub rank_of : Rule → Extent → ℕ
+rank_of (Gap low high) a = a.end
+rank_of (Tokens doc low high) a = a.end
+rank_of Contains a = a.begin
+rank_of OverlapsFromLeft a = a.begin
+rank_of OverlapsFromRight a = a.begin
+
+-- each span that is neither too near nor too far makes a pair
+abbrev pub is_exact : Rule → Bool
+is_exact (Gap low high) = true
+is_exact (Tokens doc low high) = true
+is_exact Contains = false
+is_exact OverlapsFromLeft = false
+is_exact OverlapsFromRight = false
+
+-- the first span comes from the right rows
+abbrev pub is_turned : Rule → Bool
+is_turned (Gap low high) = false
+is_turned (Tokens doc low high) = false
+is_turned Contains = false
+is_turned OverlapsFromLeft = false
+is_turned OverlapsFromRight = true
+
+-- a span that a rule may look at
+abbrev pub IsWithin : Rule → Extent → Type 0
+IsWithin (Gap low high) a = Unit {0}
+IsWithin (Tokens doc low high) a = LiesIn a doc.now
+IsWithin Contains a = Unit {0}
+IsWithin OverlapsFromLeft a = Unit {0}
+IsWithin OverlapsFromRight a = Unit {0}
+
+abbrev pub is_pair : Answer → Bool
+is_pair Before = false
+is_pair Pair = true
+is_pair Neither = false
+is_pair Beyond = false

@@ -1,0 +1,135 @@
+ghost use Rattle.std.specs.Prelude.{◌≡◌, ◌+◌};
+ghost use Rattle.span_token.specs.Extents.{extent_of};
+ghost use Rattle.span_token.specs.Documents.{LiesIn, characters};
+ghost use Rattle.span_token.specs.Tokens.{tokens_of};
+ghost use Rattle.span_token.specs.Relations.{tokens_between};
+ghost use Rattle.span_joins.specs.Answers.{answer_of, by_gap as gap_answer, by_begin as begin_answer, IsWithin};
+
+use aql_base::Steps;
+use span_token::{Document, Span, between, contains, overlaps};
+use std::sync::ledger::Ledger;
+
+/// What a test of a first span against another span asks.
+#[derive(Clone, Copy)]
+pub(crate) enum Rule<'a, 'b> {
+    /// The other follows with a number of characters between that is within the bounds.
+    Gap(i64, i64),
+    /// The other follows with a number of tokens between that is within the bounds.
+    Tokens(&'a Document<'b>, i64, i64),
+    /// The first contains the other.
+    Contains,
+    /// The two overlap, and the right one doesn't begin before the left one, which is the first.
+    OverlapsFromLeft,
+    /// The two overlap, and the left one begins after the right one, which is the first.
+    OverlapsFromRight,
+}
+
+/// What a test tells a sweep that goes through the other spans by their begins.
+#[derive(Clone, Copy, PartialEq, Eq)]
+pub(crate) enum Answer {
+    /// No pair, and neither is one that begins no later.
+    Before,
+    /// A pair.
+    Pair,
+    /// No pair.
+    Neither,
+    /// No pair, and neither is one that begins no earlier.
+    Beyond,
+}
+
+/// Tests one span against another, which is one step: the only way to an answer.
+pub(crate) fn test<L: Ledger>(
+    rule: &Rule<'_, '_>,
+    first: Span,
+    other: Span,
+    steps: &mut Steps<L>,
+) -> Answer
+    requires first_within { IsWithin rule.now (extent_of first) }
+    requires other_within { IsWithin rule.now (extent_of other) }
+    ensures answer { result ≡ answer_of rule.now (extent_of first) (extent_of other) }
+    ensures step { steps.new ≡ steps.old + 1 }
+{
+    steps.tick();
+    answered(rule, first, other)
+}
+
+/// The answer of a rule.
+fn answered(rule: &Rule<'_, '_>, first: Span, other: Span) -> Answer
+    requires first_within { IsWithin rule.now (extent_of first) }
+    requires other_within { IsWithin rule.now (extent_of other) }
+    ensures { result ≡ answer_of rule.now (extent_of first) (extent_of other) }
+{
+    let in_order = first.end <= other.begin;
+    let gap = between(first, other);
+    match *rule {
+        Rule::Gap(min, max) => {
+            if in_order {
+                by_gap(min, max, gap.end - gap.begin)
+            } else {
+                Answer::Before
+            }
+        }
+        Rule::Tokens(doc, min, max) => {
+            if in_order {
+                by_gap(min, max, tokens_within(doc, gap))
+            } else {
+                Answer::Before
+            }
+        }
+        Rule::Contains => by_begin(
+            other.begin < first.begin,
+            first.end < other.begin,
+            contains(first, other),
+        ),
+        Rule::OverlapsFromLeft => by_begin(
+            other.begin < first.begin,
+            first.begin < other.begin && first.end <= other.begin,
+            overlaps(first, other),
+        ),
+        Rule::OverlapsFromRight => by_begin(
+            other.begin <= first.begin,
+            first.end <= other.begin,
+            overlaps(first, other),
+        ),
+    }
+}
+
+/// The answer by how much lies between.
+fn by_gap(min: i64, max: i64, gap: u32) -> Answer
+    ensures { result ≡ gap_answer min max gap }
+{
+    let gap = i64::from(gap);
+    if min <= gap {
+        if gap <= max {
+            Answer::Pair
+        } else {
+            Answer::Beyond
+        }
+    } else {
+        Answer::Before
+    }
+}
+
+/// The answer by where the other span begins, and then by a test.
+fn by_begin(before: bool, beyond: bool, pair: bool) -> Answer
+    ensures { result ≡ begin_answer before beyond pair }
+{
+    if before {
+        Answer::Before
+    } else if beyond {
+        Answer::Beyond
+    } else if pair {
+        Answer::Pair
+    } else {
+        Answer::Neither
+    }
+}
+
+/// How many tokens lie wholly in a span.
+fn tokens_within(doc: &Document<'_>, span: Span) -> u32
+    requires { LiesIn (extent_of span) doc.now }
+    ensures { result ≡ tokens_between (tokens_of (characters doc.now)) span.begin span.end }
+{
+    let (first, past) = doc.tokens_in(span);
+    past - first
+}
