@@ -87,8 +87,9 @@ pub fn join_follows_tok<'d, L: Ledger>(
 
 /// The pairs of rows whose spans overlap: they share a character, or are equal.
 ///
-/// As `join_follows`, but without a bound on the tests. No row is tested against one whose span begins
-/// after its own ends, once for each side.
+/// Spans that touch don't overlap; an empty span overlaps itself, and a span around its place. As
+/// `join_follows`, but no clause bounds the tests: a row is tested against those rows of the other side
+/// whose spans begin within its own, which are few where few overlap.
 ///
 /// Meaning: `IsJoin` and `joined_where`, `specs/Joins.antt`; docs/LANGUAGE.md, "Joins".
 pub fn join_overlaps<'d, L: Ledger>(
@@ -123,8 +124,8 @@ pub fn join_overlaps<'d, L: Ledger>(
 
 /// The pairs of rows such that the span of the left row contains that of the right row.
 ///
-/// Each span contains itself. As `join_follows`, but without a bound on the tests: a left row is tested
-/// against the right rows whose spans begin from its begin to its end.
+/// Each span contains itself. As `join_follows`, but no clause bounds the tests: a left row is tested
+/// against those right rows whose spans begin within its own.
 ///
 /// Meaning: `IsJoin` and `joined_where`, `specs/Joins.antt`; docs/LANGUAGE.md, "Joins".
 pub fn join_contains<'d, L: Ledger>(
