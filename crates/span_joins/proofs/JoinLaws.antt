@@ -25,7 +25,7 @@ nothing {Y = Y} f h (x ∷ xs) = ap₂ (λ (ys zs : List Y). ys ++ zs) (h x) (no
 
 module _ (test : Extent → Extent → Bool) (lc rc : ℕ) where
   -- the pair of two rows, where the test holds of their spans
-  abbrev row_pair : List Datum → List Datum → List (List Datum)
+  abbrev pub row_pair : List Datum → List Datum → List (List Datum)
   row_pair l r = row_if (holds test (span_in lc l) (span_in rc r)) (l ++ r)
 
   with_each : (l : List Datum) (right : List (List Datum))

@@ -73,6 +73,9 @@ joined_where-sorted test lc rc left right lefts rights l r =
     (SameBag-sym _ _ (pairs_of-SameBag test (entries lc left) (map entry_of lefts) (entries rc right) (map entry_of rights) l r))
 
 -- the rows that a sweep has put after none
+pub rows_are : (old new pairs : List (List Datum)) → old ≡ [] → new ≡ old ++ pairs → new ≡ pairs
+rows_are old new pairs none e = e ∙ ap (λ (rows : List (List Datum)). rows ++ pairs) none
+
 pub rows_joined : (old new pairs join : List (List Datum)) → old ≡ [] → new ≡ old ++ pairs → SameBag pairs join → SameBag new join
 rows_joined old new pairs join none e h = subst (λ rows. SameBag rows join) (sym (e ∙ ap (λ (rows : List (List Datum)). rows ++ pairs) none)) h
 

@@ -10,3 +10,5 @@ pub mod JoinLaws
 pub mod KeyLaws
 -- the tests of spans
 pub mod Predicates
+-- joins as bags
+pub mod JoinBags

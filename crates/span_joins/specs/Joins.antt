@@ -6,7 +6,7 @@ use Rattle.span_token.specs.Extents.{Extent}
 use Rattle.row_values.specs.Datums.{Datum, null, span}
 use Rattle.row_values.specs.Rows.{RowList}
 
--- the span of a value, and none of Null
+-- the span of a value, and none of Null or of a value of another kind
 abbrev pub span_of : Datum → Option Extent
 span_of (span e) = Some e
 span_of d = None

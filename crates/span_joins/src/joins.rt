@@ -19,13 +19,17 @@ use std::sync::ledger::Ledger;
 ///
 /// Each result row is a left row followed by a right row, such that the span in column `rc` of the right
 /// row begins at or after the end of the span in column `lc` of the left row, with a gap within the
-/// bounds. Columns are counted from 0, and a row without a span in its column joins with nothing. Equal
-/// rows make a pair each. The result is a bag: its order isn't promised.
+/// bounds. Spans that touch have no character between; nothing follows where `max` is below `min` or
+/// below 0. Columns are counted from 0, and a row without a span in its column joins with nothing. Each
+/// of equal rows makes pairs of its own. The result is a bag: its order isn't promised.
 ///
-/// `steps` counts the tests of one row against another: no more than the rows of both sides and of the
-/// result together, in whatever order the rows stand. The tests that were made before a want of memory
-/// count too. Left rows by the ends and right rows by the begins of their spans are taken in one pass;
-/// others are sorted first. 2^32 result rows or more are a want of memory.
+/// `steps` counts the tests of one row against another: one or more for each result row, and no more
+/// than the rows of both sides and of the result together, in whatever order the rows stand. The tests
+/// that were made before a want of memory count too; comparisons of a sort don't. Left rows by the ends
+/// and right rows by the begins of their spans are taken in one pass; others are sorted first. 2^32
+/// result rows or more are a want of memory.
+///
+/// `joined` tells the meaning by the predicate; `rows` says the same by its test, as one bag.
 ///
 /// Meaning: `IsJoin` and `joined_where`, `specs/Joins.antt`; docs/LANGUAGE.md, "Joins".
 pub fn join_follows<'d, L: Ledger>(
@@ -47,6 +51,7 @@ pub fn join_follows<'d, L: Ledger>(
 
     ensures bound { IfOk result (λ out. steps.new ≤ steps.old + (length left.now.rows + length right.now.rows + length out.rows)) }
     ensures bound_always { steps.new ≤ steps.old + (length left.now.rows + length right.now.rows + length (joined_where (λ a b. does_follow a b min max) left.now.rows lc right.now.rows rc)) }
+    ensures counted { IfOk result (λ out. steps.old + length out.rows ≤ steps.new) }
     ensures grows { steps.old ≤ steps.new }
 {
     join_by_gap(alloc, &Rule::Gap(min, max), left, lc, right, rc, steps)
@@ -54,7 +59,7 @@ pub fn join_follows<'d, L: Ledger>(
 
 /// The pairs of rows whose spans follow each other, with `min` to `max` tokens of `doc` wholly between.
 ///
-/// As `join_follows`, but a gap is counted in the tokens that lie wholly in it.
+/// As `join_follows`, but a gap is counted in the tokens that lie wholly in it. The spans lie in `doc`.
 ///
 /// Meaning: `IsJoin` and `joined_where`, `specs/Joins.antt`; docs/LANGUAGE.md, "Joins".
 pub fn join_follows_tok<'d, L: Ledger>(
@@ -79,6 +84,7 @@ pub fn join_follows_tok<'d, L: Ledger>(
 
     ensures bound { IfOk result (λ out. steps.new ≤ steps.old + (length left.now.rows + length right.now.rows + length out.rows)) }
     ensures bound_always { steps.new ≤ steps.old + (length left.now.rows + length right.now.rows + length (joined_where (λ a b. does_follow_tok (tokens_of (characters doc.now)) a b min max) left.now.rows lc right.now.rows rc)) }
+    ensures counted { IfOk result (λ out. steps.old + length out.rows ≤ steps.new) }
     ensures grows { steps.old ≤ steps.new }
 {
     let rule = Rule::Tokens(doc, min, max);
@@ -89,7 +95,7 @@ pub fn join_follows_tok<'d, L: Ledger>(
 ///
 /// Spans that touch don't overlap; an empty span overlaps itself, and a span around its place. As
 /// `join_follows`, but no clause bounds the tests: a row is tested against those rows of the other side
-/// whose spans begin within its own, which are few where few overlap.
+/// whose spans begin within its own, and one more; they are few where few overlap.
 ///
 /// Meaning: `IsJoin` and `joined_where`, `specs/Joins.antt`; docs/LANGUAGE.md, "Joins".
 pub fn join_overlaps<'d, L: Ledger>(
@@ -107,6 +113,7 @@ pub fn join_overlaps<'d, L: Ledger>(
     ensures joined { IfOk result (IsJoin Overlaps left.now lc right.now rc) }
     ensures rows { IfOk result (λ out. SameBag out.rows (joined_where do_overlap left.now.rows lc right.now.rows rc)) }
 
+    ensures counted { IfOk result (λ out. steps.old + length out.rows ≤ steps.new) }
     ensures grows { steps.old ≤ steps.new }
 {
     let width = left.width() + right.width();
@@ -125,7 +132,7 @@ pub fn join_overlaps<'d, L: Ledger>(
 /// The pairs of rows such that the span of the left row contains that of the right row.
 ///
 /// Each span contains itself. As `join_follows`, but no clause bounds the tests: a left row is tested
-/// against those right rows whose spans begin within its own.
+/// against those right rows whose spans begin within its own, and one more.
 ///
 /// Meaning: `IsJoin` and `joined_where`, `specs/Joins.antt`; docs/LANGUAGE.md, "Joins".
 pub fn join_contains<'d, L: Ledger>(
@@ -143,6 +150,7 @@ pub fn join_contains<'d, L: Ledger>(
     ensures joined { IfOk result (IsJoin ContainsExtent left.now lc right.now rc) }
     ensures rows { IfOk result (λ out. SameBag out.rows (joined_where does_contain left.now.rows lc right.now.rows rc)) }
 
+    ensures counted { IfOk result (λ out. steps.old + length out.rows ≤ steps.new) }
     ensures grows { steps.old ≤ steps.new }
 {
     let width = left.width() + right.width();
@@ -175,6 +183,7 @@ fn join_by_gap<'d, L: Ledger>(
     ensures rows { IfOk result (λ out. SameBag out.rows (joined_where (λ a b. is_pair (answer_of rule.now a b)) left.now.rows lc right.now.rows rc)) }
     ensures width { IfOk result (λ out. out.width ≡ left.now.width + right.now.width) }
     ensures bound { steps.new ≤ steps.old + (length left.now.rows + length right.now.rows + length (joined_where (λ a b. is_pair (answer_of rule.now a b)) left.now.rows lc right.now.rows rc)) }
+    ensures counted { IfOk result (λ out. steps.old + length out.rows ≤ steps.new) }
     ensures grows { steps.old ≤ steps.new }
 {
     let width = left.width() + right.width();

@@ -28,6 +28,7 @@ pub(crate) fn sweep<'d, L: Ledger>(
     requires others_within { All (λ key. IsWithin rule.now (extent_at key)) others.now }
     ensures pairs { OnOk result (out.new.items ≡ out.old.items ++ all_pairs rule.now firsts.now others.now) }
     ensures bound { IsTrue (is_exact rule.now) → steps.new ≤ steps.old + (length firsts.now + length others.now + length (all_pairs rule.now firsts.now others.now)) }
+    ensures counted { OnOk result (steps.old + length (all_pairs rule.now firsts.now others.now) ≤ steps.new) }
     ensures grows { steps.old ≤ steps.new }
 {
     let mut from = 0;
@@ -56,6 +57,7 @@ fn push_pairs<'d, L: Ledger>(
     ensures before { IfOk result (AreBefore rule.now first.now others.now) }
     ensures spent { IfOk result (λ next. IsTrue (is_exact rule.now) → steps.new + from ≤ steps.old + (next + length (pairs_with rule.now first.now others.now) + 1)) }
     ensures bound { IsTrue (is_exact rule.now) → steps.new + from ≤ steps.old + (length others.now + length (pairs_with rule.now first.now others.now) + 1) }
+    ensures counted { OnOk result (steps.old + length (pairs_with rule.now first.now others.now) ≤ steps.new) }
     ensures grows { steps.old ≤ steps.new }
 {
     let mut next = from;

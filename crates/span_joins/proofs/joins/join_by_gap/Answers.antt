@@ -12,7 +12,7 @@ use Rattle.span_joins.specs.Sweeps.{extent_at, entry_of, entries, all_pairs}
 use Rattle.span_joins.specs.declared.key.Key.{Key}
 use Rattle.span_joins.specs.declared.rule.Rule.{Rule}
 use Rattle.span_joins.proofs.JoinLaws.{joined_width}
-use Rattle.span_joins.proofs.KeyLaws.{keys_all, keys_length, rows_joined, straight-joined, exact_straight, exact_rise}
+use Rattle.span_joins.proofs.KeyLaws.{keys_all, keys_length, rows_are, rows_joined, straight-joined, exact_straight, exact_rise}
 use Rattle.span_joins.proofs.joins.join_by_gap.Goals as goal
 
 pub sweep-requires-clause-firsts_rise : goal.sweep-requires-clause-firsts_rise
@@ -82,3 +82,9 @@ returns-clause-bound g c =
       fewer c.args.rc c.args.right.now.rows c.in_ok-rights.rights.items c.as_slice-rights.result.now c.as_slice-rights.ensures.value c.in_ok-rights.ensures.keys,
       length_permutation _ _ is,
     )
+
+pub returns-clause-counted : goal.returns-clause-counted
+returns-clause-counted g c =
+    IfOk-weaker c.rows_of.result _ _
+    (λ out e. let rows = ap length (ap (λ (list : RowList). list.rows) e ∙ rows_are c.new-rows.result.items c.sweep.new.out.items (all_pairs c.args.rule.now c.as_slice-lefts.result.now c.as_slice-rights.result.now) c.new-rows.ensures.items c.in_ok-sweep.ensures.pairs) in
+    omega (arith, rows, c.in_ok-sweep.ensures.counted)) c.rows_of.ensures

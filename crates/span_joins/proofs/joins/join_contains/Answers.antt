@@ -1,4 +1,4 @@
-use Rattle.std.proofs.Common.{◌≡◌, ◌+◌, ℕ, List, [], ◌++◌, length, map, All, sym, ap, ap₂, subst, ◌∙◌}
+use Rattle.std.proofs.Common.{◌≡◌, ◌+◌, ℕ, List, [], ◌++◌, length, map, All, sym, ap, ap₂, subst, ◌∙◌, arith}
 use Rattle.std.specs.List.Sorted.{IsPermutation}
 use Rattle.std.proofs.lemmas.List.Sorted.{All-permutation}
 use Rattle.std.proofs.lemmas.Result.{IfOk-weaker}
@@ -13,7 +13,7 @@ use Rattle.span_joins.specs.declared.key.Key.{Key}
 use Rattle.span_joins.specs.declared.rule.Rule.TheVariants.{Contains}
 use Rattle.span_joins.proofs.JoinLaws.{joined_width, IsJoin-from}
 use Rattle.span_joins.proofs.Predicates.{does_contain-decides}
-use Rattle.span_joins.proofs.KeyLaws.{contains-joined}
+use Rattle.span_joins.proofs.KeyLaws.{contains-joined, rows_are}
 use Rattle.span_joins.proofs.joins.join_contains.Goals as goal
 
 -- the pairs of the sorted keys are the join
@@ -47,3 +47,9 @@ returns-clause-joined g c =
     (subst (λ rows. SameBag rows (joined_where does_contain c.args.left.now.rows c.args.lc c.args.right.now.rows c.args.rc)) (sym (ap (λ (list : RowList). list.rows) e))
     (joined c.args.lc c.args.rc c.args.left.now.rows c.args.right.now.rows c.in_ok-lefts.lefts.items c.in_ok-rights.rights.items c.as_slice-lefts.result.now c.as_slice-rights.result.now c.new-rows.result.items c.sweep.new.out.items c.as_slice-lefts.ensures.value c.as_slice-rights.ensures.value c.in_ok-lefts.ensures.keys c.in_ok-rights.ensures.keys c.new-rows.ensures.items c.in_ok-sweep.ensures.pairs))
     (ap (λ (list : RowList). list.width) e ∙ ap₂ (λ (m n : ℕ). m + n) c.width.ensures.width c.width-2.ensures.width)) c.rows_of.ensures
+
+pub returns-clause-counted : goal.returns-clause-counted
+returns-clause-counted g c =
+    IfOk-weaker c.rows_of.result _ _
+    (λ out e. let rows = ap length (ap (λ (list : RowList). list.rows) e ∙ rows_are c.new-rows.result.items c.sweep.new.out.items (all_pairs Contains c.as_slice-lefts.result.now c.as_slice-rights.result.now) c.new-rows.ensures.items c.in_ok-sweep.ensures.pairs) in
+    omega (arith, rows, c.in_ok-sweep.ensures.counted)) c.rows_of.ensures

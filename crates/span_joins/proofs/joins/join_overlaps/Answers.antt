@@ -1,4 +1,4 @@
-use Rattle.std.proofs.Common.{◌≡◌, ◌+◌, ℕ, List, [], ◌++◌, length, map, All, sym, ap, ap₂, subst, ◌∙◌}
+use Rattle.std.proofs.Common.{◌≡◌, ◌+◌, ℕ, List, [], ◌++◌, length, map, All, sym, ap, ap₂, subst, ◌∙◌, arith, length-append}
 use Rattle.std.specs.List.Sorted.{IsPermutation}
 use Rattle.std.proofs.lemmas.List.Sorted.{All-permutation}
 use Rattle.std.proofs.lemmas.Result.{IfOk-weaker}
@@ -13,7 +13,7 @@ use Rattle.span_joins.specs.declared.key.Key.{Key}
 use Rattle.span_joins.specs.declared.rule.Rule.TheVariants.{OverlapsFromLeft, OverlapsFromRight}
 use Rattle.span_joins.proofs.JoinLaws.{joined_width, IsJoin-from}
 use Rattle.span_joins.proofs.Predicates.{do_overlap-decides}
-use Rattle.span_joins.proofs.KeyLaws.{overlaps-joined}
+use Rattle.span_joins.proofs.KeyLaws.{overlaps-joined, rows_are}
 use Rattle.span_joins.proofs.joins.join_overlaps.Goals as goal
 
 -- the pairs of the sorted keys, by both sweeps, are the join
@@ -47,3 +47,12 @@ returns-clause-joined g c =
     (subst (λ rows. SameBag rows (joined_where do_overlap c.args.left.now.rows c.args.lc c.args.right.now.rows c.args.rc)) (sym (ap (λ (list : RowList). list.rows) e))
     (joined c.args.lc c.args.rc c.args.left.now.rows c.args.right.now.rows c.in_ok-lefts.lefts.items c.in_ok-rights.rights.items c.as_slice-lefts.result.now c.as_slice-rights.result.now c.new-rows.result.items c.sweep.new.out.items c.sweep-2.new.out.items c.as_slice-lefts.ensures.value c.as_slice-rights.ensures.value c.in_ok-lefts.ensures.keys c.in_ok-rights.ensures.keys c.new-rows.ensures.items c.in_ok-sweep.ensures.pairs c.in_ok-sweep-2.ensures.pairs))
     (ap (λ (list : RowList). list.width) e ∙ ap₂ (λ (m n : ℕ). m + n) c.width.ensures.width c.width-2.ensures.width)) c.rows_of.ensures
+
+pub returns-clause-counted : goal.returns-clause-counted
+returns-clause-counted g c =
+    let lefts = c.as_slice-lefts.result.now in
+    let rights = c.as_slice-rights.result.now in
+    IfOk-weaker c.rows_of.result _ _
+    (λ out e. let first = ap length (rows_are c.new-rows.result.items c.sweep.new.out.items (all_pairs OverlapsFromLeft lefts rights) c.new-rows.ensures.items c.in_ok-sweep.ensures.pairs) in
+    let rows = ap length (ap (λ (list : RowList). list.rows) e ∙ c.in_ok-sweep-2.ensures.pairs) in
+    omega (arith, first, rows, length-append c.sweep.new.out.items (all_pairs OverlapsFromRight rights lefts), c.in_ok-sweep.ensures.counted, c.in_ok-sweep-2.ensures.counted)) c.rows_of.ensures

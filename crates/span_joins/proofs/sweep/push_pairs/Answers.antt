@@ -18,6 +18,7 @@ loop-j-init g c =
       reached = omega arith;
       pairs = sym (append-nil c.args.out.now.items) ∙ ap (λ (rows : List (List Datum)). c.args.out.now.items ++ rows) (sym nothing);
       spent = λ _. omega arith;
+      counted = omega (arith, ap length nothing);
       grows = omega arith;
     }
 
@@ -62,6 +63,7 @@ loop-j-preserved g c =
             before = rw w.next-is (AreBefore-next rule first others rise j other below is w.in-Before.ensures.answer);
             reached = omega (arith, w.next-is);
             pairs = ap (λ (v : Vec Row Global). v.items) w.out-is ∙ so_far.pairs ∙ ap (λ (rows : List (List Datum)). c.args.out.now.items ++ rows) (sym same);
+            counted = omega (arith, so_far.counted, c.test.ensures.step, ap length same);
             spent = λ exact. omega (arith, so_far.spent exact, so_far.reached, c.test.ensures.step, ap length same, w.next-is);
             grows = omega (arith, c.test.ensures.step, so_far.grows);
           }
@@ -74,6 +76,7 @@ loop-j-preserved g c =
                 ∙ ap₂ (λ (rows : List (List Datum)) (row : List Datum). rows ++ row ∷ []) so_far.pairs (w.in_ok-joined-in-Pair.ensures ∙ ap (λ (k : Key). row_of rule first k) (w.index-others-j-in-Pair.is ∙ get_or_default others j w.index-others-j-in-Pair.result c.index-others-j.result below))
                 ∙ append_assoc c.args.out.now.items (pairs_with rule first (take j others)) (row_of rule first other ∷ [])
                 ∙ ap (λ (rows : List (List Datum)). c.args.out.now.items ++ rows) (sym more);
+            counted = omega (arith, so_far.counted, c.test.ensures.step, ap length more, length_push (pairs_with rule first (take j others)) (row_of rule first other));
             spent = λ exact. omega (arith, so_far.spent exact, c.test.ensures.step, ap length more, w.next-is, length_push (pairs_with rule first (take j others)) (row_of rule first other));
             grows = omega (arith, c.test.ensures.step, so_far.grows);
           }
@@ -83,7 +86,12 @@ loop-j-preserved g c =
             before = rw w.next-is so_far.before;
             reached = omega (arith, w.next-is, so_far.reached);
             pairs = ap (λ (v : Vec Row Global). v.items) w.out-is ∙ so_far.pairs ∙ ap (λ (rows : List (List Datum)). c.args.out.now.items ++ rows) (sym same);
+            counted = omega (arith, so_far.counted, c.test.ensures.step, ap length same);
             spent = λ exact. absurd (never_neither rule (extent_at first) (extent_at other) exact (sym w.in-Neither.ensures.answer));
             grows = omega (arith, c.test.ensures.step, so_far.grows);
           }
     ]
+
+pub returns-in-Beyond-clause-counted : goal.returns-in-Beyond-clause-counted
+returns-in-Beyond-clause-counted g c =
+    omega (arith, c.loop-j.invariant.counted, c.test.ensures.step, ap length (pairs_beyond c.args.rule.now c.args.first.now c.args.others.now c.requires.others_rise c.loop-j.j (get_or c.args.others.now c.loop-j.j c.index-others-j.result) c.loop-j-test.true (get_or_default c.args.others.now c.loop-j.j c.index-others-j.result _ c.loop-j-test.true) c.in-Beyond.ensures.answer))

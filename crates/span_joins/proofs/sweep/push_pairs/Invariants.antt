@@ -9,5 +9,6 @@ invariant-loop-j g l = record {
   reached : l.next ≤ l.j;
   pairs : l.out.items ≡ l.fn.out.items ++ pairs_with l.rule l.first (take l.j l.others);
   spent : IsTrue (is_exact l.rule) → l.steps + l.from ≤ l.fn.steps + (l.next + length (pairs_with l.rule l.first (take l.j l.others)));
+  counted : l.fn.steps + length (pairs_with l.rule l.first (take l.j l.others)) ≤ l.steps;
   grows : l.fn.steps ≤ l.steps;
 }

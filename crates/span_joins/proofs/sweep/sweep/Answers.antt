@@ -10,6 +10,7 @@ loop-first-init g c = record {
   in_list = omega arith;
   pairs = sym (append-nil c.args.out.now.items) ∙ ap (λ (rows : List (List Datum)). c.args.out.now.items ++ rows) (sym (all_pairs_none c.args.rule.now c.args.firsts.now c.args.others.now));
   spent = λ exact. omega arith;
+  counted = omega (arith, ap length (all_pairs_none c.args.rule.now c.args.firsts.now c.args.others.now));
   grows = omega arith;
 }
 
@@ -40,6 +41,7 @@ loop-first-preserved g c =
       pairs = c.in_ok-from.ensures.pairs ∙ ap (λ (rows : List (List Datum)). rows ++ pairs_with rule first others) so_far.pairs
           ∙ append_assoc c.args.out.now.items (all_pairs rule (take i firsts) others) (pairs_with rule first others)
           ∙ ap (λ (rows : List (List Datum)). c.args.out.now.items ++ rows) (sym more);
+      counted = omega (arith, so_far.counted, c.in_ok-from.ensures.counted, ap length more, length-append (all_pairs rule (take i firsts) others) (pairs_with rule first others));
       spent = λ exact. omega (arith, so_far.spent exact, c.in_ok-from.ensures.spent exact, ap length more, length-append (all_pairs rule (take i firsts) others) (pairs_with rule first others));
       grows = omega (arith, so_far.grows, c.in_ok-from.ensures.grows);
     }

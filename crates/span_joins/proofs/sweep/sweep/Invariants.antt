@@ -10,5 +10,6 @@ invariant-loop-first g l = record {
   in_list : l.from ≤ length l.others;
   pairs : l.out.items ≡ l.fn.out.items ++ all_pairs l.rule (take l.first-index l.firsts) l.others;
   spent : IsTrue (is_exact l.rule) → l.steps ≤ l.fn.steps + (l.from + length (all_pairs l.rule (take l.first-index l.firsts) l.others) + l.first-index);
+  counted : l.fn.steps + length (all_pairs l.rule (take l.first-index l.firsts) l.others) ≤ l.steps;
   grows : l.fn.steps ≤ l.steps;
 }
