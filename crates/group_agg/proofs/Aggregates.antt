@@ -2,13 +2,13 @@
 use Rattle.std.proofs.Common.{◌≡◌, ℕ, ℤ, pos, ◌+ℤ◌, ◌+◌, ◌<◌, ◌≤◌, ◌^◌, Bool, true, false, not, cond, List, [], ◌∷◌, ◌++◌, length, map, fold, filter, refl, sym, ap, subst, ◌∙◌, arith, All, Contains, true≢false, append_assoc, get_or, take}
 use Rattle.std.specs.Cmp.{IsStrictWeakOrder}
 use Rattle.std.specs.Int.{saturate_to_bits}
-use Rattle.std.specs.List.{filter_map, AllZip}
+use Rattle.std.specs.List.{filter_map}
 use Rattle.std.specs.Ordering.{is_lt, ordering_reverse, eq_by_cmp}
 use Rattle.std.specs.declared.cmp.Ordering.{Ordering}
 use Rattle.std.specs.declared.cmp.Ordering.TheVariants.{Less, Equal, Greater}
 use Rattle.std.proofs.lemmas.Int.{ints}
 use Rattle.std.proofs.lemmas.List.{map-append, length-append, append-nil, length-map, take_more}
-use Rattle.std.proofs.lemmas.List.Elements.{All-push, All-weaker, All-contains, All-filter, filter_passes, Contains-push, Contains-append_left, filter-append, filter_map-append}
+use Rattle.std.proofs.lemmas.List.Elements.{All-push, All-weaker, All-contains, filter_passes, Contains-push, Contains-append_left, filter-append, filter_map-append}
 use Rattle.std.proofs.lemmas.List.Filters.{length-filter_both}
 use Rattle.std.proofs.lemmas.List.MinMax.{ranks_by, IsStrictWeakOrder-flip}
 use Rattle.std.proofs.lemmas.List.Sums.{fold-append}
@@ -17,7 +17,7 @@ use Rattle.row_values.specs.Datums.{Datum, null, int, truth, text, span, datum_c
 use Rattle.row_values.specs.RowOrder.{datum_cmp_total, datum_cmp_exact}
 use Rattle.row_values.specs.Rows.{row_cmp}
 use Rattle.group_agg.specs.Groups.{value_in, key_of, group_of, is_null, values_of, integer_of, integers_of, total_of, IsSum, IsFirst, comes_before, IsAggregate, IsGroupRow, IsGrouped}
-use Rattle.group_agg.specs.Tallies.{Sofar, total, best, start, plus, plus_one_for, plus_value, better, improved, added, tallied, finished, aggregate_of, row_of, AreNumbered}
+use Rattle.group_agg.specs.Tallies.{Sofar, total, best, start, plus, plus_value, better, improved, added, tallied, finished, aggregate_of, row_of, AreNumbered}
 use Rattle.group_agg.proofs.Numbering.{exactly_keys}
 use Rattle.group_agg.specs.declared.agg.Agg.{Agg}
 use Rattle.group_agg.specs.declared.agg.Agg.TheVariants.{Key, Count, CountOf, Sum, Min, Max}

@@ -1,17 +1,15 @@
 -- The first elements of a list in order, kept from among those seen.
-use Rattle.std.proofs.Common.{◌≡◌, ◌≢◌, ◌⊎◌, inl, inr, ℕ, zero, suc, ◌+◌, ◌-◌, ◌<◌, ◌≤◌, Bool, true, false, cond, List, [], ◌∷◌, ◌++◌, length, map, refl, sym, ap, subst, ◌∙◌, arith, All, get_or, take, drop, true≢false}
+use Rattle.std.proofs.Common.{◌≡◌, ℕ, zero, suc, ◌+◌, ◌<◌, ◌≤◌, Bool, true, false, cond, List, [], ◌∷◌, ◌++◌, length, refl, sym, ap, subst, ◌∙◌, arith, All, get_or, take, true≢false}
 use Rattle.std.specs.Cmp.{IsTotalOrder, IsStrictWeakOrder}
 use Rattle.std.specs.List.Sorted.{IsSorted}
 use Rattle.std.specs.Ordering.{is_lt, ordering_reverse}
 use Rattle.std.specs.declared.cmp.Ordering.{Ordering}
 use Rattle.std.specs.declared.cmp.Ordering.TheVariants.{Less, Equal, Greater}
-use Rattle.std.proofs.lemmas.List.{length-take, get_or-take, length-append}
+use Rattle.std.proofs.lemmas.List.{length-take, get_or-take}
 use Rattle.std.proofs.lemmas.List.Sorted.{IsPermutation-to_front, sorted_far, ranks_by, length_permutation}
 use Rattle.std.proofs.lemmas.List.Elements.{All-append, All-tail}
 use Rattle.std.proofs.Math.ListN.{get_or-append}
-use Rattle.aql_base.specs.Bags.{SameBag}
 use Rattle.aql_base.specs.Sorting.{put_in_order, sorted_by}
-use Rattle.aql_base.proofs.Bags.{SameBag-trans, SameBag-sym}
 use Rattle.aql_base.proofs.Sorting.{IsSorted-tail, IsSorted-head, IsSorted-cons, IsSorted-sorted_by, SameBag-sorted_by, sorted_by-SameBag, sorted_by-in_order}
 
 pub take_within : {X : Type 0} (m n : ℕ) (xs : List X) → m ≤ n → take m (take n xs) ≡ take m xs

@@ -1,5 +1,5 @@
 -- The first rows are one bag, and what is held at the end are they.
-use Rattle.std.proofs.Common.{◌≡◌, ℕ, zero, suc, ◌+◌, ◌-◌, ◌<◌, ◌≤◌, Bool, false, List, [], ◌∷◌, ◌++◌, Option, Some, None, length, map, min, refl, sym, ap, subst, ◌∙◌, arith, All, get_or, take, drop}
+use Rattle.std.proofs.Common.{◌≡◌, ℕ, ◌+◌, ◌<◌, false, List, [], ◌∷◌, ◌++◌, Option, Some, length, map, min, refl, sym, ap, subst, ◌∙◌, arith, All, get_or, take, drop}
 use Rattle.std.specs.List.Sorted.{IsSorted}
 use Rattle.std.specs.Ordering.{is_lt}
 use Rattle.std.proofs.lemmas.List.{length-take, length-drop, length-map, get_or-take, get_or-drop, get_or_default, take-append-drop, map-append, append-nil}
@@ -8,7 +8,7 @@ use Rattle.std.proofs.lemmas.List.Sorted.{length_permutation, All-permutation, s
 use Rattle.std.proofs.Math.Seq.{take-append_seam}
 use Rattle.aql_base.specs.Bags.{SameBag}
 use Rattle.aql_base.specs.Sorting.{sorted_by}
-use Rattle.aql_base.proofs.Bags.{SameBag-refl, SameBag-sym, SameBag-trans, SameBag-is, SameBag-append, SameBag-map}
+use Rattle.aql_base.proofs.Bags.{SameBag-sym, SameBag-trans, SameBag-is, SameBag-append, SameBag-map}
 use Rattle.aql_base.proofs.Sorting.{SameBag-sorted_by, IsSorted-sorted_by, sorted_by-unique}
 use Rattle.row_values.specs.Datums.{Datum}
 use Rattle.row_values.specs.Rows.{RowList}

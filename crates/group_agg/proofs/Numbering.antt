@@ -1,15 +1,15 @@
 -- Rows by the number of their group, and the tallies of the groups.
-use Rattle.std.proofs.Common.{◌≡◌, ◌≢◌, ◌⊎◌, inl, inr, ◌↔◌, ℕ, ℤ, pos, ◌+◌, ◌*◌, ◌<◌, ◌≤◌, ◌≤ℤ◌, ◌^◌, Bool, true, false, cond, List, [], ◌∷◌, ◌++◌, length, map, fold, filter, refl, sym, ap, subst, ◌∙◌, arith, All, Contains, true≢false, get_or, slice_get, Option, Some, set, take}
+use Rattle.std.proofs.Common.{◌≡◌, ◌≢◌, ◌⊎◌, inl, inr, ◌↔◌, ℕ, ◌+◌, ◌<◌, ◌≤◌, Bool, true, false, cond, List, [], ◌∷◌, ◌++◌, length, map, fold, refl, sym, ap, subst, ◌∙◌, arith, All, Contains, get_or, slice_get, Some, set}
 use Rattle.std.specs.List.{AllPairs, IsDistinct, list_any}
 use Rattle.std.specs.Ordering.{is_eq, eq_by_cmp}
 use Rattle.std.proofs.lemmas.Bool.{cases_lt}
 use Rattle.std.proofs.lemmas.Int.{ints}
-use Rattle.std.proofs.lemmas.List.{map-append, length-append, append-nil, length-map, get_or-set_same, get_or-set_other, get_or-map, get_or_default, ext_get_or}
+use Rattle.std.proofs.lemmas.List.{length-append, append-nil, length-map, get_or-set_same, get_or-set_other, get_or-map, get_or_default, ext_get_or}
 use Rattle.std.proofs.lemmas.List.Elements.{filter-append, Contains-get_or}
 use Rattle.std.proofs.lemmas.List.Sums.{fold-append}
 use Rattle.std.proofs.lemmas.Option.{get_or_from_slice_get}
 use Rattle.std.proofs.lemmas.Map.Made.{AllPairs-from_IsDistinct}
-use Rattle.std.proofs.Math.ListN.{get_or-append, length-set}
+use Rattle.std.proofs.Math.ListN.{get_or-append}
 use Rattle.std.proofs.Math.Seq.{get_or-append_seam}
 use Rattle.aql_base.proofs.Counts.{told}
 use Rattle.row_values.specs.Datums.{Datum, null}

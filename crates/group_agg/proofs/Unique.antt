@@ -1,5 +1,5 @@
 -- The rows of all groups are one bag.
-use Rattle.std.proofs.Common.{◌≡◌, ◌≢◌, ◌⊎◌, inl, inr, eq-zero-or-pos, ◌↔◌, ℕ, ℤ, zero, suc, ◌+◌, ◌<◌, ◌≤◌, Bool, true, false, cond, List, [], ◌∷◌, ◌++◌, length, map, refl, sym, ap, subst, ◌∙◌, arith, All, Contains, get_or, count_by}
+use Rattle.std.proofs.Common.{◌≡◌, ◌≢◌, ◌⊎◌, inl, inr, eq-zero-or-pos, ◌↔◌, ℕ, ℤ, zero, suc, ◌+◌, ◌<◌, ◌≤◌, Bool, true, false, List, [], ◌∷◌, length, map, refl, sym, ap, subst, ◌∙◌, arith, Contains, get_or}
 use Rattle.std.specs.Cmp.{IsTotalOrder}
 use Rattle.std.specs.List.{AllPairs, AllZip}
 use Rattle.std.specs.Ordering.{eq_by_cmp}
@@ -7,15 +7,13 @@ use Rattle.std.specs.declared.cmp.Ordering.{Ordering}
 use Rattle.std.specs.declared.cmp.Ordering.TheVariants.{Equal}
 use Rattle.std.proofs.lemmas.List.Elements.{All-contains}
 use Rattle.std.proofs.lemmas.List.Sums.{sum_by-cons}
-use Rattle.std.proofs.lemmas.List.{get_or_default}
 use Rattle.aql_base.specs.Bags.{SameBag, count_of}
 use Rattle.aql_base.proofs.Bags.{SameBag-trans, SameBag-sym, SameBag-map, SameBag-is}
 use Rattle.aql_base.proofs.Counts.{number_of, some_passes, one_at, told, SameBag-from_counts}
 use Rattle.aql_base.proofs.Distinct.{AllPairs-tail, AllPairs-not_among}
 use Rattle.row_values.specs.Datums.{Datum}
-use Rattle.row_values.specs.Rows.{row_cmp}
 use Rattle.row_values.specs.RowOrder.{row_cmp_total, row_cmp_exact}
-use Rattle.group_agg.specs.Groups.{key_of, group_of, IsSum, IsFirst, comes_before, values_of, integers_of, IsAggregate, IsGroupRow, IsGrouped}
+use Rattle.group_agg.specs.Groups.{group_of, IsSum, IsFirst, comes_before, values_of, integers_of, IsAggregate, IsGrouped}
 use Rattle.group_agg.specs.declared.agg.Agg.{Agg}
 use Rattle.group_agg.specs.declared.agg.Agg.TheVariants.{Key, Count, CountOf, Sum, Min, Max}
 use Rattle.group_agg.proofs.Aggregates.{alike}

@@ -4,7 +4,7 @@ use Rattle.std.specs.Int.{saturate_to_bits}
 use Rattle.std.specs.List.{AllPairs, AllZip, filter_map}
 use Rattle.std.specs.Ordering.{is_lt, eq_by_cmp}
 use Rattle.aql_base.specs.Bags.{SameBag}
-use Rattle.row_values.specs.Datums.{Datum, null, int, truth, text, span, datum_cmp}
+use Rattle.row_values.specs.Datums.{Datum, null, int, datum_cmp}
 use Rattle.row_values.specs.Rows.{row_cmp}
 use Rattle.group_agg.specs.declared.agg.Agg.{Agg}
 use Rattle.group_agg.specs.declared.agg.Agg.TheVariants.{Key, Count, CountOf, Sum, Min, Max}

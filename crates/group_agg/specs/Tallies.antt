@@ -1,8 +1,8 @@
 -- How an aggregate is added up row by row: an exact total, or the best value so far.
-use Rattle.std.specs.Prelude.{ℕ, ℤ, pos, ◌+ℤ◌, neg_ℤ, ◌*◌, ◌^◌, ◌≡◌, ◌≢◌, ◌<◌, ◌≤◌, ◌≤ℤ◌, Bool, true, false, List, [], ◌∷◌, length, map, fold, slice_index_or, if◌then◌else◌}
+use Rattle.std.specs.Prelude.{ℕ, ℤ, pos, ◌+ℤ◌, neg_ℤ, ◌*◌, ◌^◌, ◌≡◌, ◌≢◌, ◌<◌, ◌≤◌, ◌≤ℤ◌, Bool, true, false, List, [], length, map, fold, slice_index_or, if◌then◌else◌}
 use Rattle.std.specs.Int.{saturate_to_bits}
 use Rattle.std.specs.List.{AllPairs}
-use Rattle.row_values.specs.Datums.{Datum, null, int, truth, text, span, datum_of}
+use Rattle.row_values.specs.Datums.{Datum, null, int, datum_of}
 use Rattle.group_agg.specs.Groups.{value_in, key_of, group_of, is_null, comes_before}
 use Rattle.group_agg.specs.declared.agg.Agg.{Agg}
 use Rattle.group_agg.specs.declared.agg.Agg.TheVariants.{Key, Count, CountOf, Sum, Min, Max}

@@ -1,6 +1,4 @@
-ghost use Rattle.std.specs.Prelude.{◌≡◌, ◌<◌, ◌^◌, IfOk, length, map, All};
-ghost use Rattle.row_values.specs.Datums.{datum_of};
-ghost use Rattle.row_values.specs.Rows.{RowList};
+ghost use Rattle.std.specs.Prelude.{◌≡◌, IfOk};
 
 use super::*;
 use row_values::{Row, Rows, Value, sort_rows};
@@ -19,13 +17,13 @@ fn column<'d>(alloc: Global, values: &[Value<'d>]) -> Result<Rows<'d>, Fail>
 }
 
 /// The list of two-column rows of the given pairs.
-fn table<'d>(alloc: Global, pairs: &[[Value<'d>; 2]]) -> Result<Rows<'d>, Fail>
+fn table<'d>(alloc: Global, pairs: &[(Value<'d>, Value<'d>)]) -> Result<Rows<'d>, Fail>
     ensures { IfOk result (λ rows. rows.width ≡ 2) }
 {
     let mut rows = Rows::new(alloc, 2);
-    for pair in pairs {
-        let mut row = Row::single(alloc, pair[0]);
-        row.push(pair[1])?;
+    for (first, second) in pairs {
+        let mut row = Row::single(alloc, *first);
+        row.push(*second)?;
         rows.push(row)?;
     }
     Ok(rows)
@@ -45,7 +43,7 @@ fn equal_keys_make_one_row(rt: HostRuntime) -> Result<(), Fail> {
     let (seven, eight) = (Value::Int(7), Value::Int(8));
     let rows = column(alloc, &[seven, eight, seven])?;
     let got = group(alloc, &rows, &[0], &[Agg::Key(0), Agg::Count])?;
-    let want = table(alloc, &[[seven, Value::Int(2)], [eight, Value::Int(1)]])?;
+    let want = table(alloc, &[(seven, Value::Int(2)), (eight, Value::Int(1))])?;
     assert!(rt; same(got, want)?, "7 8 7 by value");
     Ok(())
 }
@@ -58,8 +56,8 @@ fn null_is_one_key_and_is_counted_as_a_row_alone(rt: HostRuntime) -> Result<(), 
     let want = table(
         alloc,
         &[
-            [Value::Int(2), Value::Int(0)],
-            [Value::Int(1), Value::Int(1)],
+            (Value::Int(2), Value::Int(0)),
+            (Value::Int(1), Value::Int(1)),
         ],
     )?;
     assert!(rt; same(got, want)?, "Null 7 Null by value");
@@ -77,28 +75,31 @@ fn with_no_keys_all_rows_are_one_group_and_no_rows_are_none(rt: HostRuntime) -> 
     Ok(())
 }
 
+/// The sum of a column.
+fn sum<'d>(alloc: Global, values: &[Value<'d>]) -> Result<Rows<'d>, Fail> {
+    let rows = column(alloc, values)?;
+    Ok(group(alloc, &rows, &[], &[Agg::Sum(0)])?)
+}
+
 #[test]
 fn a_sum_is_exact_or_the_nearer_end_of_the_range(rt: HostRuntime) -> Result<(), Fail> {
     let alloc = rt.alloc();
-    let table: [(&[i64], i64); 8] = [
-        (&[7], 7),
-        (&[7, -9], -2),
-        (&[i64::MAX, i64::MAX], i64::MAX),
-        (&[i64::MIN, i64::MIN], i64::MIN),
-        (&[i64::MAX, 1], i64::MAX),
-        (&[i64::MIN, -1], i64::MIN),
-        (&[i64::MAX, i64::MAX, i64::MIN, i64::MIN, 5], 3),
-        (&[i64::MIN, i64::MIN, i64::MAX, i64::MAX, 5], 3),
+    let (max, min, null) = (Value::Int(i64::MAX), Value::Int(i64::MIN), Value::Null);
+    let (one, less, five) = (Value::Int(1), Value::Int(-1), Value::Int(5));
+    let table: [(&[Value<'static>], Value<'static>); 9] = [
+        (&[null, five], five),
+        (&[five, less, less], Value::Int(3)),
+        (&[max, max], max),
+        (&[min, min], min),
+        (&[max, one], max),
+        (&[min, null, less], min),
+        (&[max, max, min, min, five], Value::Int(3)),
+        (&[min, min, max, max, five], Value::Int(3)),
+        (&[null, null], null),
     ];
     for (parts, want) in table {
-        let mut rows = Rows::new(alloc, 1);
-        for part in parts {
-            rows.push(Row::single(alloc, Value::Int(*part)))?;
-            rows.push(Row::single(alloc, Value::Null))?;
-        }
-        let got = group(alloc, &rows, &[], &[Agg::Sum(0)])?;
         assert!(rt;
-            same(got, column(alloc, &[Value::Int(want)])?)?,
+            same(sum(alloc, parts)?, column(alloc, &[want])?)?,
             "{parts:?}"
         );
     }
@@ -115,11 +116,11 @@ fn over<'d>(alloc: Global, values: &[Value<'d>]) -> Result<Rows<'d>, Fail> {
 fn the_least_and_the_greatest_pass_over_null(rt: HostRuntime) -> Result<(), Fail> {
     let alloc = rt.alloc();
     let (null, seven, word) = (Value::Null, Value::Int(7), Value::Text("a"));
-    let cases: [(&[Value<'static>], [Value<'static>; 2]); 4] = [
-        (&[null, null], [null, null]),
-        (&[null, seven], [seven, seven]),
-        (&[seven, null, word], [seven, word]),
-        (&[word, Value::Int(9), seven], [seven, word]),
+    let cases: [(&[Value<'static>], (Value<'static>, Value<'static>)); 4] = [
+        (&[null, null], (null, null)),
+        (&[null, seven], (seven, seven)),
+        (&[seven, null, word], (seven, word)),
+        (&[word, Value::Int(9), seven], (seven, word)),
     ];
     for (values, want) in cases {
         assert!(rt;
@@ -149,15 +150,15 @@ fn a_limit_keeps_the_first_rows_by_the_keys_and_then_in_row_order(
         same(got, column(alloc, &[Value::Null])?)?,
         "Null comes first"
     );
-    let pairs = [[eight, seven], [seven, eight], [seven, seven]];
+    let pairs = [(eight, seven), (seven, eight), (seven, seven)];
     let got = order_limit(alloc, table(alloc, &pairs)?, &[0], Some(1))?;
     assert!(rt;
-        same(got, table(alloc, &[[seven, seven]])?)?,
+        same(got, table(alloc, &[(seven, seven)])?)?,
         "a tie goes by row order"
     );
     let got = order_limit(alloc, table(alloc, &pairs)?, &[1], Some(2))?;
     assert!(rt;
-        same(got, table(alloc, &[[seven, seven], [eight, seven]])?)?,
+        same(got, table(alloc, &[(seven, seven), (eight, seven)])?)?,
         "by the second column"
     );
     for limit in [None, Some(3), Some(9)] {
@@ -172,14 +173,21 @@ fn a_limit_keeps_the_first_rows_by_the_keys_and_then_in_row_order(
     Ok(())
 }
 
+/// The numbers below 1024, each once, in an order that rises and falls.
+fn mixed(alloc: Global) -> Result<Rows<'static>, Fail>
+    ensures { IfOk result (λ rows. rows.width ≡ 1) }
+{
+    let mut rows = Rows::new(alloc, 1);
+    for i in 0..1024u16 {
+        rows.push(Row::single(alloc, Value::Int(i64::from(i ^ 341))))?;
+    }
+    Ok(rows)
+}
+
 #[test]
 fn a_limit_of_many_rows_keeps_the_least(rt: HostRuntime) -> Result<(), Fail> {
     let alloc = rt.alloc();
-    let mut rows = Rows::new(alloc, 1);
-    for i in 0..1000i64 {
-        rows.push(Row::single(alloc, Value::Int((i * 7) % 1000)))?;
-    }
-    let got = order_limit(alloc, rows, &[0], Some(3))?;
+    let got = order_limit(alloc, mixed(alloc)?, &[0], Some(3))?;
     let want = column(alloc, &[Value::Int(0), Value::Int(1), Value::Int(2)])?;
     assert!(rt; same(got, want)?, "the least three of a thousand");
     Ok(())

@@ -1,13 +1,12 @@
-use Rattle.std.proofs.Common.{ℕ, List, ◌≡◌, ◌<◌, length, map, All, [], sym, subst, ◌∙◌, ap, arith, get_or}
-use Rattle.std.proofs.lemmas.List.{length-map, get_or-map}
+use Rattle.std.proofs.Common.{ℕ, List, ◌≡◌, ◌<◌, length, map, All, sym, subst, ◌∙◌, ap, arith, get_or}
+use Rattle.std.proofs.lemmas.List.{length-map}
 use Rattle.std.proofs.lemmas.List.Elements.{All-map}
-use Rattle.aql_base.proofs.Bags.{SameBag-is}
 use Rattle.row_values.specs.Datums.{Datum}
-use Rattle.group_agg.specs.Groups.{HasKey, HasColumn, IsGrouped, IsGroupRow}
+use Rattle.group_agg.specs.Groups.{HasKey, HasColumn}
 use Rattle.group_agg.specs.Tallies.{row_of, aggregate_of, AreNumbered}
 use Rattle.group_agg.specs.declared.agg.Agg.{Agg}
 use Rattle.group_agg.proofs.Aggregates.{IsGrouped-numbered, AreNumbered-along}
-use Rattle.group_agg.proofs.Numbering.{keys_long, numbers_in_range, exactly_keys}
+use Rattle.group_agg.proofs.Numbering.{keys_long}
 use Rattle.group_agg.proofs.Unique.{IsGrouped-once}
 use Rattle.group_agg.proofs.groups.group.Goals as goal
 

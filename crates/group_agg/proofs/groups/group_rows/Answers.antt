@@ -1,9 +1,8 @@
-use Rattle.std.proofs.Common.{ℕ, List, ◌≡◌, ◌+◌, ◌<◌, ◌++◌, ◌∷◌, length, map, take, All, [], sym, subst, ◌∙◌, ap, arith, get_or}
-use Rattle.std.proofs.lemmas.List.{length-map, get_or-map, get_or_default, take_more, take_all, map-append, ext_get_or}
-use Rattle.row_values.specs.Datums.{Datum, null}
-use Rattle.group_agg.specs.Groups.{HasKey, HasColumn, group_of}
-use Rattle.group_agg.specs.Tallies.{row_of, aggregate_of, AreNumbered, sofar_of, tallied, finished, best}
-use Rattle.group_agg.specs.declared.agg.Agg.{Agg}
+use Rattle.std.proofs.Common.{◌≡◌, ◌<◌, ◌++◌, ◌∷◌, length, map, [], sym, ◌∙◌, ap, arith, get_or}
+use Rattle.std.proofs.lemmas.List.{length-map, get_or-map, take_all, ext_get_or}
+use Rattle.row_values.specs.Datums.{null}
+use Rattle.group_agg.specs.Groups.{group_of}
+use Rattle.group_agg.specs.Tallies.{row_of, sofar_of, tallied, finished, best}
 use Rattle.group_agg.specs.declared.agg.Agg.TheVariants.{Key}
 use Rattle.group_agg.proofs.Aggregates.{row_of-more}
 use Rattle.group_agg.proofs.groups.group_rows.Goals as goal

@@ -1,4 +1,4 @@
-use Rattle.std.proofs.Common.{ℕ, List, ◌≡◌, ◌<◌, length, map, take, get_or, [], vec_len}
+use Rattle.std.proofs.Common.{ℕ, List, ◌≡◌, ◌<◌, length, take, get_or, [], vec_len}
 use Rattle.group_agg.specs.Tallies.{row_of, AreNumbered}
 use Rattle.group_agg.proofs.groups.group_rows.Given as goal
 

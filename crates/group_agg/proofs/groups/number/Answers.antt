@@ -1,7 +1,5 @@
-use Rattle.std.proofs.Common.{ℕ, List, ◌≡◌, ◌+◌, ◌<◌, ◌++◌, ◌∷◌, length, take, [], sym, subst, ◌∙◌, arith, get_or, ap}
+use Rattle.std.proofs.Common.{◌≡◌, ◌+◌, ◌++◌, ◌∷◌, take, [], sym, subst, ◌∙◌, arith, ap}
 use Rattle.std.proofs.lemmas.List.{take_more}
-use Rattle.row_values.specs.Datums.{Datum}
-use Rattle.group_agg.specs.Groups.{key_of}
 use Rattle.group_agg.specs.Tallies.{AreNumbered}
 use Rattle.group_agg.proofs.Numbering.{AreNumbered-more, IsGrown-insert_key, key_at, distinct_keys}
 use Rattle.group_agg.proofs.groups.number.Goals as goal

@@ -1,11 +1,11 @@
-use Rattle.std.proofs.Common.{ℕ, List, ◌≡◌, ◌+◌, ◌<◌, ◌^◌, ◌++◌, ◌∷◌, length, take, [], sym, subst, ◌∙◌, arith, get_or, set, ap, map, All}
+use Rattle.std.proofs.Common.{◌≡◌, ◌+◌, ◌<◌, ◌^◌, ◌++◌, ◌∷◌, length, take, [], sym, subst, ◌∙◌, arith, get_or, set, ap, map}
 use Rattle.std.proofs.lemmas.List.{take_more, take_all, map-set, get_or-map, get_or_default, length-map}
 use Rattle.std.proofs.lemmas.List.Elements.{All-set, All-weaker}
 use Rattle.group_agg.specs.Groups.{key_of, HasColumn}
 use Rattle.group_agg.specs.Tallies.{sofar_of, added, best, IsBounded}
 use Rattle.group_agg.specs.declared.tally.Tally.{Tally}
-use Rattle.row_values.specs.Datums.{null, Datum}
-use Rattle.group_agg.proofs.Numbering.{AreTallied, AreTallied-more, AreTallied-list, AreTallied-start, started_is_tallied, IsBounded-weaker}
+use Rattle.row_values.specs.Datums.{null}
+use Rattle.group_agg.proofs.Numbering.{AreTallied, AreTallied-more, AreTallied-list, started_is_tallied, IsBounded-weaker}
 use Rattle.group_agg.proofs.groups.tally.Goals as goal
 
 pub returns-clause-value : goal.returns-clause-value

@@ -1,11 +1,11 @@
-use Rattle.std.proofs.Common.{ℕ, ◌≡◌, ◌+◌, ◌<◌, length, false, true, Bool, sym, ap, ◌∙◌, arith, get_or, refl, true≢false}
+use Rattle.std.proofs.Common.{◌≡◌, ◌<◌, length, false, true, sym, ap, ◌∙◌, arith, get_or, refl, true≢false}
 use Rattle.std.specs.Ordering.{is_lt, is_eq, is_ne}
 use Rattle.std.specs.declared.cmp.Ordering.{Ordering}
 use Rattle.std.specs.declared.cmp.Ordering.TheVariants.{Less, Equal, Greater}
 use Rattle.std.proofs.lemmas.List.{get_or_default}
 use Rattle.row_values.specs.Datums.{null, datum_of, datum_cmp}
 use Rattle.group_agg.specs.Groups.{value_in}
-use Rattle.group_agg.proofs.Pairs.{compared_from, compared_at, compared_from-tied, compared_from-decided}
+use Rattle.group_agg.proofs.Pairs.{compared_at, compared_from-tied, compared_from-decided}
 use Rattle.group_agg.proofs.limits.comes_before.Goals as goal
 
 differs : (o : Ordering) → is_ne o ≡ true → is_eq o ≡ false

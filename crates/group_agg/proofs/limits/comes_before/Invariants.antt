@@ -1,5 +1,4 @@
 use Rattle.std.proofs.Common.{◌≡◌}
-use Rattle.std.specs.Ordering.{is_lt}
 use Rattle.group_agg.proofs.Pairs.{compared_from}
 use Rattle.group_agg.proofs.limits.comes_before.Given as goal
 

@@ -1,4 +1,4 @@
-use Rattle.std.proofs.Common.{◌≡◌, ◌++◌, ◌∷◌, [], ◌-◌, Bool, true, false, not, sym, subst, ap, ◌∙◌, arith, true≢false, get_or, length, refl}
+use Rattle.std.proofs.Common.{◌≡◌, ◌++◌, ◌∷◌, [], ◌-◌, false, sym, subst, ap, ◌∙◌, arith, get_or}
 use Rattle.std.specs.Ordering.{is_lt}
 use Rattle.std.proofs.lemmas.List.{get_or_default}
 use Rattle.group_agg.specs.Candidates.{keyed, pair_cmp, IsHeld}

@@ -1,4 +1,4 @@
-use Rattle.std.proofs.Common.{◌≡◌, ◌∙◌, List, ap, length, map, All, subst, sym, arith}
+use Rattle.std.proofs.Common.{◌≡◌, List, length, All, subst, sym}
 use Rattle.row_values.specs.Datums.{Datum}
 use Rattle.group_agg.proofs.Limited.{held_wide}
 use Rattle.group_agg.proofs.limits.first.Goals as goal

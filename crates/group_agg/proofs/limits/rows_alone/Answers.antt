@@ -1,7 +1,6 @@
-use Rattle.std.proofs.Common.{ℕ, List, ◌≡◌, ◌<◌, length, refl, sym, subst, ap, ◌∙◌, arith, get_or, map, rules, Global}
+use Rattle.std.proofs.Common.{◌≡◌, length, sym, ap, ◌∙◌, rules, Global}
 use Rattle.std.proofs.lemmas.Iterator.Adapters.{YieldsList-from_vec}
-use Rattle.std.proofs.lemmas.Iterator.Consumers.{YieldsList-turn, YieldsList-end}
-use Rattle.row_values.specs.Datums.{Datum}
+use Rattle.std.proofs.lemmas.Iterator.Consumers.{YieldsList-turn}
 use Rattle.group_agg.proofs.limits.rows_alone.Goals as goal
 
 pub push-requires : goal.push-requires

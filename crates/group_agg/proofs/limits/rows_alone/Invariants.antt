@@ -1,5 +1,4 @@
 use Rattle.std.proofs.Common.{◌≡◌, map}
-use Rattle.row_values.specs.Rows.{RowList}
 use Rattle.group_agg.proofs.limits.rows_alone.Given as goal
 
 abbrev pub invariant-loop-key : goal.invariant-loop-key

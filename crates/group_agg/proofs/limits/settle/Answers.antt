@@ -1,4 +1,4 @@
-use Rattle.std.proofs.Common.{◌≡◌, ◌∙◌, ap, take}
+use Rattle.std.proofs.Common.{◌∙◌, ap, take}
 use Rattle.aql_base.proofs.Sorting.{sorted_by-unique}
 use Rattle.group_agg.proofs.Pairs.{pair_cmp_total, pair_cmp_exact}
 use Rattle.group_agg.proofs.limits.settle.Goals as goal

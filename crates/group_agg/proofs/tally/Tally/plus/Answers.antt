@@ -1,4 +1,4 @@
-use Rattle.std.proofs.Common.{ℕ, ◌^◌, arith, subst}
+use Rattle.std.proofs.Common.{◌^◌, arith, subst}
 use Rattle.std.proofs.lemmas.Int.{ints}
 use Rattle.group_agg.specs.Tallies.{sofar_of, IsBounded}
 use Rattle.group_agg.proofs.tally.Tally.plus.Goals as goal
