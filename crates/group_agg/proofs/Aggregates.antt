@@ -1,5 +1,5 @@
 -- An aggregate that is added up row by row is the one that the definition asks for.
-use Rattle.std.proofs.Common.{◌≡◌, ℕ, ℤ, pos, ◌+ℤ◌, ◌+◌, ◌<◌, ◌≤◌, ◌^◌, Bool, true, false, not, cond, List, [], ◌∷◌, ◌++◌, length, map, fold, filter, refl, sym, ap, subst, ◌∙◌, arith, All, Contains, true≢false, append_assoc, get_or, take}
+use Rattle.std.proofs.Common.{◌≡◌, ℕ, ℤ, pos, ◌+ℤ◌, ◌+◌, ◌<◌, ◌≤◌, ◌^◌, Bool, true, false, not, cond, List, [], ◌∷◌, ◌++◌, length, map, fold, filter, refl, sym, ap, subst, ◌∙◌, arith, All, Contains, true≢false, append_assoc, get_or}
 use Rattle.std.specs.Cmp.{IsStrictWeakOrder}
 use Rattle.std.specs.Int.{saturate_to_bits}
 use Rattle.std.specs.List.{filter_map}
@@ -7,7 +7,7 @@ use Rattle.std.specs.Ordering.{is_lt, ordering_reverse, eq_by_cmp}
 use Rattle.std.specs.declared.cmp.Ordering.{Ordering}
 use Rattle.std.specs.declared.cmp.Ordering.TheVariants.{Less, Equal, Greater}
 use Rattle.std.proofs.lemmas.Int.{ints}
-use Rattle.std.proofs.lemmas.List.{map-append, length-append, append-nil, length-map, take_more}
+use Rattle.std.proofs.lemmas.List.{map-append, length-append, append-nil, length-map}
 use Rattle.std.proofs.lemmas.List.Elements.{All-push, All-weaker, All-contains, filter_passes, Contains-push, Contains-append_left, filter-append, filter_map-append}
 use Rattle.std.proofs.lemmas.List.Filters.{length-filter_both}
 use Rattle.std.proofs.lemmas.List.MinMax.{ranks_by, IsStrictWeakOrder-flip}
@@ -16,9 +16,8 @@ use Rattle.aql_base.proofs.Bags.{SameBag-is}
 use Rattle.row_values.specs.Datums.{Datum, null, int, truth, text, span, datum_cmp}
 use Rattle.row_values.specs.RowOrder.{datum_cmp_total, datum_cmp_exact}
 use Rattle.row_values.specs.Rows.{row_cmp}
-use Rattle.group_agg.specs.Groups.{value_in, key_of, group_of, is_null, values_of, integer_of, integers_of, total_of, IsSum, IsFirst, comes_before, IsAggregate, IsGroupRow, IsGrouped}
-use Rattle.group_agg.specs.Tallies.{Sofar, total, best, start, plus, plus_value, better, improved, added, tallied, finished, aggregate_of, row_of, AreNumbered}
-use Rattle.group_agg.proofs.Numbering.{exactly_keys}
+use Rattle.group_agg.specs.Groups.{value_in, key_of, group_of, is_null, values_of, integer_of, integers_of, total_of, IsSum, IsFirst, IsAggregate, IsGroupRow, IsGrouped}
+use Rattle.group_agg.specs.Tallies.{Sofar, comes_before, total, best, start, plus, plus_value, better, improved, added, tallied, finished, aggregate_of, row_of, AreKeys}
 use Rattle.group_agg.specs.declared.agg.Agg.{Agg}
 use Rattle.group_agg.specs.declared.agg.Agg.TheVariants.{Key, Count, CountOf, Sum, Min, Max}
 
@@ -196,23 +195,12 @@ IsGroupRow-row_of keys [] rows key few = tt
 IsGroupRow-row_of keys (agg ∷ aggs) rows key few = (IsAggregate-aggregate_of keys rows key agg few, IsGroupRow-row_of keys aggs rows key few)
 
 -- what the rows of all groups are an answer to
-pub IsGrouped-numbered : (keys : List ℕ) (aggs : List Agg) (rows groups out : List (List Datum)) (numbers : List ℕ) → length rows < 2 ^ 32 → AreNumbered keys rows groups numbers → out ≡ map (row_of keys aggs rows) groups → IsGrouped keys aggs rows out
-IsGrouped-numbered keys aggs rows groups out numbers few h e = record {
-  groups = groups;
+pub IsGrouped-made : (keys : List ℕ) (aggs : List Agg) (rows group_keys out : List (List Datum)) → length rows < 2 ^ 32 → AreKeys keys rows group_keys → out ≡ map (row_of keys aggs rows) group_keys → IsGrouped keys aggs rows out
+IsGrouped-made keys aggs rows group_keys out few h e = record {
+  group_keys = group_keys;
   distinct = h.distinct;
-  exactly = exactly_keys keys rows groups numbers h;
+  exactly = h.exactly;
   row_of = row_of keys aggs rows;
-  each_row = λ key. IsGroupRow-row_of keys aggs rows key few;
-  same_bag = SameBag-is (map (row_of keys aggs rows) groups) out (sym e);
+  each_row = λ k d below. IsGroupRow-row_of keys aggs rows (get_or group_keys k d) few;
+  same_bag = SameBag-is (map (row_of keys aggs rows) group_keys) out (sym e);
 }
-
--- the row of a group with one more aggregate
-pub row_of-more : (keys : List ℕ) (aggs : List Agg) (j : ℕ) (d : Agg) (rows : List (List Datum)) (key : List Datum) → j < length aggs
-    → row_of keys (take (j + 1) aggs) rows key ≡ row_of keys (take j aggs) rows key ++ finished (tallied (get_or aggs j d) key (group_of keys rows key)) ∷ []
-unfolding aggregate_of
-row_of-more keys aggs j d rows key below = ap (map (aggregate_of keys rows key)) (take_more aggs j d below) ∙ map-append (aggregate_of keys rows key) (take j aggs) (get_or aggs j d ∷ [])
-
--- a numbering of equal lists
-pub AreNumbered-along : (keys : List ℕ) (rows rows' groups groups' : List (List Datum)) (numbers numbers' : List ℕ) → rows ≡ rows' → groups ≡ groups' → numbers ≡ numbers' → AreNumbered keys rows groups numbers → AreNumbered keys rows' groups' numbers'
-AreNumbered-along keys rows rows' groups groups' numbers numbers' r g n h =
-    subst (AreNumbered keys rows' groups') n (subst (λ gs. AreNumbered keys rows' gs numbers) g (subst (λ rs. AreNumbered keys rs groups numbers) r h))

@@ -1,7 +1,7 @@
 -- what an aggregate that is added up row by row gives
 pub mod Aggregates
--- rows by the number of their group
-pub mod Numbering
+-- the keys of the rows, each once, and the tallies of their groups
+pub mod GroupKeys
 -- the answer of a grouping is one bag
 pub mod Unique
 -- the first elements of a list in order

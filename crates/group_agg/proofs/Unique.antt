@@ -1,11 +1,11 @@
 -- The rows of all groups are one bag.
-use Rattle.std.proofs.Common.{◌≡◌, ◌≢◌, ◌⊎◌, inl, inr, eq-zero-or-pos, ◌↔◌, ℕ, ℤ, zero, suc, ◌+◌, ◌<◌, ◌≤◌, Bool, true, false, List, [], ◌∷◌, length, map, refl, sym, ap, subst, ◌∙◌, arith, Contains, get_or}
+use Rattle.std.proofs.Common.{◌≡◌, ◌≢◌, ◌⊎◌, inl, inr, eq-zero-or-pos, ◌↔◌, ℕ, ℤ, zero, suc, ◌+◌, ◌<◌, ◌≤◌, Bool, true, false, List, [], ◌∷◌, length, map, refl, sym, ap, subst, ◌∙◌, arith, All, Contains, get_or}
 use Rattle.std.specs.Cmp.{IsTotalOrder}
 use Rattle.std.specs.List.{AllPairs, AllZip}
 use Rattle.std.specs.Ordering.{eq_by_cmp}
 use Rattle.std.specs.declared.cmp.Ordering.{Ordering}
 use Rattle.std.specs.declared.cmp.Ordering.TheVariants.{Equal}
-use Rattle.std.proofs.lemmas.List.Elements.{All-contains}
+use Rattle.std.proofs.lemmas.List.Elements.{All-contains, Contains-get_or}
 use Rattle.std.proofs.lemmas.List.Sums.{sum_by-cons}
 use Rattle.aql_base.specs.Bags.{SameBag, count_of}
 use Rattle.aql_base.proofs.Bags.{SameBag-trans, SameBag-sym, SameBag-map, SameBag-is}
@@ -13,7 +13,8 @@ use Rattle.aql_base.proofs.Counts.{number_of, some_passes, one_at, told, SameBag
 use Rattle.aql_base.proofs.Distinct.{AllPairs-tail, AllPairs-not_among}
 use Rattle.row_values.specs.Datums.{Datum}
 use Rattle.row_values.specs.RowOrder.{row_cmp_total, row_cmp_exact}
-use Rattle.group_agg.specs.Groups.{group_of, IsSum, IsFirst, comes_before, values_of, integers_of, IsAggregate, IsGrouped}
+use Rattle.group_agg.specs.Groups.{group_of, IsSum, IsFirst, values_of, integers_of, IsAggregate, IsGroupRow, IsGrouped}
+use Rattle.group_agg.specs.Tallies.{comes_before}
 use Rattle.group_agg.specs.declared.agg.Agg.{Agg}
 use Rattle.group_agg.specs.declared.agg.Agg.TheVariants.{Key, Count, CountOf, Sum, Min, Max}
 use Rattle.group_agg.proofs.Aggregates.{alike}
@@ -95,11 +96,19 @@ row_once key group (agg ∷ aggs) (v ∷ a) (w ∷ b) h k =
     let rest = row_once key group aggs a b h.1 k.1 in
     λ i. first i ∷ rest i
 
+-- two functions that agree on the elements
+map_agree : {X Y : Type 0} (f g : X → Y) (xs : List X) → All (λ x. f x ≡ g x) xs → map f xs ≡ map g xs
+map_agree f g [] h = refl
+map_agree f g (x ∷ xs) h = λ i. h 0 x (omega arith) i ∷ map_agree f g xs (λ k d below. h (suc k) d (omega (arith, below))) i
+
 -- two answers to one question are one bag
 pub IsGrouped-once : (keys : List ℕ) (aggs : List Agg) (rows a b : List (List Datum)) → IsGrouped keys aggs rows a → IsGrouped keys aggs rows b → SameBag a b
 IsGrouped-once keys aggs rows a b h k =
-    let same : (key : List Datum) → Contains h.groups key ↔ Contains k.groups key = λ key. (λ c. (k.exactly key).1 ((h.exactly key).0 c), λ c. (h.exactly key).1 ((k.exactly key).0 c)) in
-    let keys_same = SameBag-from_distinct row_cmp_total row_cmp_exact h.groups k.groups h.distinct k.distinct same in
-    let rows_same : (key : List Datum) → h.row_of key ≡ k.row_of key = λ key. row_once key (group_of keys rows key) aggs (h.row_of key) (k.row_of key) (h.each_row key) (k.each_row key) in
-    let moved : SameBag (map h.row_of h.groups) (map k.row_of k.groups) = SameBag-trans _ _ _ (SameBag-is _ _ (λ i. map (λ key. rows_same key i) h.groups)) (SameBag-map k.row_of h.groups k.groups keys_same) in
+    let same : (key : List Datum) → Contains h.group_keys key ↔ Contains k.group_keys key = λ key. (λ c. (k.exactly key).1 ((h.exactly key).0 c), λ c. (h.exactly key).1 ((k.exactly key).0 c)) in
+    let keys_same = SameBag-from_distinct row_cmp_total row_cmp_exact h.group_keys k.group_keys h.distinct k.distinct same in
+    let rows_same : All (λ key. h.row_of key ≡ k.row_of key) h.group_keys = λ i d below.
+    let key = get_or h.group_keys i d in
+    let there = (same key).0 (Contains-get_or h.group_keys i d below) in
+    row_once key (group_of keys rows key) aggs (h.row_of key) (k.row_of key) (h.each_row i d below) (All-contains (λ key. IsGroupRow keys aggs rows key (k.row_of key)) k.group_keys key k.each_row there) in
+    let moved : SameBag (map h.row_of h.group_keys) (map k.row_of k.group_keys) = SameBag-trans _ _ _ (SameBag-is _ _ (map_agree h.row_of k.row_of h.group_keys rows_same)) (SameBag-map k.row_of h.group_keys k.group_keys keys_same) in
     SameBag-trans _ _ _ (SameBag-sym _ _ h.same_bag) (SameBag-trans _ _ _ moved k.same_bag)

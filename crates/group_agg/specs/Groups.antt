@@ -53,18 +53,13 @@ abbrev pub IsFirst : (Datum → Datum → Bool) → List Datum → Datum → Typ
 IsFirst before [] value = value ≡ null
 IsFirst before (x ∷ xs) value = Contains (x ∷ xs) value × All (λ other. before other value ≡ false) (x ∷ xs)
 
--- in value order, or from its end
-abbrev pub comes_before : Bool → Datum → Datum → Bool
-comes_before false a b = is_lt (datum_cmp a b)
-comes_before true a b = is_lt (datum_cmp b a)
-
 -- the least of the values, Null where there are none
 abbrev pub IsLeast : List Datum → Datum → Type 0
-IsLeast = IsFirst (comes_before false)
+IsLeast = IsFirst (λ a b. is_lt (datum_cmp a b))
 
 -- the greatest of the values, Null where there are none
 abbrev pub IsGreatest : List Datum → Datum → Type 0
-IsGreatest = IsFirst (comes_before true)
+IsGreatest = IsFirst (λ a b. is_lt (datum_cmp b a))
 
 -- the value of an aggregate for a group with this key
 abbrev pub IsAggregate : List Datum → List (List Datum) → Agg → Datum → Type 0
@@ -82,19 +77,19 @@ IsGroupRow keys aggs rows key row = AllZip (IsAggregate key (group_of keys rows 
 -- out has one row for each set of rows with equal keys, in any order
 pub record IsGrouped (keys : List ℕ) (aggs : List Agg) (rows out : List (List Datum)) : Type 0 where
   -- the keys of the groups, each once
-  pub groups : List (List Datum)
-  pub distinct : AllPairs (λ a b. a ≢ b) groups
-  pub exactly : (key : List Datum) → Contains groups key ↔ Contains (map (key_of keys) rows) key
+  pub group_keys : List (List Datum)
+  pub distinct : AllPairs (λ a b. a ≢ b) group_keys
+  pub exactly : (key : List Datum) → Contains group_keys key ↔ Contains (map (key_of keys) rows) key
   pub row_of : List Datum → List Datum
-  pub each_row : (key : List Datum) → IsGroupRow keys aggs rows key (row_of key)
-  pub same_bag : SameBag (map row_of groups) out
+  pub each_row : All (λ key. IsGroupRow keys aggs rows key (row_of key)) group_keys
+  pub same_bag : SameBag (map row_of group_keys) out
 
--- an aggregate that gives a key gives one of so many
+-- where the aggregate is Key k, there are more keys than k
 abbrev pub HasKey : ℕ → Agg → Type 0
 HasKey keys (Key k) = k < keys
 HasKey keys agg = Unit {0}
 
--- an aggregate's column is one of so many
+-- the aggregate's column, where it has one, is below the width
 abbrev pub HasColumn : ℕ → Agg → Type 0
 HasColumn width (Key k) = Unit {0}
 HasColumn width Count = Unit {0}

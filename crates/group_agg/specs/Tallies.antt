@@ -1,9 +1,10 @@
 -- How an aggregate is added up row by row: an exact total, or the best value so far.
-use Rattle.std.specs.Prelude.{ℕ, ℤ, pos, ◌+ℤ◌, neg_ℤ, ◌*◌, ◌^◌, ◌≡◌, ◌≢◌, ◌<◌, ◌≤◌, ◌≤ℤ◌, Bool, true, false, List, [], length, map, fold, slice_index_or, if◌then◌else◌}
+use Rattle.std.specs.Prelude.{ℕ, ℤ, pos, ◌+ℤ◌, neg_ℤ, ◌*◌, ◌^◌, ◌≡◌, ◌≢◌, ◌<◌, ◌≤◌, ◌≤ℤ◌, ◌↔◌, Contains, Bool, true, false, List, [], length, map, fold, slice_index_or, if◌then◌else◌}
 use Rattle.std.specs.Int.{saturate_to_bits}
 use Rattle.std.specs.List.{AllPairs}
-use Rattle.row_values.specs.Datums.{Datum, null, int, datum_of}
-use Rattle.group_agg.specs.Groups.{value_in, key_of, group_of, is_null, comes_before}
+use Rattle.std.specs.Ordering.{is_lt}
+use Rattle.row_values.specs.Datums.{Datum, null, int, datum_of, datum_cmp}
+use Rattle.group_agg.specs.Groups.{value_in, key_of, group_of, is_null}
 use Rattle.group_agg.specs.declared.agg.Agg.{Agg}
 use Rattle.group_agg.specs.declared.agg.Agg.TheVariants.{Key, Count, CountOf, Sum, Min, Max}
 use Rattle.group_agg.specs.declared.tally.Tally.{Tally}
@@ -42,6 +43,11 @@ abbrev pub plus_value : Sofar → Datum → Sofar
 plus_value sofar (int n) = plus sofar n
 plus_value sofar value = sofar
 
+-- in value order, or from its end
+abbrev pub comes_before : Bool → Datum → Datum → Bool
+comes_before false a b = is_lt (datum_cmp a b)
+comes_before true a b = is_lt (datum_cmp b a)
+
 -- the better of two values: Null is worse than any other
 abbrev pub better : Bool → Datum → Datum → Datum
 better last best' value = if is_null value then best' else (if is_null best' then value else (if comes_before last value best' then value else best'))
@@ -69,6 +75,10 @@ abbrev pub finished : Sofar → Datum
 finished (total n) = int (saturate_to_bits 63 n)
 finished (best value) = value
 
+-- the value that the tally at a place gives
+abbrev pub finished_at : ℕ → List Sofar → Datum
+finished_at number tallies = finished (slice_index_or tallies number (best null))
+
 -- the value of an aggregate for the group with a key
 unfoldable pub aggregate_of : List ℕ → List (List Datum) → List Datum → Agg → Datum
 aggregate_of keys rows key agg = finished (tallied agg key (group_of keys rows key))
@@ -82,11 +92,17 @@ abbrev pub IsBounded : ℕ → Sofar → Type 0
 IsBounded n (total t) = (neg_ℤ (pos (n * 2 ^ 63)) ≤ℤ t) × (t ≤ℤ pos (n * 2 ^ 63))
 IsBounded n (best value) = Unit {0}
 
--- groups are the keys of the rows, each once, and numbers tells the group of each row
-pub record AreNumbered (keys : List ℕ) (rows groups : List (List Datum)) (numbers : List ℕ) : Type 0 where
-  pub distinct : AllPairs (λ a b. a ≢ b) groups
-  pub few : length groups ≤ length rows
-  pub one_each : length numbers ≡ length rows
-  pub in_range : (i : ℕ) → i < length rows → slice_index_or numbers i 0 < length groups
-  pub key_is : (i : ℕ) → i < length rows → slice_index_or groups (slice_index_or numbers i 0) [] ≡ key_of keys (slice_index_or rows i [])
-  pub seen : (g : ℕ) → g < length groups → (i : ℕ) × (i < length rows) × (slice_index_or numbers i 0 ≡ g)
+-- group_keys are the keys of the rows, each once
+pub record AreKeys (keys : List ℕ) (rows group_keys : List (List Datum)) : Type 0 where
+  pub distinct : AllPairs (λ a b. a ≢ b) group_keys
+  pub exactly : (key : List Datum) → Contains group_keys key ↔ Contains (map (key_of keys) rows) key
+  pub few : length group_keys ≤ length rows
+
+-- the tallies of the groups with these keys for one aggregate
+abbrev pub tallies_of : Agg → List ℕ → List (List Datum) → List (List Datum) → List Sofar
+tallies_of agg keys rows group_keys = map (λ key. tallied agg key (group_of keys rows key)) group_keys
+
+-- each column has the tallies of the groups for one aggregate
+pub record AreTallied (keys : List ℕ) (aggs : List Agg) (rows group_keys : List (List Datum)) (columns : List (List Sofar)) : Type 0 where
+  pub one_each : length columns ≡ length aggs
+  pub tallies : (j : ℕ) → j < length aggs → slice_index_or columns j [] ≡ tallies_of (slice_index_or aggs j Count) keys rows group_keys

@@ -1,12 +1,13 @@
-ghost use Rattle.std.specs.Prelude.{ℕ, List, ◌≡◌, ◌<◌, ◌^◌, ◌++◌, ◌∷◌, IfOk, OnOk, length, map, slice_index_or, All, vec_len, []};
+ghost use Rattle.std.specs.Prelude.{ℕ, List, Bool, true, false, ◌≡◌, ◌<◌, ◌+◌, ◌^◌, ◌++◌, ◌∷◌, IfOk, OnOk, length, map, set, slice_index_or, All, vec_len, []};
 ghost use Rattle.row_values.specs.Rows.{RowList};
 ghost use Rattle.row_values.specs.Datums.{Datum, null};
-ghost use Rattle.group_agg.specs.Groups.{key_of, group_of, HasKey, HasColumn, IsGrouped};
-ghost use Rattle.group_agg.specs.Tallies.{best, sofar_of, start, tallied, finished, row_of, IsBounded, AreNumbered};
+ghost use Rattle.group_agg.specs.Groups.{key_of, HasKey, HasColumn, IsGrouped};
+ghost use Rattle.group_agg.specs.Tallies.{best, start, added, finished_at, IsBounded, AreKeys, AreTallied};
 ghost use Rattle.aql_base.specs.Bags.{SameBag};
+ghost use Rattle.group_agg.specs.declared.agg.Agg.TheVariants.{Count};
 
 use crate::Agg;
-use crate::tally::{Tally, started};
+use crate::tallies::Tallies;
 use indexmap::IndexSet;
 use row_values::{Row, Rows};
 use span_token::OutOfMemory;
@@ -15,10 +16,12 @@ use std::alloc::Global;
 /// One row for each set of rows with equal values in the columns `keys`, where Null equals Null: the
 /// value of each of `aggs`, in their order. The rows of the answer have no order that is promised.
 ///
-/// With no keys all rows are one set; no rows make no set, so the answer to none is none. `Sum` is exact
-/// where the total fits an `i64`, whatever its parts do, and else the nearer end of the range.
+/// Columns count from 0. With no keys all rows are one set; no rows make no set, so the answer to none is
+/// none. `Sum` is exact where the total fits an `i64`, whatever its parts do, and else the nearer end of
+/// the range.
 ///
-/// Takes one look-up for each row, and one pass for each aggregate that is no key.
+/// Takes one pass over the rows, with one look-up for each. `OutOfMemory` comes for want of memory alone,
+/// and where there are rows and 2^32 keys or more.
 ///
 /// Meaning: `IsGrouped`, `specs/Groups.antt`; docs/LANGUAGE.md, "Groups".
 pub fn group<'d>(
@@ -37,39 +40,47 @@ pub fn group<'d>(
 {
     // Each row has the width of the list, and they are fewer than 2^32.
     let (_width, _number) = (rows.width(), rows.len());
-    let (groups, numbers) = number(alloc, rows.as_slice(), keys)?;
-    let out = group_rows(
-        alloc,
-        rows.as_slice(),
-        groups.as_slice(),
-        numbers.as_slice(),
-        aggs,
-    )?;
+    let (group_keys, columns) = tally_rows(alloc, rows.as_slice(), keys, aggs)?;
+    let out = group_rows(alloc, group_keys.len(), columns.as_slice())?;
     Ok(Rows::from_vec(aggs.len() as u32, out))
 }
 
-/// The rows of the groups, in the order of `groups`; `numbers` has the number of each row's group.
-fn group_rows<'d>(
+/// The keys of the rows, each once, in the order in which they come first, and for each aggregate the
+/// tallies of their groups.
+fn tally_rows<'d>(
     alloc: Global,
     rows: &[Row<'d>],
-    groups: &[Row<'d>],
-    numbers: &[u32],
+    keys: &[u32],
     aggs: &[Agg],
-) -> Result<Vec<Row<'d>>, OutOfMemory>
+) -> Result<(IndexSet<Row<'d>>, Vec<Tallies<'d>>), OutOfMemory>
     requires few { length rows.now < 2 ^ 32 }
-    requires one_each { length numbers.now ≡ length rows.now }
-    requires in_range { All (λ number. number < length groups.now) numbers.now }
-    requires keys { All (λ agg. All (λ key. HasKey (length key) agg) groups.now) aggs.now }
-    requires columns { All (λ agg. All (λ row. HasColumn (length row) agg) rows.now) aggs.now }
-    ensures { IfOk result (λ out. (keys : List ℕ) → AreNumbered keys rows.now groups.now numbers.now
-        → out.items ≡ map (row_of keys aggs.now rows.now) groups.now) }
+    requires keys_there { All (λ row. All (λ column. column < length row) keys.now) rows.now }
+    requires aggs_there { All (HasKey (length keys.now)) aggs.now }
+    requires columns_there { All (λ row. All (HasColumn (length row)) aggs.now) rows.now }
+    ensures keys { IfOk result (λ found. AreKeys keys.now rows.now found.0.keys) }
+    ensures tallies { IfOk result (λ found. AreTallied keys.now aggs.now rows.now found.0.keys found.1.items) }
 {
-    let mut out = empty_rows(alloc, groups.len())?;
-    for agg in aggs {
-        let tallies = tally(alloc, rows, groups, numbers, *agg)?;
-        push_values(&mut out, tallies.as_slice())?;
+    let mut group_keys = IndexSet::new(alloc);
+    let mut columns = no_tallies(alloc, aggs.len())?;
+    for row in rows {
+        let key = key_of(alloc, row, keys)?;
+        let (number, is_new) = group_keys.insert_full(key)?;
+        start_if_new(&mut columns, is_new, row, keys, aggs)?;
+        add_row(&mut columns, number, row, aggs);
     }
-    Ok(out)
+    Ok((group_keys, columns))
+}
+
+/// The tallies of no group for so many aggregates.
+fn no_tallies<'d>(alloc: Global, number: usize) -> Result<Vec<Tallies<'d>>, OutOfMemory>
+    ensures len { IfOk result (λ columns. vec_len columns ≡ number) }
+    ensures empty { IfOk result (λ columns. All (λ column. column ≡ []) columns.items) }
+{
+    let mut columns = Vec::with_capacity(alloc, number)?;
+    for _ in 0..number {
+        columns.push(Tallies::new(alloc))?;
+    }
+    Ok(columns)
 }
 
 /// The values of a row in the key columns.
@@ -77,6 +88,9 @@ pub(crate) fn key_of<'d>(alloc: Global, row: &Row<'d>, keys: &[u32]) -> Result<R
     requires { All (λ column. column < length row.now) keys.now }
     ensures { IfOk result (λ key. key ≡ key_of keys.now row.now) }
 {
+    if keys.len() == 1 {
+        return Ok(Row::single(alloc, row.get(keys[0])));
+    }
     let mut key = Row::empty(alloc);
     for column in keys {
         key.push(row.get(*column))?;
@@ -84,93 +98,76 @@ pub(crate) fn key_of<'d>(alloc: Global, row: &Row<'d>, keys: &[u32]) -> Result<R
     Ok(key)
 }
 
-/// The keys of the rows, each once, in the order in which they come first, and the number of each row's
-/// key among them.
-fn number<'d>(
-    alloc: Global,
-    rows: &[Row<'d>],
+/// Where the row's key is new, a tally of its group for each aggregate.
+fn start_if_new<'d>(
+    columns: &mut Vec<Tallies<'d>>,
+    is_new: bool,
+    row: &Row<'d>,
     keys: &[u32],
-) -> Result<(IndexSet<Row<'d>>, Vec<u32>), OutOfMemory>
-    requires few { length rows.now < 2 ^ 32 }
-    requires columns { All (λ row. All (λ column. column < length row) keys.now) rows.now }
-    ensures { IfOk result (λ found. AreNumbered keys.now rows.now found.0.keys found.1.items) }
+    aggs: &[Agg],
+) -> Result<(), OutOfMemory>
+    requires one_each { vec_len columns.old ≡ length aggs.now }
+    requires keys_there { All (λ column. column < length row.now) keys.now }
+    requires aggs_there { All (HasKey (length keys.now)) aggs.now }
+    ensures len { vec_len columns.new ≡ vec_len columns.old }
+    ensures same { is_new ≡ false → columns.new.items ≡ columns.old.items }
+    ensures started { is_new ≡ true → OnOk result ((j : ℕ) → j < length aggs.now → slice_index_or columns.new.items j []
+        ≡ slice_index_or columns.old.items j [] ++ start (slice_index_or aggs.now j Count) (key_of keys.now row.now) ∷ []) }
 {
-    let mut groups = IndexSet::new(alloc);
-    let mut numbers = Vec::with_capacity(alloc, rows.len())?;
-    for row in rows {
-        let key = key_of(alloc, row, keys)?;
-        let (number, _) = groups.insert_full(key)?;
-        numbers.push(number as u32)?;
+    if !is_new {
+        return Ok(());
     }
-    Ok((groups, numbers))
-}
-
-/// The tallies of the groups before the first row.
-fn started_all<'d>(
-    alloc: Global,
-    groups: &[Row<'d>],
-    agg: Agg,
-) -> Result<Vec<Tally<'d>>, OutOfMemory>
-    requires { All (λ key. HasKey (length key) agg) groups.now }
-    ensures value { IfOk result (λ tallies. map sofar_of tallies.items ≡ map (start agg) groups.now) }
-    ensures bounded { IfOk result (λ tallies. All (λ tally. IsBounded 0 (sofar_of tally)) tallies.items) }
-{
-    let mut tallies = Vec::with_capacity(alloc, groups.len())?;
-    for key in groups {
-        tallies.push(started(agg, key))?;
-    }
-    Ok(tallies)
-}
-
-/// The tallies of the groups after all rows; `numbers` has the number of each row's group.
-fn tally<'d>(
-    alloc: Global,
-    rows: &[Row<'d>],
-    groups: &[Row<'d>],
-    numbers: &[u32],
-    agg: Agg,
-) -> Result<Vec<Tally<'d>>, OutOfMemory>
-    requires few { length rows.now < 2 ^ 32 }
-    requires one_each { length numbers.now ≡ length rows.now }
-    requires in_range { All (λ number. number < length groups.now) numbers.now }
-    requires key { All (λ key. HasKey (length key) agg) groups.now }
-    requires column { All (λ row. HasColumn (length row) agg) rows.now }
-    ensures len { IfOk result (λ tallies. vec_len tallies ≡ length groups.now) }
-    ensures value { IfOk result (λ tallies. (keys : List ℕ) → AreNumbered keys rows.now groups.now numbers.now
-        → map sofar_of tallies.items ≡ map (λ key. tallied agg key (group_of keys rows.now key)) groups.now) }
-{
-    let mut tallies = started_all(alloc, groups, agg)?;
-    if let Agg::Key(_) = agg {
-        return Ok(tallies);
-    }
-    for i in 0..rows.len() {
-        let number = numbers[i] as usize;
-        tallies[number] = tallies[number].with_row(agg, &rows[i]);
-    }
-    Ok(tallies)
-}
-
-/// Puts the value of each tally after those of its group's row.
-fn push_values<'d>(out: &mut Vec<Row<'d>>, tallies: &[Tally<'d>]) -> Result<(), OutOfMemory>
-    requires { vec_len out.old ≡ length tallies.now }
-    ensures len { vec_len out.new ≡ vec_len out.old }
-    ensures pushed { OnOk result ((k : ℕ) → k < length tallies.now →
-        slice_index_or out.new.items k [] ≡ slice_index_or out.old.items k [] ++ finished (slice_index_or (map sofar_of tallies.now) k (best null)) ∷ []) }
-{
-    for i in 0..tallies.len() {
-        out[i].push(tallies[i].finished())?;
+    for j in 0..aggs.len() {
+        columns[j].start(aggs[j], keys, row)?;
     }
     Ok(())
 }
 
-/// So many rows of no value.
-fn empty_rows<'d>(alloc: Global, number: usize) -> Result<Vec<Row<'d>>, OutOfMemory>
-    ensures len { IfOk result (λ rows. vec_len rows ≡ number) }
-    ensures empty { IfOk result (λ rows. All (λ row. row ≡ []) rows.items) }
+/// One more row of the group with this number, for each aggregate.
+fn add_row<'d>(columns: &mut Vec<Tallies<'d>>, number: usize, row: &Row<'d>, aggs: &[Agg])
+    requires one_each { vec_len columns.old ≡ length aggs.now }
+    requires there { All (λ column. number < length column) columns.old.items }
+    requires columns_there { All (HasColumn (length row.now)) aggs.now }
+    requires room { All (λ column. All (IsBounded (2 ^ 32)) column) columns.old.items }
+    ensures len { vec_len columns.new ≡ vec_len columns.old }
+    ensures added { (j : ℕ) → j < length aggs.now → slice_index_or columns.new.items j []
+        ≡ set (slice_index_or columns.old.items j []) number (added (slice_index_or aggs.now j Count) (slice_index_or (slice_index_or columns.old.items j []) number (best null)) row.now) }
+    ensures bounded { (n : ℕ) → All (λ column. All (IsBounded n) column) columns.old.items → All (λ column. All (IsBounded (n + 1)) column) columns.new.items }
 {
-    let mut rows = Vec::with_capacity(alloc, number)?;
-    for _ in 0..number {
-        rows.push(Row::empty(alloc))?;
+    for j in 0..aggs.len() {
+        columns[j].add(number, aggs[j], row);
     }
-    Ok(rows)
+}
+
+/// The rows of so many groups, in the order of their numbers.
+fn group_rows<'d>(
+    alloc: Global,
+    number: usize,
+    columns: &[Tallies<'d>],
+) -> Result<Vec<Row<'d>>, OutOfMemory>
+    requires { All (λ column. number ≡ length column) columns.now }
+    ensures len { IfOk result (λ out. vec_len out ≡ number) }
+    ensures rows { IfOk result (λ out. (g : ℕ) → g < number → slice_index_or out.items g [] ≡ map (finished_at g) columns.now) }
+{
+    let mut out = Vec::with_capacity(alloc, number)?;
+    for g in 0..number {
+        out.push(group_row(alloc, g, columns)?)?;
+    }
+    Ok(out)
+}
+
+/// The row of the group with this number.
+fn group_row<'d>(
+    alloc: Global,
+    number: usize,
+    columns: &[Tallies<'d>],
+) -> Result<Row<'d>, OutOfMemory>
+    requires { All (λ column. number < length column) columns.now }
+    ensures { IfOk result (λ row. row ≡ map (finished_at number) columns.now) }
+{
+    let mut row = Row::empty(alloc);
+    for column in columns {
+        row.push(column.value(number))?;
+    }
+    Ok(row)
 }

@@ -9,6 +9,7 @@
 mod agg;
 mod groups;
 mod limits;
+mod tallies;
 mod tally;
 #[cfg(test)]
 mod tests;

@@ -16,8 +16,10 @@ use std::alloc::Global;
 /// all rows where they are fewer or there is no limit. Null comes first in both. The rows of the answer
 /// have no order that is promised.
 ///
-/// Takes one pass, and sorts at most about twice as many rows as are asked for at a time. A row that
-/// comes after so many others is compared once, and costs no more.
+/// Columns count from 0. Takes one pass, and sorts at a time at most twice as many rows as are asked for,
+/// or 64 more than are asked for where these are more. A row that comes after so many others is compared
+/// once, and costs no more. `OutOfMemory` comes for want of memory alone, and where rows have to be left
+/// out by 2^32 keys or more.
 ///
 /// Meaning: `IsLimited`, `specs/Limits.antt`; docs/LANGUAGE.md, "Order and limit".
 pub fn order_limit<'d>(

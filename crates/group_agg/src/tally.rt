@@ -1,7 +1,7 @@
-ghost use Rattle.std.specs.Prelude.{ℕ, ◌≡◌, ◌+◌, ◌^◌, length};
+ghost use Rattle.std.specs.Prelude.{ℕ, ◌≡◌, ◌<◌, ◌+◌, ◌^◌, length, All};
 ghost use Rattle.row_values.specs.Datums.{datum_of};
-ghost use Rattle.group_agg.specs.Groups.{HasKey, HasColumn, is_null, comes_before};
-ghost use Rattle.group_agg.specs.Tallies.{sofar_of, start, plus, plus_one_for, plus_value, better, improved, added, finished, IsBounded};
+ghost use Rattle.group_agg.specs.Groups.{HasKey, HasColumn, is_null, key_of};
+ghost use Rattle.group_agg.specs.Tallies.{sofar_of, start, plus, plus_one_for, plus_value, comes_before, better, improved, added, finished, IsBounded};
 
 use crate::Agg;
 use row_values::{Row, Value, compare_values};
@@ -13,14 +13,14 @@ pub(crate) enum Tally<'d> {
     Best(Value<'d>),
 }
 
-/// The tally before the first row of the group that has this key.
-pub(crate) fn started<'d>(agg: Agg, key: &Row<'d>) -> Tally<'d>
-    requires { HasKey (length key.now) agg }
-    ensures value { sofar_of result ≡ start agg key.now }
-    ensures bounded { IsBounded 0 (sofar_of result) }
+/// The tally before the first row of a group, where this is the row.
+pub(crate) fn started<'d>(agg: Agg, keys: &[u32], row: &Row<'d>) -> Tally<'d>
+    requires key { HasKey (length keys.now) agg }
+    requires columns { All (λ column. column < length row.now) keys.now }
+    ensures { sofar_of result ≡ start agg (key_of keys.now row.now) }
 {
     match agg {
-        Agg::Key(k) => Tally::Best(key.get(k)),
+        Agg::Key(k) => Tally::Best(row.get(keys[k as usize])),
         Agg::Count | Agg::CountOf(_) => Tally::Total(0),
         Agg::Sum(_) | Agg::Min(_) | Agg::Max(_) => Tally::Best(Value::Null),
     }
