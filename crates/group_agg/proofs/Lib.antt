@@ -10,3 +10,5 @@ pub mod FirstOf
 pub mod Pairs
 -- the answer of a limit is one bag
 pub mod Limited
+-- the answers to rows in another order are the same ones
+pub mod SameInput
