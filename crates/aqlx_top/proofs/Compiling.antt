@@ -9,7 +9,7 @@ use Rattle.aqlx_top.specs.OneForm.{AreOf, IsOutputOf, IsViewIn}
 use Rattle.aqlx_top.specs.Run.{Program}
 use Rattle.span_token.specs.declared.refusal.Failure.{Failure}
 use Rattle.span_token.specs.declared.refusal.Failure.TheVariants.{OutOfMemory, Fault}
-use Rattle.aql_lexer.specs.Kinds.{Kind, Token, kind_of, token_of, kinds_of}
+use Rattle.aql_lexer.specs.Kinds.{Kind, kind_of, token_of, kinds_of}
 use Rattle.aql_lexer.specs.declared.token.Tok.{Tok}
 use Rattle.aql_lexer.specs.Reading.{IsDecided}
 use Rattle.aql_parser.specs.declared.parsing.SyntaxFault.{SyntaxFault}

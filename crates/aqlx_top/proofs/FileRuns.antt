@@ -1,5 +1,5 @@
 -- From the text of a program file to the file, and to the words that name it.
-use Rattle.std.proofs.Common.{◌≡◌, ℕ, ◌+◌, ◌<◌, ◌≤◌, List, [], ◌∷◌, length, take, ap, ap₂, sym, subst, ◌∙◌, refl, arith, Option, Some, None, Result, Ok, Err, IfSome, IfOk, OnErr, IsSomeAnd, inl, inr, ◌⊎◌}
+use Rattle.std.proofs.Common.{◌≡◌, ℕ, ◌+◌, ◌<◌, List, length, take, ap, ap₂, subst, ◌∙◌, refl, arith, Option, Some, None, Result, Ok, Err, IfSome, IfOk, OnErr, inl, inr, ◌⊎◌}
 use Rattle.std.proofs.lemmas.List.{take_all, length-take}
 use Rattle.std.proofs.lemmas.Bool.{cases_lt}
 use Rattle.aql_io.specs.Bytes.{Names}
@@ -14,7 +14,7 @@ use Rattle.aqlx_top.specs.declared.status.ProgramFault.{ProgramFault}
 use Rattle.aqlx_top.specs.declared.status.ProgramFault.TheVariants.{Large}
 use Rattle.aqlx_top.specs.declared.status.What.TheVariants.{Bytes}
 use Rattle.aqlx_top.specs.Devices.{FilesEnds, SourceEnds, SinkEnds}
-use Rattle.aqlx_top.specs.Outcome.{IsHeldAs, IsCalledFor, WroteFront, HasCauseOf, RanText, RanTextInPart, RefusedText, IsFileRunTo, IsFileInPart, IsTextRunTo, IsTextInPart, call_of}
+use Rattle.aqlx_top.specs.Outcome.{IsHeldAs, IsCalledFor, WroteFront, HasCauseOf, RanText, IsFileRunTo, IsFileInPart, IsTextRunTo, IsTextInPart, call_of}
 use Rattle.aqlx_top.specs.ProgramFaults.{HasOnlyFault, HoldsProgram}
 use Rattle.aqlx_top.specs.ProgramFile.{IsFrontOf}
 use Rattle.aqlx_top.specs.Programs.{IsCompiled}

@@ -1,8 +1,8 @@
 -- The one form: a statement is the view of one program, and a list of statements is unbuilt in one place.
-use Rattle.std.proofs.Common.{◌≡◌, ℕ, ◌<◌, ◌≤◌, List, [], ◌∷◌, length, ap, ap₂, sym, subst, ◌∙◌, refl, arith, inl, inr, ◌⊎◌, Option, None, Some, IsSomeAnd, slice_get}
+use Rattle.std.proofs.Common.{◌≡◌, ℕ, List, [], ◌∷◌, ap, sym, subst, ◌∙◌, arith, inl, inr, Option, None, Some, IsSomeAnd, slice_get}
 use Rattle.aql_syntax.specs.Trees.{Item, Source, Tail, Spec, Query, Statement, Group, Name}
 use Rattle.aql_syntax.specs.Trees as tree
-use Rattle.aqlx_top.specs.OneForm.{IsDocumentAs, IsWholeAs, LooksFor, IsPlainSearch, IsSearch, IsViewOf, IsViewIn, BeginsWith, GoesOnWith, AreOf, IsUnbuilt}
+use Rattle.aqlx_top.specs.OneForm.{IsDocumentAs, IsWholeAs, LooksFor, IsSearch, IsViewOf, BeginsWith, GoesOnWith, AreOf, IsUnbuilt}
 use Rattle.aqlx_top.specs.Run.{Program}
 
 -- a source is `Document` under one alias

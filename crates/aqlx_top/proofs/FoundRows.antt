@@ -1,5 +1,5 @@
 -- The rows of a pattern's matches, made one after another.
-use Rattle.std.proofs.Common.{◌≡◌, ℕ, ◌+◌, ◌≤◌, List, [], ◌∷◌, ◌++◌, length, map, All, ap, sym, ◌∙◌, refl, subst, arith, Option, Some, None, option_map}
+use Rattle.std.proofs.Common.{◌≡◌, ℕ, ◌≤◌, List, [], ◌∷◌, ◌++◌, map, All, ap, sym, ◌∙◌, refl, subst, arith, Option, Some, None, option_map}
 use Rattle.std.proofs.lemmas.List.Elements.{All-nil, All-cons, All-head, All-tail}
 use Rattle.std.specs.List.{flat_map}
 use Rattle.regex.specs.Patterns.{Match}

@@ -1,5 +1,5 @@
 -- Short lists by their places.
-use Rattle.std.proofs.Common.{◌≡◌, ℕ, ◌<◌, ◌≤◌, List, [], ◌∷◌, length, get_or, ap₂, arith, sym, refl, ◌∙◌}
+use Rattle.std.proofs.Common.{◌≡◌, ◌<◌, ◌≤◌, List, [], ◌∷◌, length, get_or, ap₂, arith, sym}
 
 -- a list of two elements
 pub list_of_two : {A : Type 0} (xs : List A) (a b : A) → 2 ≤ length xs → length xs < 3

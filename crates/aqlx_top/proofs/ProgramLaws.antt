@@ -1,24 +1,24 @@
 -- A program file's bytes have one fault at most: what is found first is the only one.
-use Rattle.std.proofs.Common.{◌≡◌, ℕ, ◌+◌, ◌<◌, ◌≤◌, List, map, length, ap, ap₂, sym, subst, ◌∙◌, refl, arith, inl, inr, ◌⊎◌, All}
+use Rattle.std.proofs.Common.{◌≡◌, ℕ, ◌+◌, ◌<◌, ◌≤◌, List, length, ap, ap₂, sym, subst, ◌∙◌, refl, arith}
 use Rattle.std.specs.Str.{IsUtf8, IsValidUpTo}
 use Rattle.std.specs.Str.Lossy.{utf8_valid_len}
 use Rattle.std.proofs.lemmas.Str.{utf8_valid_len-IsUtf8, utf8_valid_len-IsValidUpTo}
 use Rattle.aql_lexer.specs.Kinds.{Kind, Token}
-use Rattle.aql_lexer.specs.Reading.{IsReading, IsFault, IsDecided}
+use Rattle.aql_lexer.specs.Reading.{IsFault, IsDecided}
 use Rattle.aql_lexer.specs.declared.token.LexFault.{LexFault}
 use Rattle.aql_parser.specs.declared.parsing.SyntaxFault.{SyntaxFault}
 use Rattle.aql_parser.specs.declared.measuring.TheConstants.{MAX_NESTING}
 use Rattle.aql_parser.specs.Faults.{kinds_in, IsSyntaxFault}
 use Rattle.aql_parser.specs.Faults as parsing
-use Rattle.aql_parser.specs.Nesting.{IsWithin, IsNesting, NestsWithin}
+use Rattle.aql_parser.specs.Nesting.{IsNesting, NestsWithin}
 use Rattle.aql_syntax.specs.Trees.{Statement}
-use Rattle.aql_syntax.specs.Programs.{runs_of, AreTokensOf, placed_in}
-use Rattle.aqlx_top.specs.declared.limits.TheConstants.{PROGRAM_LIMIT, STATEMENT_LIMIT}
+use Rattle.aql_syntax.specs.Programs.{AreTokensOf, placed_in}
+use Rattle.aqlx_top.specs.declared.limits.TheConstants.{PROGRAM_LIMIT}
 use Rattle.aqlx_top.specs.declared.status.ProgramFault.{ProgramFault}
 use Rattle.aqlx_top.specs.declared.status.ProgramFault.TheVariants.{Text, Large, Lex, Syntax, Unbuilt}
 use Rattle.aqlx_top.specs.declared.status.What.TheVariants.{Bytes, Statements, Nesting}
 use Rattle.aqlx_top.specs.OneForm.{IsUnbuilt, AreOf}
-use Rattle.aqlx_top.specs.ProgramFaults.{HasFault, HasOnlyFault, HasTooMany, IsTooDeep, IsFaultless, HoldsProgram}
+use Rattle.aqlx_top.specs.ProgramFaults.{HasFault, HasOnlyFault, HasTooMany, IsTooDeep, HoldsProgram}
 use Rattle.aqlx_top.specs.ProgramTexts.{ReadsAs, IsWithinLimits, HoldsStatements}
 use Rattle.aqlx_top.specs.Run.{Program}
 use Rattle.aqlx_top.proofs.FormLaws.{one_unbuilt, form_is_built}

@@ -1,5 +1,5 @@
 -- What one more call of the reader of lines does to the lines that a run looked at.
-use Rattle.std.proofs.Common.{◌≡◌, ◌≢◌, ℕ, ◌+◌, ◌<◌, ◌≤◌, Bool, true, false, List, [], ◌∷◌, ◌++◌, length, All, ap, ap₂, sym, subst, ◌∙◌, refl, append_assoc, arith, length-append, Option, Some, None, ◌⊎◌, inl, inr, MatchOption, is_some}
+use Rattle.std.proofs.Common.{◌≡◌, ◌≢◌, ℕ, ◌+◌, ◌<◌, Bool, true, false, List, [], ◌∷◌, ◌++◌, length, All, ap, sym, ◌∙◌, refl, append_assoc, arith, length-append, Option, Some, None, inl, inr, is_some}
 use Rattle.std.proofs.lemmas.List.{append-nil}
 use Rattle.std.proofs.lemmas.List.Elements.{All-append, All-cons, All-nil}
 use Rattle.std.proofs.lemmas.Grind.{flat_map-append}
@@ -8,12 +8,11 @@ use Rattle.aql_io.specs.Causes.{Rose}
 use Rattle.corpus_json.specs.declared.limits.TheConstants.{LINE_LIMIT, CORPUS_LIMIT}
 use Rattle.corpus_json.specs.declared.step.Step.{Step}
 use Rattle.corpus_json.specs.declared.step.Step.TheVariants.{Line, End, Long, Failed, Limit}
-use Rattle.corpus_json.specs.Lines.{lines_of, joined, last_line, HasNoLf, BeginsTooLong, FirstIsTooLong}
-use Rattle.corpus_json.specs.Reading.{Reading, NextLine, EndsAtLf, EndsAtEnd, IsUnended, settled}
+use Rattle.corpus_json.specs.Lines.{lines_of, joined, last_line, HasNoLf}
+use Rattle.corpus_json.specs.Reading.{Reading, NextLine, EndsAtLf, EndsAtEnd, IsUnended}
 use Rattle.corpus_json.proofs.LineCuts.{lines_of-joined, lines_of-rest, last_line-ended, last_line-open, lines_of-too_long}
 use Rattle.aqlx_top.specs.Progress.{IsReadTo}
-use Rattle.aqlx_top.specs.Taken.{How, at_end, failed, at_limit, left_off, is_at_end, IsTaken}
-use Rattle.aqlx_top.specs.Devices.{SourceEnds}
+use Rattle.aqlx_top.specs.Taken.{How, at_end, failed, at_limit, left_off, is_at_end}
 
 -- one more line, joined to the others
 joined-push : (lines : List (List ℕ)) (line : List ℕ) → joined (lines ++ line ∷ []) ≡ joined lines ++ (line ++ 10 ∷ [])

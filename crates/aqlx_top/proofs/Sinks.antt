@@ -1,8 +1,8 @@
 -- What several writes in a row do to the bytes that a sink holds.
-use Rattle.std.proofs.Common.{◌≡◌, ℕ, ◌+◌, ◌-◌, ◌≤◌, List, [], ◌++◌, length, take, drop, ap, append_assoc, ◌∙◌, sym, refl, None, Some, Option, Result, Ok, Err, arith}
+use Rattle.std.proofs.Common.{ℕ, ◌+◌, ◌-◌, ◌≤◌, List, [], ◌++◌, length, take, drop, ap, append_assoc, ◌∙◌, sym, None, Some, Option, Result, Ok, Err, arith}
 use Rattle.std.proofs.Math.Seq.{take-add}
 use Rattle.std.proofs.lemmas.List.{take_rest, take_all, append-nil}
-use Rattle.std.specs.Io.KnownBytes.{Appends, Keeps}
+use Rattle.std.specs.Io.KnownBytes.{Appends}
 use Rattle.aqlx_top.specs.Prefixes.{AppendsFront}
 
 -- two writes in a row

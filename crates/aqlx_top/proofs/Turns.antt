@@ -1,17 +1,17 @@
 -- One turn of a run: a line is looked at, or the run ends.
-use Rattle.std.proofs.Common.{◌≡◌, ◌≢◌, ℕ, ◌+◌, ◌<◌, ◌≤◌, ◌^◌, ◌-◌, min, Bool, true, false, not, List, [], ◌∷◌, ◌++◌, length, take, drop, All, ap, ap₂, sym, subst, ◌∙◌, refl, append_assoc, arith, length-append, Option, Some, None, is_some, take-append-drop, Result, Ok, Err, IfSome, OnErr, inl, inr}
+use Rattle.std.proofs.Common.{◌≡◌, ℕ, ◌+◌, ◌≤◌, true, false, List, [], ◌∷◌, ◌++◌, length, take, drop, ap, ap₂, sym, subst, ◌∙◌, refl, append_assoc, arith, length-append, Option, Some, None, is_some, take-append-drop, Result, Ok, Err, IfSome, OnErr, inl, inr}
 use Rattle.std.proofs.lemmas.List.{append-nil}
 use Rattle.std.proofs.lemmas.List.Elements.{All-append, All-cons, All-nil}
 use Rattle.std.specs.List.{flat_map}
 use Rattle.std.proofs.lemmas.Bool.{lt-ltb, le-ltb}
-use Rattle.std.specs.Io.KnownBytes.{Appends, Consumes, IsAtEnd}
+use Rattle.std.specs.Io.KnownBytes.{Appends, Consumes}
 use Rattle.std.proofs.KnownBytes.{Consumes-nil}
 use Rattle.aql_io.specs.Causes.{Rose}
 use Rattle.span_token.specs.Documents.{Doc}
 use Rattle.corpus_json.specs.declared.limits.TheConstants.{LINE_LIMIT, CORPUS_LIMIT}
 use Rattle.corpus_json.specs.declared.step.Step.{Step}
 use Rattle.corpus_json.specs.declared.step.Step.TheVariants.{Line, End, Long, Failed, Limit}
-use Rattle.corpus_json.specs.Documents.{documents, is_bad_line}
+use Rattle.corpus_json.specs.Documents.{is_bad_line}
 use Rattle.corpus_json.specs.Lines.{is_too_long}
 use Rattle.corpus_json.specs.Lines.{lines_of, joined, cut, last_line, HasNoLf}
 use Rattle.corpus_json.specs.Reading.{Reading, NextLine, Took}
@@ -24,7 +24,7 @@ use Rattle.aqlx_top.specs.declared.status.Status.TheVariants.{Done, Program, Usa
 use Rattle.aqlx_top.specs.declared.status.CorpusFault.TheVariants.{BadLine, LineLong, CorpusLarge}
 use Rattle.aqlx_top.specs.Devices.{SourceEnds, SinkEnds, source_ends, IsFlushed}
 use Rattle.aqlx_top.specs.Progress.{Stands, Finished, InPart, Came, IsRunTo, IsReadTo, written_for}
-use Rattle.aqlx_top.specs.Taken.{How, at_end, failed, at_limit, left_off, is_at_end, IsTaken, HasNoBadLine, IsFirstBad}
+use Rattle.aqlx_top.specs.Taken.{How, at_end, failed, at_limit, left_off, is_at_end, IsTaken, HasNoBadLine}
 use Rattle.aqlx_top.proofs.Documents.{pieces-append, documents_from_bad}
 use Rattle.aqlx_top.proofs.Readings.{IsLeftOff, lines_so_far, line_read, end_read, failed_read, limit_read, long_read}
 use Rattle.aqlx_top.proofs.Sinks.{appends_more, appends_nothing}

@@ -1,5 +1,5 @@
 -- The one form of programs that run: a view that extracts one pattern, and its output.
-use Rattle.std.specs.Prelude.{◌≡◌, ◌≢◌, ℕ, ◌<◌, ◌≤◌, ◌⊎◌, List, [], ◌∷◌, length, codes, Option, None, Some, IsSomeAnd, slice_get}
+use Rattle.std.specs.Prelude.{◌≡◌, ◌≢◌, ℕ, ◌<◌, ◌≤◌, ◌⊎◌, List, [], ◌∷◌, length, codes, None, Some, IsSomeAnd, slice_get}
 use Rattle.aql_syntax.specs.Trees.{Item, Group, Source, Tail, Spec, Query, Statement}
 use Rattle.aql_syntax.specs.Trees as tree
 use Rattle.aql_regex_extract.specs.Faults.{IsPattern}

@@ -1,5 +1,5 @@
 -- The promise of the top call: what each answer says of the words, the files, the corpus and what was written.
-use Rattle.std.specs.Prelude.{◌≡◌, ◌≢◌, ℕ, ◌<◌, ◌≤◌, ◌⊎◌, true, List, [], length, take, Option, Some, Result, Ok, Err, IfSome, IsSomeAnd, IsErr}
+use Rattle.std.specs.Prelude.{◌≡◌, ◌≢◌, ℕ, ◌<◌, ◌⊎◌, true, List, [], length, Some, Result, Ok, Err, IfSome, IsSomeAnd, IsErr}
 use Rattle.span_token.specs.declared.refusal.OutOfMemory.{OutOfMemory}
 use Rattle.corpus_json.specs.declared.limits.TheConstants.{CORPUS_LIMIT}
 use Rattle.corpus_json.specs.Lines.{lines_of}

@@ -1,7 +1,6 @@
-use Rattle.std.proofs.Common.{◌≡◌, ap, sym, ◌∙◌, List, subst, ℕ}
+use Rattle.std.proofs.Common.{sym, ◌∙◌, subst}
 use Rattle.std.proofs.lemmas.Result.{IfOk-weaker}
 use Rattle.span_token.specs.Extents.{extent_of}
-use Rattle.row_values.specs.Datums.{Datum}
 use Rattle.row_values.specs.Rows.{RowList}
 use Rattle.corpus_json.specs.Outputs.{RowsLieIn}
 use Rattle.aqlx_top.proofs.FoundRows.{rows_found, rows_lie, nothing_inside, with_rows}

@@ -1,4 +1,4 @@
-use Rattle.std.proofs.Common.{rules, ◌∙◌}
+use Rattle.std.proofs.Common.{◌∙◌}
 use Rattle.aqlx_top.proofs.FileLemmas.{so_far_more}
 use Rattle.aqlx_top.proofs.program_file.read_next.Goals as goal
 

@@ -1,4 +1,4 @@
-use Rattle.std.proofs.Common.{◌≡◌, sym, subst, ℕ}
+use Rattle.std.proofs.Common.{sym, subst, ℕ}
 use Rattle.aqlx_top.specs.declared.status.ProgramFault.TheVariants.{Text}
 use Rattle.aqlx_top.specs.ProgramFaults.{HasOnlyFault}
 use Rattle.aqlx_top.proofs.ProgramLaws.{only_text}

@@ -1,4 +1,4 @@
-use Rattle.std.proofs.Common.{rules, length, ◌-◌, ◌≡◌, ◌+◌, ◌≤◌, drop, take, arith, length-drop}
+use Rattle.std.proofs.Common.{rules, length, ◌≤◌, drop, arith, length-drop}
 use Rattle.std.proofs.lemmas.List.{take_rest}
 use Rattle.aqlx_top.proofs.Sinks.{appends_next}
 use Rattle.aqlx_top.proofs.put.put.Goals as goal

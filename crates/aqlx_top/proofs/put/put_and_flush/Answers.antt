@@ -1,4 +1,3 @@
-use Rattle.std.proofs.Common.{rules}
 use Rattle.aqlx_top.proofs.Sinks.{front_of_whole}
 use Rattle.aqlx_top.proofs.put.put_and_flush.Goals as goal
 

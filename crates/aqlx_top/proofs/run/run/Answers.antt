@@ -1,8 +1,6 @@
-use Rattle.std.proofs.Common.{◌≡◌, ℕ, List, ◌+◌, ◌-◌, ◌≤◌, ◌<◌, [], refl, sym, ap, ap₂, ◌∙◌, Ok, Err, arith, Bor}
-use Rattle.row_values.specs.Outputs.{OutputNames}
-use Rattle.corpus_json.specs.Reading.{Reading}
+use Rattle.std.proofs.Common.{◌≡◌, ℕ, ◌+◌, ◌-◌, ◌≤◌, ◌<◌, ap₂, ◌∙◌, Ok, Err, arith}
 use Rattle.corpus_json.specs.declared.limits.TheConstants.{CORPUS_LIMIT}
-use Rattle.aqlx_top.specs.Devices.{source_ends, sink_ends}
+use Rattle.aqlx_top.specs.Devices.{source_ends}
 use Rattle.aqlx_top.specs.Run.{line_for}
 use Rattle.aqlx_top.proofs.Turns as law
 use Rattle.aqlx_top.proofs.run.run.Goals as goal

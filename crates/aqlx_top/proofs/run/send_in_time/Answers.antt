@@ -1,4 +1,3 @@
-use Rattle.std.proofs.Common.{ℕ, List, take, sym}
 use Rattle.std.proofs.lemmas.Result.{err_from_is_err_and}
 use Rattle.aqlx_top.specs.Devices.{source_ends}
 use Rattle.aqlx_top.proofs.Turns as law

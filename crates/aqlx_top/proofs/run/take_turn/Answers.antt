@@ -1,4 +1,4 @@
-use Rattle.std.proofs.Common.{◌≡◌, ◌+◌, ℕ, List, [], ◌∷◌, not, refl, sym, ap, ◌∙◌, true, false, Bool}
+use Rattle.std.proofs.Common.{◌≡◌, ◌+◌, ℕ, List, [], ◌∷◌, not, refl, sym, ap, ◌∙◌}
 use Rattle.corpus_json.specs.Documents.{is_bad_line}
 use Rattle.std.proofs.lemmas.Result.{err_from_is_err_and}
 use Rattle.aqlx_top.specs.Progress.{written_for}

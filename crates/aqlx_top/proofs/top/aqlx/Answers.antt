@@ -1,4 +1,4 @@
-use Rattle.std.proofs.Common.{◌≡◌, map, string_bytes, ◌∙◌, sym, ap, refl}
+use Rattle.std.proofs.Common.{map, string_bytes}
 use Rattle.aqlx_top.specs.Devices.{files_ends, source_ends, sink_ends}
 use Rattle.aqlx_top.specs.Outcome.{call_of}
 use Rattle.aqlx_top.proofs.Answers as law

@@ -1,6 +1,4 @@
-use Rattle.std.proofs.Common.{◌≡◌, map, string_bytes, ◌∙◌, sym, ap, refl}
 use Rattle.aqlx_top.specs.Devices.{files_ends, source_ends, sink_ends}
-use Rattle.aqlx_top.specs.Outcome.{call_of}
 use Rattle.aqlx_top.proofs.FileRuns as law
 use Rattle.aqlx_top.proofs.top.run_file.Goals as goal
 

@@ -1,4 +1,4 @@
-use Rattle.std.proofs.Common.{◌≡◌, map, string_bytes, ◌∙◌, sym, ap, refl}
+use Rattle.std.proofs.Common.{refl}
 use Rattle.aqlx_top.specs.Devices.{source_ends, sink_ends}
 use Rattle.aqlx_top.specs.Run.{line_for}
 use Rattle.aqlx_top.proofs.FileRuns as law

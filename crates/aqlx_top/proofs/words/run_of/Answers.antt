@@ -1,4 +1,4 @@
-use Rattle.std.proofs.Common.{rules, ◌≡◌, ◌∙◌, ap, ap₂, map, string_bytes, List, [], ◌∷◌, codes, sym}
+use Rattle.std.proofs.Common.{◌∙◌, ap, ap₂, map, string_bytes, [], ◌∷◌, codes, sym}
 use Rattle.aqlx_top.proofs.Lists.{list_of_two}
 use Rattle.std.proofs.lemmas.Slice.Eq.{bytes_eq-Decides}
 use Rattle.aqlx_top.proofs.words.run_of.Goals as goal
