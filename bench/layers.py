@@ -9,6 +9,9 @@ import sys
 NAMES = [
     "tokens", "digits", "dates", "addresses", "words", "folded", "names",
     "rows-rising", "rows-falling", "rows-mixed",
+    "groups-10", "groups-1000", "groups-all", "rows-copied", "rows-sorted", "first-ten",
+    "follows-few", "follows-all", "follows-tok-few", "follows-tok-all",
+    "overlaps-few", "overlaps-all", "contains-few", "contains-all",
 ]
 SPOKEN = re.compile(r"^(\S+): (\d+) MB/s, best of \d+, (\d+) us, came to (\d+)$")
 

@@ -2,6 +2,7 @@
 ghost use Rattle.std.specs.Prelude.{◌≡◌, length, vec_len, IfOk};
 
 use crate::bench::Bench;
+use crate::rows::mix;
 use row_values::{Row, Rows, Value, sort_rows};
 use span_sets::{Policy, consolidate};
 use span_token::{OutOfMemory, Span};
@@ -15,7 +16,8 @@ pub(crate) enum Work {
     Consolidate(Policy),
 }
 
-/// From each span's begin to the end of one of the five from it on, so that the spans nest and overlap.
+/// From each span's begin to the end of one of the five from it on, so that the spans nest and overlap;
+/// in mixed order.
 pub(crate) fn nested(alloc: Global, spans: &[Span]) -> Result<Vec<Span>, OutOfMemory> {
     let mut nested = Vec::new(alloc);
     for (i, span) in spans.iter().enumerate() {
@@ -25,6 +27,7 @@ pub(crate) fn nested(alloc: Global, spans: &[Span]) -> Result<Vec<Span>, OutOfMe
             end: last.end.max(span.end),
         })?;
     }
+    mix(&mut nested);
     Ok(nested)
 }
 

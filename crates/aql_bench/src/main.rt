@@ -10,6 +10,8 @@
 mod bench;
 mod consolidations;
 mod dictionaries;
+mod grouping;
+mod joining;
 mod lexing;
 mod patterns;
 mod rows;
@@ -21,11 +23,13 @@ use bench::{Mode, run};
 use consolidations::{SpanRows, Work, nested};
 use dict_match::DictScratch;
 use dictionaries::{Dictionary, entries, pass_of};
+use grouping::{FirstRows, Groups, Keep, numbered};
+use joining::{Joins, Pairs, Sides, Test};
 use lexing::Lexing;
 use patterns::{Matches, Runs};
 use rows::{Order, RowPairs, pairs};
 use span_sets::Policy;
-use span_token::tokens_of_text;
+use span_token::{Document, tokens_of_text};
 use std::io::Eprint;
 use std::rt::{Clock, Files};
 use std::{env, fs};
@@ -46,12 +50,18 @@ enum Kind {
     Dictionary(usize),
     /// Rows of one span that nest and overlap, made and worked on.
     SpanRows(Work),
+    /// Rows in so many groups, with the number and the sum of each.
+    Groups(usize),
+    /// Rows copied, and sorted or the first of them kept.
+    FirstRows(Keep),
+    /// Rows of one span on two sides, joined.
+    Joins(Test, Pairs),
     /// The tokens of a program text.
     ProgramTokens,
 }
 
 /// The benches with their names.
-const BENCHES: [(&str, Kind); 24] = [
+const BENCHES: [(&str, Kind); 38] = [
     ("tokens", Kind::Tokens),
     ("digits", Kind::Pattern("[0-9]+")),
     ("dates", Kind::Pattern(r"\b\d{4}-\d{2}-\d{2}\b")),
@@ -101,6 +111,20 @@ const BENCHES: [(&str, Kind); 24] = [
         "left-to-right",
         Kind::SpanRows(Work::Consolidate(Policy::LeftToRight)),
     ),
+    ("groups-10", Kind::Groups(10)),
+    ("groups-1000", Kind::Groups(1000)),
+    ("groups-all", Kind::Groups(usize::MAX)),
+    ("rows-copied", Kind::FirstRows(Keep::Copy)),
+    ("rows-sorted", Kind::FirstRows(Keep::Sort)),
+    ("first-ten", Kind::FirstRows(Keep::First(10))),
+    ("follows-few", Kind::Joins(Test::Follows, Pairs::Few)),
+    ("follows-all", Kind::Joins(Test::Follows, Pairs::All)),
+    ("follows-tok-few", Kind::Joins(Test::FollowsTok, Pairs::Few)),
+    ("follows-tok-all", Kind::Joins(Test::FollowsTok, Pairs::All)),
+    ("overlaps-few", Kind::Joins(Test::Overlaps, Pairs::Few)),
+    ("overlaps-all", Kind::Joins(Test::Overlaps, Pairs::All)),
+    ("contains-few", Kind::Joins(Test::Contains, Pairs::Few)),
+    ("contains-all", Kind::Joins(Test::Contains, Pairs::All)),
     ("program-tokens", Kind::ProgramTokens),
 ];
 
@@ -126,6 +150,9 @@ fn run_kind<R: Eprint + Print + Clock + AllocGlobal>(
         Kind::Rows(order) => run_rows(rt, mode, name, order, text),
         Kind::Dictionary(number) => run_dictionary(rt, mode, name, number, text),
         Kind::SpanRows(work) => run_span_rows(rt, mode, name, work, text),
+        Kind::Groups(number) => run_groups(rt, mode, name, number, text),
+        Kind::FirstRows(keep) => run_first_rows(rt, mode, name, keep, text),
+        Kind::Joins(test, pairs) => run_joins(rt, mode, name, test, pairs, text),
         Kind::ProgramTokens => run(rt, mode, name, &mut Lexing { alloc, text }),
     }
 }
@@ -234,6 +261,65 @@ fn run_span_rows<R: Eprint + Print + Clock + AllocGlobal>(
     let tokens = tokens_of_text(alloc, text)?;
     let spans = nested(alloc, tokens.as_slice())?;
     run(rt, mode, name, &mut SpanRows { alloc, spans, work })
+}
+
+fn run_groups<R: Eprint + Print + Clock + AllocGlobal>(
+    rt: &R,
+    mode: Mode,
+    name: &str,
+    number: usize,
+    text: &str,
+) -> Result<()> {
+    let alloc = rt.alloc();
+    if text.len() > tokens::LIMIT {
+        bail!("{name}: the file is too long");
+    }
+    let spans = tokens_of_text(alloc, text)?;
+    let rows = numbered(alloc, spans.as_slice(), number, false)?;
+    run(rt, mode, name, &mut Groups { alloc, rows })
+}
+
+fn run_first_rows<R: Eprint + Print + Clock + AllocGlobal>(
+    rt: &R,
+    mode: Mode,
+    name: &str,
+    keep: Keep,
+    text: &str,
+) -> Result<()> {
+    let alloc = rt.alloc();
+    if text.len() > tokens::LIMIT {
+        bail!("{name}: the file is too long");
+    }
+    let spans = tokens_of_text(alloc, text)?;
+    let rows = numbered(alloc, spans.as_slice(), 1000, true)?;
+    run(rt, mode, name, &mut FirstRows { alloc, rows, keep })
+}
+
+fn run_joins<R: Eprint + Print + Clock + AllocGlobal>(
+    rt: &R,
+    mode: Mode,
+    name: &str,
+    test: Test,
+    pairs: Pairs,
+    text: &str,
+) -> Result<()> {
+    let alloc = rt.alloc();
+    if text.len() > tokens::LIMIT {
+        bail!("{name}: the file is too long");
+    }
+    let doc = Document::new(alloc, text, None)?;
+    let wide = match test {
+        Test::Follows | Test::FollowsTok => false,
+        Test::Overlaps | Test::Contains => true,
+    };
+    let sides = Sides::new(alloc, doc, pairs, wide)?;
+    let mut bench = Joins {
+        alloc,
+        sides,
+        pairs,
+        test,
+    };
+    run(rt, mode, name, &mut bench)
 }
 
 /// Each bench once over the short text.

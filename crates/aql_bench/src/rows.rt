@@ -33,12 +33,12 @@ pub(crate) fn pairs(
 }
 
 /// Swaps each place with one far from it.
-fn mix(pairs: &mut Vec<(Span, Span)>) {
-    let count = pairs.len();
+pub(crate) fn mix<T>(items: &mut Vec<T>) {
+    let count = items.len();
     let mut other = 0usize;
     for i in 0..count {
         other = (other.wrapping_add(0x9e37_79b9)) % count;
-        pairs.swap(i, other);
+        items.swap(i, other);
     }
 }
 

@@ -5,14 +5,14 @@ use std::collections::HashMap;
 use std::time::{Duration, Instant};
 
 /// A span of characters, half-open, from 0.
-#[derive(Clone, Copy, PartialEq, Eq, PartialOrd, Ord)]
+#[derive(Clone, Copy, PartialEq, Eq, PartialOrd, Ord, Hash)]
 struct Span {
     begin: u32,
     end: u32,
 }
 
 /// A value of a row.
-#[derive(Clone, Copy, PartialEq, Eq, PartialOrd, Ord)]
+#[derive(Clone, Copy, PartialEq, Eq, PartialOrd, Ord, Hash)]
 #[allow(dead_code)]
 enum Value<'d> {
     Null,
@@ -194,53 +194,54 @@ fn run(name: &str, bytes: usize, rounds: u32, mut round: impl FnMut() -> u64) {
     eprintln!("{name}: {speed} MB/s, best of {rounds}, {} us, came to {came}", nanos / 1000);
 }
 
-/// A search over each document puts what it finds into one list that is kept; the spans are counted.
-fn search(name: &str, text: &str, rounds: u32, mut put: impl FnMut(&Document<'_>, &mut Vec<Option<Span>>)) {
+fn matches(name: &str, text: &str, rounds: u32, pattern: &str) {
+    let regex = regex::Regex::new(pattern).expect("a pattern");
     let docs = documents(text);
     let mut found = Vec::new();
     run(name, text.len(), rounds, || {
         let mut count = 0;
         for doc in &docs {
             found.clear();
-            put(doc, &mut found);
+            for at in regex.find_iter(doc.text) {
+                found.push(Some(Span { begin: doc.place(at.start()), end: doc.place(at.end()) }));
+            }
             count += found.len() as u64;
         }
         count
     });
 }
 
-fn matches(name: &str, text: &str, rounds: u32, pattern: &str) {
-    let regex = regex::Regex::new(pattern).expect("a pattern");
-    search(name, text, rounds, |doc, found| {
-        for at in regex.find_iter(doc.text) {
-            found.push(Some(Span { begin: doc.place(at.start()), end: doc.place(at.end()) }));
-        }
-    });
-}
-
 fn token_runs(name: &str, text: &str, rounds: u32, pattern: &str) {
     let regex = regex::Regex::new(&format!("^(?:{pattern})$")).expect("a pattern");
-    search(name, text, rounds, |doc, found| {
-        for i in 0..doc.tokens.len() {
-            let begin = doc.byte(doc.tokens[i].begin);
-            for k in (1..=4.min(doc.tokens.len() - i)).rev() {
-                let end = doc.byte(doc.tokens[i + k - 1].end);
-                if regex.is_match(&doc.text[begin..end]) {
-                    found.push(Some(Span { begin: doc.tokens[i].begin, end: doc.tokens[i + k - 1].end }));
-                    break;
+    let docs = documents(text);
+    let mut found = Vec::new();
+    run(name, text.len(), rounds, || {
+        let mut count = 0;
+        for doc in &docs {
+            found.clear();
+            for i in 0..doc.tokens.len() {
+                let begin = doc.byte(doc.tokens[i].begin);
+                for k in (1..=4.min(doc.tokens.len() - i)).rev() {
+                    let end = doc.byte(doc.tokens[i + k - 1].end);
+                    if regex.is_match(&doc.text[begin..end]) {
+                        found.push(Some(Span { begin: doc.tokens[i].begin, end: doc.tokens[i + k - 1].end }));
+                        break;
+                    }
                 }
             }
+            count += found.len() as u64;
         }
+        count
     });
 }
 
 /// Swaps each place with one far from it.
-fn mix(pairs: &mut [(Span, Span)]) {
-    let count = pairs.len();
+fn mix<T>(items: &mut [T]) {
+    let count = items.len();
     let mut other = 0usize;
     for i in 0..count {
         other = other.wrapping_add(0x9e37_79b9) % count;
-        pairs.swap(i, other);
+        items.swap(i, other);
     }
 }
 
@@ -333,13 +334,15 @@ fn dictionary(name: &str, text: &str, rounds: u32, number: usize) {
     });
 }
 
-/// From each span's begin to the end of one of the five from it on.
+/// From each span's begin to the end of one of the five from it on; in mixed order.
 fn nested(spans: &[Span]) -> Vec<Span> {
     let of = |(i, span): (usize, &Span)| {
         let last = spans.get(i + i % 5).unwrap_or(span);
         Span { begin: span.begin, end: last.end.max(span.end) }
     };
-    spans.iter().enumerate().map(of).collect()
+    let mut nested: Vec<Span> = spans.iter().enumerate().map(of).collect();
+    mix(&mut nested);
+    nested
 }
 
 /// Rows of one span, made, and sorted where that is asked. The policies are measured against the sort.
@@ -352,6 +355,207 @@ fn span_rows(name: &str, text: &str, rounds: u32, sorted: bool) {
         }
         values.len() as u64
     });
+}
+
+/// A row: up to four values, kept inline.
+#[derive(Clone, Copy, PartialEq, Eq, PartialOrd, Ord, Hash)]
+struct Row<'d> {
+    values: [Value<'d>; 4],
+    count: u32,
+}
+
+fn row_of<'d>(values: &[Value<'d>]) -> Row<'d> {
+    let mut row = Row { values: [Value::Null; 4], count: values.len() as u32 };
+    row.values[..values.len()].copy_from_slice(values);
+    row
+}
+
+fn spans_of(text: &str) -> Vec<Span> {
+    if text.is_ascii() { ascii_tokens(text.as_bytes()) } else { decoded_tokens(text) }
+}
+
+/// A row of two numbers for each token: the number of its group, and its begin.
+fn numbered_rows(text: &str, groups: usize) -> Vec<Row<'static>> {
+    let spans = spans_of(text);
+    let groups = groups.min(spans.len()).max(1);
+    let key = |i: usize| Value::Int((i.wrapping_mul(0x9e37_79b9) % groups) as i64);
+    spans.iter().enumerate().map(|(i, span)| row_of(&[key(i), Value::Int(i64::from(span.begin))])).collect()
+}
+
+/// How many rows of a group there are, and what their second column comes to.
+#[derive(Clone, Copy, Default)]
+struct Total {
+    count: u64,
+    sum: i128,
+}
+
+/// One row for each number in the first column, with how often it comes and the sum of the second, by std's map.
+fn groups(name: &str, text: &str, rounds: u32, number: usize) {
+    let rows = numbered_rows(text, number);
+    run(name, text.len(), rounds, || {
+        let mut places: HashMap<Value, usize> = HashMap::new();
+        let mut totals: Vec<(Value, Total)> = Vec::new();
+        for row in &rows {
+            let place = *places.entry(row.values[0]).or_insert(totals.len());
+            if place == totals.len() {
+                totals.push((row.values[0], Total::default()));
+            }
+            if let Value::Int(n) = row.values[1] {
+                totals[place].1.count += 1;
+                totals[place].1.sum += i128::from(n);
+            }
+        }
+        let out: Vec<Row> = totals
+            .iter()
+            .map(|(key, total)| row_of(&[*key, Value::Int(total.count as i64), Value::Int(total.sum.clamp(i128::from(i64::MIN), i128::from(i64::MAX)) as i64)]))
+            .collect();
+        out.len() as u64
+    });
+}
+
+/// What is done with a copy of the rows: nothing, a sort, or the first ten by the second column and then whole.
+enum Keep {
+    Copy,
+    Sort,
+    FirstTen,
+}
+
+fn first_rows(name: &str, text: &str, rounds: u32, keep: Keep) {
+    let mut rows = numbered_rows(text, 1000);
+    mix(&mut rows);
+    run(name, text.len(), rounds, || {
+        let mut out = std::hint::black_box(rows.clone());
+        match keep {
+            Keep::Copy => {}
+            Keep::Sort => out.sort_unstable(),
+            Keep::FirstTen => {
+                let key = |row: &Row<'static>| (row.values[1], *row);
+                if out.len() > 10 {
+                    out.select_nth_unstable_by_key(10, key);
+                    out.truncate(10);
+                }
+                out.sort_unstable_by_key(key);
+            }
+        }
+        out.len() as u64
+    });
+}
+
+/// Rows of one span.
+fn single_rows(spans: &[Span]) -> Vec<Row<'static>> {
+    spans.iter().map(|span| row_of(&[Value::Span(*span)])).collect()
+}
+
+/// Each second token; each tenth of them reaches to the end of the token after it, where that is asked.
+fn every_second(spans: &[Span], from: usize, wide: bool) -> Vec<Span> {
+    let mut side = Vec::new();
+    for i in (from..spans.len()).step_by(2) {
+        let mut span = spans[i];
+        if wide && i % 20 == 0 && i + 1 < spans.len() {
+            span.end = spans[i + 1].end;
+        }
+        side.push(span);
+    }
+    side
+}
+
+/// The two sides of a join, in order: with few pairs each second token on either side; with all pairs, for the
+/// predicates of order 1,000 tokens and the 1,000 after them, and for the others 1,000 times the span of the text.
+fn sides(text: &str, all: bool, around: bool) -> (Vec<Row<'static>>, Vec<Row<'static>>) {
+    let spans = spans_of(text);
+    if !all {
+        return (single_rows(&every_second(&spans, 0, around)), single_rows(&every_second(&spans, 1, false)));
+    }
+    let first: Vec<Span> = spans.iter().copied().take(1000).collect();
+    if around {
+        let whole = Span { begin: 0, end: text.chars().count() as u32 };
+        return (single_rows(&[whole; 1000]), single_rows(&first));
+    }
+    let next: Vec<Span> = spans.iter().copied().skip(1000).take(1000).collect();
+    (single_rows(&first), single_rows(&next))
+}
+
+fn joined<'d>(left: &Row<'d>, right: &Row<'d>) -> Row<'d> {
+    let mut row = *left;
+    for value in &right.values[..right.count as usize] {
+        row.values[row.count as usize] = *value;
+        row.count += 1;
+    }
+    row
+}
+
+fn span_in(row: &Row<'_>) -> Option<Span> {
+    match row.values[0] {
+        Value::Span(span) => Some(span),
+        _ => None,
+    }
+}
+
+/// A merge: for each left row the right rows from the first that isn't too near, up to the first that is too far.
+fn merged(name: &str, text: &str, rounds: u32, all: bool, high: u64, gap: impl Fn(Span, Span) -> Option<u64>) {
+    let (left, right) = sides(text, all, false);
+    run(name, text.len(), rounds, || {
+        let mut out = Vec::new();
+        let mut from = 0;
+        for l in &left {
+            let Some(a) = span_in(l) else { continue };
+            while from < right.len() && span_in(&right[from]).is_none_or(|b| gap(a, b).is_none()) {
+                from += 1;
+            }
+            for r in &right[from..] {
+                let Some(b) = span_in(r) else { continue };
+                if gap(a, b).is_none_or(|gap| gap > high) {
+                    break;
+                }
+                out.push(joined(l, r));
+            }
+        }
+        out.len() as u64
+    });
+}
+
+/// A sweep over both sides by begin: for each left row the right rows that may meet it.
+fn swept(name: &str, text: &str, rounds: u32, all: bool, fits: impl Fn(Span, Span) -> bool) {
+    let (left, right) = sides(text, all, true);
+    run(name, text.len(), rounds, || {
+        let mut out = Vec::new();
+        let mut from = 0;
+        for l in &left {
+            let Some(a) = span_in(l) else { continue };
+            while from < right.len() && span_in(&right[from]).is_none_or(|b| b.end < a.begin) {
+                from += 1;
+            }
+            for r in &right[from..] {
+                let Some(b) = span_in(r) else { continue };
+                if b.begin > a.end {
+                    break;
+                }
+                if fits(a, b) {
+                    out.push(joined(l, r));
+                }
+            }
+        }
+        out.len() as u64
+    });
+}
+
+/// A join of one kind.
+fn join(name: &str, text: &str, rounds: u32, kind: &str, all: bool) {
+    let high = if all { u64::MAX } else { 1 };
+    match kind {
+        "follows" => merged(name, text, rounds, all, high, |a, b| b.begin.checked_sub(a.end).map(u64::from)),
+        "follows-tok" => {
+            let tokens = spans_of(text);
+            let high = if all { u64::MAX } else { 0 };
+            merged(name, text, rounds, all, high, |a, b| {
+                let first = tokens.partition_point(|token| token.begin < a.end);
+                let last = tokens.partition_point(|token| token.end <= b.begin);
+                (a.end <= b.begin).then(|| last.saturating_sub(first) as u64)
+            });
+        }
+        "overlaps" => swept(name, text, rounds, all, |a, b| (a.begin < b.end && b.begin < a.end) || a == b),
+        _ => swept(name, text, rounds, all, |a, b| a.begin <= b.begin && b.end <= a.end),
+    }
 }
 
 fn main() {
@@ -384,6 +588,20 @@ fn main() {
         "dictionary-10000" => dictionary(name, &text, rounds, 10_000),
         "spans-made" => span_rows(name, &text, rounds, false),
         "spans-sorted" => span_rows(name, &text, rounds, true),
+        "groups-10" => groups(name, &text, rounds, 10),
+        "groups-1000" => groups(name, &text, rounds, 1000),
+        "groups-all" => groups(name, &text, rounds, usize::MAX),
+        "rows-copied" => first_rows(name, &text, rounds, Keep::Copy),
+        "rows-sorted" => first_rows(name, &text, rounds, Keep::Sort),
+        "first-ten" => first_rows(name, &text, rounds, Keep::FirstTen),
+        "follows-few" => join(name, &text, rounds, "follows", false),
+        "follows-all" => join(name, &text, rounds, "follows", true),
+        "follows-tok-few" => join(name, &text, rounds, "follows-tok", false),
+        "follows-tok-all" => join(name, &text, rounds, "follows-tok", true),
+        "overlaps-few" => join(name, &text, rounds, "overlaps", false),
+        "overlaps-all" => join(name, &text, rounds, "overlaps", true),
+        "contains-few" => join(name, &text, rounds, "contains", false),
+        "contains-all" => join(name, &text, rounds, "contains", true),
         _ => {
             eprintln!("no bench has the name {name}");
             std::process::exit(2);
