@@ -29,7 +29,8 @@ use lexing::Lexing;
 use patterns::{Matches, Runs};
 use rows::{Order, RowPairs, pairs};
 use span_sets::Policy;
-use span_token::{Document, tokens_of_text};
+use span_token::{Document, Span, tokens_of_text};
+use std::alloc::Global;
 use std::io::Eprint;
 use std::rt::{Clock, Files};
 use std::{env, fs};
@@ -207,6 +208,15 @@ fn run_runs<R: Eprint + Print + Clock + AllocGlobal>(
     )
 }
 
+/// The tokens of a text that isn't too long for a document.
+fn spans_of(alloc: Global, name: &str, text: &str) -> Result<Vec<Span>> {
+    if text.len() > tokens::LIMIT {
+        bail!("{name}: the file is too long");
+    }
+    let spans = tokens_of_text(alloc, text)?;
+    Ok(spans)
+}
+
 fn run_rows<R: Eprint + Print + Clock + AllocGlobal>(
     rt: &R,
     mode: Mode,
@@ -215,10 +225,7 @@ fn run_rows<R: Eprint + Print + Clock + AllocGlobal>(
     text: &str,
 ) -> Result<()> {
     let alloc = rt.alloc();
-    if text.len() > tokens::LIMIT {
-        bail!("{name}: the file is too long");
-    }
-    let spans = tokens_of_text(alloc, text)?;
+    let spans = spans_of(alloc, name, text)?;
     let pairs = pairs(alloc, spans.as_slice(), order)?;
     run(rt, mode, name, &mut RowPairs { alloc, pairs })
 }
@@ -255,10 +262,7 @@ fn run_span_rows<R: Eprint + Print + Clock + AllocGlobal>(
     text: &str,
 ) -> Result<()> {
     let alloc = rt.alloc();
-    if text.len() > tokens::LIMIT {
-        bail!("{name}: the file is too long");
-    }
-    let tokens = tokens_of_text(alloc, text)?;
+    let tokens = spans_of(alloc, name, text)?;
     let spans = nested(alloc, tokens.as_slice())?;
     run(rt, mode, name, &mut SpanRows { alloc, spans, work })
 }
@@ -271,10 +275,7 @@ fn run_groups<R: Eprint + Print + Clock + AllocGlobal>(
     text: &str,
 ) -> Result<()> {
     let alloc = rt.alloc();
-    if text.len() > tokens::LIMIT {
-        bail!("{name}: the file is too long");
-    }
-    let spans = tokens_of_text(alloc, text)?;
+    let spans = spans_of(alloc, name, text)?;
     let rows = numbered(alloc, spans.as_slice(), number, false)?;
     run(rt, mode, name, &mut Groups { alloc, rows })
 }
@@ -287,10 +288,7 @@ fn run_first_rows<R: Eprint + Print + Clock + AllocGlobal>(
     text: &str,
 ) -> Result<()> {
     let alloc = rt.alloc();
-    if text.len() > tokens::LIMIT {
-        bail!("{name}: the file is too long");
-    }
-    let spans = tokens_of_text(alloc, text)?;
+    let spans = spans_of(alloc, name, text)?;
     let rows = numbered(alloc, spans.as_slice(), 1000, true)?;
     run(rt, mode, name, &mut FirstRows { alloc, rows, keep })
 }

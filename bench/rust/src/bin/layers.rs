@@ -108,6 +108,10 @@ fn decoded_tokens(text: &str) -> Vec<Span> {
     spans
 }
 
+fn spans_of(text: &str) -> Vec<Span> {
+    if text.is_ascii() { ascii_tokens(text.as_bytes()) } else { decoded_tokens(text) }
+}
+
 /// The number of characters before each block of 64 bytes.
 fn blocks(text: &str) -> Vec<u32> {
     let mut counts = Vec::with_capacity(text.len() / 64 + 1);
@@ -247,7 +251,7 @@ fn mix<T>(items: &mut [T]) {
 
 /// Rows of two spans in one flat list, made and walked; sorted by their numbers where they aren't in order.
 fn rows(name: &str, text: &str, rounds: u32, order: &str) {
-    let spans = if text.is_ascii() { ascii_tokens(text.as_bytes()) } else { decoded_tokens(text) };
+    let spans = spans_of(text);
     let mut pairs: Vec<(Span, Span)> = spans.iter().copied().zip(spans.iter().copied().skip(1)).collect();
     match order {
         "falling" => pairs.reverse(),
@@ -347,7 +351,7 @@ fn nested(spans: &[Span]) -> Vec<Span> {
 
 /// Rows of one span, made, and sorted where that is asked. The policies are measured against the sort.
 fn span_rows(name: &str, text: &str, rounds: u32, sorted: bool) {
-    let spans = nested(&if text.is_ascii() { ascii_tokens(text.as_bytes()) } else { decoded_tokens(text) });
+    let spans = nested(&spans_of(text));
     run(name, text.len(), rounds, || {
         let mut values: Vec<Value> = spans.iter().map(|span| Value::Span(*span)).collect();
         if sorted && !values.is_sorted() {
@@ -368,10 +372,6 @@ fn row_of<'d>(values: &[Value<'d>]) -> Row<'d> {
     let mut row = Row { values: [Value::Null; 4], count: values.len() as u32 };
     row.values[..values.len()].copy_from_slice(values);
     row
-}
-
-fn spans_of(text: &str) -> Vec<Span> {
-    if text.is_ascii() { ascii_tokens(text.as_bytes()) } else { decoded_tokens(text) }
 }
 
 /// A row of two numbers for each token: the number of its group, and its begin.
