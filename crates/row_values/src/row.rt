@@ -77,7 +77,8 @@ impl<'d> Row<'d> {
     pub fn followed_by(&self, alloc: Global, values: &[Value<'d>]) -> Result<Row<'d>, OutOfMemory>
         ensures { IfOk result (λ row. row ≡ self.now ++ map datum_of values.now) }
     {
-        let mut row = self.copy(alloc)?;
+        let mut row = Row::empty(alloc);
+        row.extend(self.values())?;
         row.extend(values)?;
         Ok(row)
     }

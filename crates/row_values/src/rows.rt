@@ -1,4 +1,4 @@
-ghost use Rattle.std.specs.Prelude.{◌≡◌, ◌<◌, ◌≤◌, ◌^◌, ◌++◌, ◌∷◌, [], length, map, slice_index_or, IfOk, OnOk, OnErr};
+ghost use Rattle.std.specs.Prelude.{◌≡◌, ◌<◌, ◌≤◌, ◌^◌, ◌+◌, ◌++◌, ◌∷◌, [], length, map, slice_index_or, IfOk, OnOk, OnErr};
 ghost use Rattle.std.specs.Vec.{vec_len};
 ghost use Rattle.std.specs.List.{All};
 ghost use Rattle.row_values.specs.Rows.{RowList, sorted};
@@ -87,11 +87,29 @@ impl<'d> Rows<'d> {
         ensures ok { OnOk result (self.new ≡ record { width = self.old.width; rows = self.old.rows ++ row.entry ∷ [] }) }
         ensures err { OnErr result (self.new ≡ self.old) }
     {
-        if self.rows.len() >= 4294967295 {
+        if self.rows.len() >= u32::MAX as usize {
             return Err(OutOfMemory);
         }
         self.rows.push(row)?;
         Ok(())
+    }
+
+    /// Puts the row of the values of `left`, followed by those of `right`, after the others. After want of
+    /// memory the list is as it was.
+    pub fn push_joined(
+        &mut self,
+        alloc: Global,
+        left: &Row<'d>,
+        right: &Row<'d>,
+    ) -> Result<(), OutOfMemory>
+        requires width { length left.now + length right.now ≡ self.old.width }
+        ensures ok { OnOk result (self.new ≡ record { width = self.old.width; rows = self.old.rows ++ (left.now ++ right.now) ∷ [] }) }
+        ensures err { OnErr result (self.new ≡ self.old) }
+    {
+        if self.rows.len() >= u32::MAX as usize {
+            return Err(OutOfMemory);
+        }
+        push_pair(alloc, left, right, &mut self.rows)
     }
 
     /// Takes all rows away, and keeps the memory for the next ones.
@@ -156,4 +174,31 @@ fn copy_rows<'d>(alloc: Global, rows: &[Row<'d>]) -> Result<Vec<Row<'d>>, OutOfM
         copies.push(row.copy(alloc)?)?;
     }
     Ok(copies)
+}
+
+/// Puts the row of the values of `left`, followed by those of `right`, after the others. It is made where it stays.
+fn push_pair<'d>(
+    alloc: Global,
+    left: &Row<'d>,
+    right: &Row<'d>,
+    rows: &mut Vec<Row<'d>>,
+) -> Result<(), OutOfMemory>
+    ensures ok { OnOk result (rows.new.items ≡ rows.old.items ++ (left.now ++ right.now) ∷ []) }
+    ensures err { OnErr result (rows.new.items ≡ rows.old.items) }
+{
+    let at = rows.len();
+    rows.push(Row::empty(alloc))?;
+    if extend_by_both(&mut rows[at], left, right).is_err() {
+        rows.pop();
+        return Err(OutOfMemory);
+    }
+    Ok(())
+}
+
+/// Puts the values of `left` and `right` after those of `row`.
+fn extend_by_both<'d>(row: &mut Row<'d>, left: &Row<'d>, right: &Row<'d>) -> Result<(), OutOfMemory>
+    ensures { OnOk result (row.new ≡ row.old ++ (left.now ++ right.now)) }
+{
+    row.extend(left.values())?;
+    row.extend(right.values())
 }

@@ -1,4 +1,4 @@
-ghost use Rattle.std.specs.Prelude.{◌≡◌, ◌≤◌, length};
+ghost use Rattle.std.specs.Prelude.{◌≡◌, ◌+◌, ◌<◌, ◌≤◌, ◌^◌, length, IfOk};
 
 use super::*;
 use span_token::{OwnedList, OwnedText, Span};
@@ -49,7 +49,9 @@ fn values_are_in_order_by_kind_and_then_by_what_they_show(rt: HostRuntime) {
 }
 
 /// The row of the given values.
-fn row<'d>(alloc: Global, values: &[Value<'d>]) -> Result<Row<'d>, Fail> {
+fn row<'d>(alloc: Global, values: &[Value<'d>]) -> Result<Row<'d>, Fail>
+    ensures { IfOk result (λ row. length row ≡ length values.now) }
+{
     Ok(Row::copied(alloc, values)?)
 }
 
@@ -100,6 +102,18 @@ fn filled<'d>(alloc: Global, front: &[Value<'d>], back: &[Value<'d>]) -> Result<
     Ok(row)
 }
 
+/// The same, made in a list of rows, twice.
+fn pushed<'d>(alloc: Global, front: &[Value<'d>], back: &[Value<'d>]) -> Result<Rows<'d>, Fail>
+    requires few { length front.now + length back.now < 2 ^ 32 }
+{
+    let left = row(alloc, front)?;
+    let right = row(alloc, back)?;
+    let mut rows = Rows::new(alloc, left.len() + right.len());
+    rows.push_joined(alloc, &left, &right)?;
+    rows.push_joined(alloc, &left, &right)?;
+    Ok(rows)
+}
+
 #[test]
 fn a_row_is_made_from_a_vec_from_values_and_from_rows(rt: HostRuntime) -> Result<(), Fail> {
     let alloc = rt.alloc();
@@ -115,6 +129,9 @@ fn a_row_is_made_from_a_vec_from_values_and_from_rows(rt: HostRuntime) -> Result
         assert_eq!(rt; followed(alloc, front, back)?.values(), five.as_slice());
         assert_eq!(rt; joined(alloc, front, back)?.values(), five.as_slice());
         assert_eq!(rt; filled(alloc, front, back)?.values(), five.as_slice());
+        for row in pushed(alloc, front, back)?.as_slice() {
+            assert_eq!(rt; row.values(), five.as_slice());
+        }
     }
     Ok(())
 }
