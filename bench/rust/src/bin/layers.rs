@@ -1,6 +1,7 @@
 //! The work of the benches of `aql_bench`, written by hand over the crate `regex` and std. For comparison only.
 //!
 //! usage: layers NAME FILE ROUNDS
+use smallvec::{SmallVec, smallvec};
 use std::collections::HashMap;
 use std::time::{Duration, Instant};
 
@@ -442,8 +443,8 @@ fn first_rows(name: &str, text: &str, rounds: u32, keep: Keep) {
 }
 
 /// Rows of one span.
-fn single_rows(spans: &[Span]) -> Vec<Row<'static>> {
-    spans.iter().map(|span| row_of(&[Value::Span(*span)])).collect()
+fn single_rows(spans: &[Span]) -> Vec<OpenRow<'static>> {
+    spans.iter().map(|span| smallvec![Value::Span(*span)]).collect()
 }
 
 /// Each second token; each tenth of them reaches to the end of the token after it, where that is asked.
@@ -461,7 +462,7 @@ fn every_second(spans: &[Span], from: usize, wide: bool) -> Vec<Span> {
 
 /// The two sides of a join, in order: with few pairs each second token on either side; with all pairs, for the
 /// predicates of order 1,000 tokens and the 1,000 after them, and for the others 1,000 times the span of the text.
-fn sides(text: &str, all: bool, around: bool) -> (Vec<Row<'static>>, Vec<Row<'static>>) {
+fn sides(text: &str, all: bool, around: bool) -> (Vec<OpenRow<'static>>, Vec<OpenRow<'static>>) {
     let spans = spans_of(text);
     if !all {
         return (single_rows(&every_second(&spans, 0, around)), single_rows(&every_second(&spans, 1, false)));
@@ -475,17 +476,18 @@ fn sides(text: &str, all: bool, around: bool) -> (Vec<Row<'static>>, Vec<Row<'st
     (single_rows(&first), single_rows(&next))
 }
 
-fn joined<'d>(left: &Row<'d>, right: &Row<'d>) -> Row<'d> {
-    let mut row = *left;
-    for value in &right.values[..right.count as usize] {
-        row.values[row.count as usize] = *value;
-        row.count += 1;
-    }
+/// A row of any number of values, of which up to four are kept inline: the form of the rows of `aqlx`.
+type OpenRow<'d> = SmallVec<[Value<'d>; 4]>;
+
+fn joined<'d>(left: &OpenRow<'d>, right: &OpenRow<'d>) -> OpenRow<'d> {
+    let mut row = OpenRow::new();
+    row.extend_from_slice(left);
+    row.extend_from_slice(right);
     row
 }
 
-fn span_in(row: &Row<'_>) -> Option<Span> {
-    match row.values[0] {
+fn span_in(row: &OpenRow<'_>) -> Option<Span> {
+    match row[0] {
         Value::Span(span) => Some(span),
         _ => None,
     }
