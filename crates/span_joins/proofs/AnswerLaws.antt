@@ -213,6 +213,20 @@ beyond_stays OverlapsFromRight a b b' h e =
     (lt-leb b'.begin a.begin (omega (arith, leb-false b.begin a.begin parts.0)))
     (le-leb a.end b'.begin (omega (arith, leb-true a.end b.begin parts.1)))
 
+-- other spans that are too near by their begins
+pub begins_before : (a b : Extent) → b.begin < a.begin → answer_of OverlapsFromLeft a b ≡ Before
+begins_before a b h = is_before (nat_lt b.begin a.begin) _ _ (lt-ltb b.begin a.begin h)
+
+pub begins_no_later : (a b : Extent) → b.begin ≤ a.begin → answer_of OverlapsFromRight a b ≡ Before
+begins_no_later a b h = is_before (nat_le b.begin a.begin) _ _ (le-leb b.begin a.begin h)
+
+-- and they alone are
+pub before_begins : (a b : Extent) → answer_of OverlapsFromLeft a b ≡ Before → b.begin < a.begin
+before_begins a b e = ltb-true b.begin a.begin (begin_before _ _ _ e)
+
+pub before_begins_no_later : (a b : Extent) → answer_of OverlapsFromRight a b ≡ Before → b.begin ≤ a.begin
+before_begins_no_later a b e = leb-true b.begin a.begin (begin_before _ _ _ e)
+
 pub never_neither : (rule : Rule) (a b : Extent) → is_exact rule ≡ true → answer_of rule a b ≡ Neither → ⊥
 never_neither (Gap low high) a b x e = count_exact (λ from to. to - from) fewer_characters low high a b e
 never_neither (Tokens doc low high) a b x e = count_exact (tokens_between (tokens_of (characters doc.now))) (fewer_tokens (tokens_of (characters doc.now))) low high a b e

@@ -1,6 +1,5 @@
 -- The pairs of rows as a sweep gives them, and the join as it is defined.
-use Rattle.std.proofs.Common.{◌≡◌, ℕ, ◌+◌, ◌≤◌, Bool, true, false, cond, ◌↔◌, Option, Some, None, List, [], ◌∷◌, ◌++◌, map, length, refl, sym, ap, ap₂, subst, ◌∙◌, arith, All, length-append}
-use Rattle.std.specs.Option.{option_map}
+use Rattle.std.proofs.Common.{◌≡◌, ℕ, ◌+◌, Bool, true, false, cond, ◌↔◌, Some, List, [], ◌∷◌, ◌++◌, map, length, refl, sym, ap, ap₂, subst, ◌∙◌, arith, All, length-append}
 use Rattle.std.specs.List.{cons_option, filter, filter_map, flat_map}
 use Rattle.std.proofs.lemmas.List.{map-append}
 use Rattle.std.proofs.lemmas.List.Elements.{All-cons, All-tail, All-append, filter-append, filter_map-append}
@@ -9,15 +8,7 @@ use Rattle.row_values.specs.Datums.{Datum}
 use Rattle.row_values.specs.Rows.{RowList}
 use Rattle.aql_base.specs.Bags.{SameBag}
 use Rattle.span_joins.specs.Joins.{span_in, holds, product, joined_where, spans_in, IsJoin}
-use Rattle.span_joins.specs.Sweeps.{entries, row_if}
-
--- the pair of two entries, where the test holds
-abbrev pub pair_of : (Extent → Extent → Bool) → (Extent × List Datum) → (Extent × List Datum) → List (List Datum)
-pair_of test k m = row_if (test k.0 m.0) (k.1 ++ m.1)
-
--- the pairs of two lists of entries
-abbrev pub pairs_of : (Extent → Extent → Bool) → List (Extent × List Datum) → List (Extent × List Datum) → List (List Datum)
-pairs_of test ks ms = flat_map (λ k. flat_map (pair_of test k) ms) ks
+use Rattle.span_joins.specs.Sweeps.{row_if}
 
 nothing : {X Y : Type 0} (f : X → List Y) → ((x : X) → f x ≡ []) → (xs : List X) → flat_map f xs ≡ []
 nothing f h [] = refl
@@ -46,46 +37,6 @@ module _ (test : Extent → Extent → Bool) (lc rc : ℕ) where
       ap (λ ps. map (λ (p : List Datum × List Datum). p.0 ++ p.1) ps) (filter-append (λ p. holds test (span_in lc p.0) (span_in rc p.1)) (map (λ r. (l, r)) right) (flat_map (λ s. map (λ r. (s, r)) right) left))
       ∙ map-append (λ (p : List Datum × List Datum). p.0 ++ p.1) (filter (λ p. holds test (span_in lc p.0) (span_in rc p.1)) (map (λ r. (l, r)) right)) _
       ∙ ap₂ (λ (ys zs : List (List Datum)). ys ++ zs) (with_each l right) (joined_where-rows left right)
-
--- rows without a span may be passed over where they give nothing
-by_entries : {Z : Type 0} (column : ℕ) (f : Option Extent → List Datum → List Z) → ((row : List Datum) → f None row ≡ []) → (rows : List (List Datum))
-    → flat_map (λ row. f (span_in column row) row) rows ≡ flat_map (λ (e : Extent × List Datum). f (Some e.0) e.1) (entries column rows)
-unfolding entries
-by_entries column f h [] = refl
-by_entries {Z} column f h (row ∷ rows) = by (span_in column row) (filter_map (λ r. option_map (λ e. (e, r)) (span_in column r)) rows) (by_entries column f h rows)
-  where
-    by : (o : Option Extent) (rest : List (Extent × List Datum)) → flat_map (λ r. f (span_in column r) r) rows ≡ flat_map (λ (e : Extent × List Datum). f (Some e.0) e.1) rest
-        → f o row ++ flat_map (λ r. f (span_in column r) r) rows ≡ flat_map (λ (e : Extent × List Datum). f (Some e.0) e.1) (cons_option (option_map (λ e. (e, row)) o) rest)
-    by None rest g = ap (λ (zs : List Z). zs ++ flat_map (λ r. f (span_in column r) r) rows) (h row) ∙ g
-    by (Some e) rest g = ap (λ (zs : List Z). f (Some e) row ++ zs) g
-
--- the join by the rows that have a span
-pub joined_where-entries : (test : Extent → Extent → Bool) (lc rc : ℕ) (left right : List (List Datum)) → joined_where test left lc right rc ≡ pairs_of test (entries lc left) (entries rc right)
-joined_where-entries test lc rc left right =
-    joined_where-rows test lc rc left right
-    ∙ by_entries lc (λ o l. flat_map (λ r. row_if (holds test o (span_in rc r)) (l ++ r)) right) (λ l. nothing _ (λ r. refl) right) left
-    ∙ (λ i. flat_map (λ k. by_entries rc (λ o r. row_if (holds test (Some k.0) o) (k.1 ++ r)) (λ r. refl) right i) (entries lc left))
-
--- the spans in a column are those of the entries
-pub entries-spans : (column : ℕ) (rows : List (List Datum)) → map (λ (e : Extent × List Datum). e.0) (entries column rows) ≡ spans_in column rows
-unfolding entries spans_in
-entries-spans column [] = refl
-entries-spans column (row ∷ rows) = by (span_in column row) (filter_map (λ r. option_map (λ e. (e, r)) (span_in column r)) rows) (filter_map (span_in column) rows) (entries-spans column rows)
-  where
-    by : (o : Option Extent) (rest : List (Extent × List Datum)) (spans : List Extent) → map (λ (e : Extent × List Datum). e.0) rest ≡ spans
-        → map (λ (e : Extent × List Datum). e.0) (cons_option (option_map (λ e. (e, row)) o) rest) ≡ cons_option o spans
-    by None rest spans h = h
-    by (Some e) rest spans h = ap (λ es. e ∷ es) h
-
--- and there are no more entries than rows
-pub entries-length : (column : ℕ) (rows : List (List Datum)) → length (entries column rows) ≤ length rows
-unfolding entries
-entries-length column [] = omega arith
-entries-length column (row ∷ rows) = by (span_in column row) (filter_map (λ r. option_map (λ e. (e, r)) (span_in column r)) rows) (entries-length column rows)
-  where
-    by : (o : Option Extent) (rest : List (Extent × List Datum)) → length rest ≤ length rows → length (cons_option (option_map (λ e. (e, row)) o) rest) ≤ length (row ∷ rows)
-    by None rest h = omega arith
-    by (Some e) rest h = omega arith
 
 -- each joined row has the columns of both
 all_of : {X : Type 0} (f : X → List (List Datum)) (Q : List Datum → Type 0) (P : X → Type 0) → ((x : X) → P x → All Q (f x)) → (xs : List X) → All P xs → All Q (flat_map f xs)

@@ -1,18 +1,20 @@
--- The pairs of one key and of all keys, one key on.
-use Rattle.std.proofs.Common.{◌≡◌, ℕ, zero, suc, ◌+◌, ◌<◌, ◌≤◌, false, List, [], ◌∷◌, ◌++◌, length, take, get_or, refl, sym, ap, ap₂, subst, ◌∙◌, arith, append-nil, length-append}
+-- The pairs of one row and of all rows, one row on.
+use Rattle.std.proofs.Common.{◌≡◌, ℕ, zero, suc, ◌+◌, ◌<◌, ◌≤◌, true, false, Option, Some, None, List, [], ◌∷◌, ◌++◌, length, take, get_or, refl, sym, ap, ap₂, subst, ◌∙◌, arith, append-nil, length-append}
 use Rattle.std.specs.List.{flat_map}
-use Rattle.std.specs.List.Sorted.{IsNonDecreasingBy}
 use Rattle.std.proofs.lemmas.Grind.{flat_map-append}
-use Rattle.std.proofs.lemmas.List.{take_more, get_or_default}
+use Rattle.std.proofs.lemmas.List.{take_more, get_or_default, take_all}
 use Rattle.std.proofs.lemmas.List.Folds.{length-flat_map-take}
+use Rattle.span_token.specs.Extents.{Extent}
 use Rattle.row_values.specs.Datums.{Datum}
-use Rattle.span_joins.specs.declared.key.Key.{Key}
+use Rattle.span_joins.specs.declared.rule.By.TheVariants.{Begin}
 use Rattle.span_joins.specs.declared.rule.Rule.{Rule}
+use Rattle.span_joins.specs.declared.rule.Rule.TheVariants.{OverlapsFromLeft, OverlapsFromRight}
 use Rattle.span_joins.specs.declared.rule.Answer.{Answer}
-use Rattle.span_joins.specs.declared.rule.Answer.TheVariants.{Before, Pair, Beyond}
-use Rattle.span_joins.specs.Answers.{is_pair, rank_of}
-use Rattle.span_joins.specs.Sweeps.{extent_at, answer_at, row_if, row_of, pair_at, pairs_with, all_pairs, AreBefore}
-use Rattle.span_joins.proofs.AnswerLaws.{before_stays, beyond_stays}
+use Rattle.span_joins.specs.declared.rule.Answer.TheVariants.{Before, Pair, Neither, Beyond}
+use Rattle.span_joins.specs.Joins.{place}
+use Rattle.span_joins.specs.Answers.{is_pair, is_exact, rank_of}
+use Rattle.span_joins.specs.Sweeps.{Entry, no_entry, answer_at, row_if, row_of, pair_at, pairs_with, pairs_from, all_pairs, AreBefore, AreInOrder}
+use Rattle.span_joins.proofs.AnswerLaws.{before_stays, beyond_stays, never_neither, begins_before, begins_no_later, before_begins, before_begins_no_later}
 
 module _ {X Y : Type 0} (f : X → List Y) where
   none : (xs : List X) → ((k : ℕ) (d : X) → k < length xs → f (get_or xs k d) ≡ []) → flat_map f xs ≡ []
@@ -47,83 +49,137 @@ module _ {X Y : Type 0} (f : X → List Y) where
   within (x ∷ xs) zero = omega arith
   within (x ∷ xs) (suc j) = omega (arith, length-append (f x) (flat_map f (take j xs)), length-append (f x) (flat_map f xs), within xs j)
 
-module _ (rule : Rule) (first : Key) where
-  pair_is : (other : Key) (r : Answer) → answer_at rule first other ≡ r → pair_at rule first other ≡ row_if (is_pair r) (row_of rule first other)
-  pair_is other r e = ap (λ a. row_if (is_pair a) (row_of rule first other)) e
+-- rows in front of one that is too near are too near, for later first rows too
+near_stays : (rule : Rule) (a a' : Extent) (o o' : Option Extent) → rank_of rule a ≤ rank_of rule a' → place (λ e. e.begin) o' ≤ place (λ e. e.begin) o → answer_at rule a o ≡ Before → answer_at rule a' o' ≡ Before
+near_stays rule a a' o None h k e = refl
+near_stays rule a a' None (Some b') h k e = absurd (omega arith)
+near_stays rule a a' (Some b) (Some b') h k e = before_stays rule a b a' b' h (omega arith) e
 
-  module _ (others : List Key) (rise : IsNonDecreasingBy (λ key. key.span.begin) others) where
+-- and rows behind one that is too far are too far
+far_stays : (rule : Rule) (a : Extent) (o o' : Option Extent) → place (λ e. e.begin) o ≤ place (λ e. e.begin) o' → answer_at rule a o ≡ Beyond → answer_at rule a o' ≡ Beyond
+far_stays rule a None o' k e = absurd cc
+far_stays rule a (Some b) None k e = absurd (omega arith)
+far_stays rule a (Some b) (Some b') k e = beyond_stays rule a b b' (omega arith) e
+
+-- a span that is neither too near nor too far makes a pair
+pub never_neither_at : (rule : Rule) (a : Extent) (o : Option Extent) → is_exact rule ≡ true → answer_at rule a o ≡ Neither → ⊥
+never_neither_at rule a None exact e = absurd cc
+never_neither_at rule a (Some b) exact e = never_neither rule a b exact e
+
+module _ (rule : Rule) (a : Extent) (first : List Datum) where
+  pair_is : (other : Entry) (r : Answer) → answer_at rule a other.span ≡ r → pair_at rule a first other ≡ row_if (is_pair r) (row_of rule first other.values)
+  pair_is other r e = ap (λ t. row_if (is_pair t) (row_of rule first other.values)) e
+
+  module _ (others : List Entry) where
     -- those that are too near make no pair
-    pub pairs_none : (n : ℕ) → AreBefore rule first others n → pairs_with rule first (take n others) ≡ []
+    pub pairs_none : (n : ℕ) → AreBefore rule a others n → pairs_with rule a first (take n others) ≡ []
     unfolding pairs_with
-    pairs_none n h = none_taken (pair_at rule first) others n (λ k d l. pair_is (get_or others k d) Before (h.each k d l))
+    pairs_none n h = none_taken (pair_at rule a first) others n (λ k d l. pair_is (get_or others k d) Before (h.each k d l))
 
-    module _ (j : ℕ) (other : Key) (below : j < length others) (is : other ≡ get_or others j other) where
-      -- one that is too near, and so are those in front of it
-      pub AreBefore-next : Before ≡ answer_at rule first other → AreBefore rule first others (j + 1)
-      AreBefore-next e = record {
-        in_list = omega arith;
-        each = λ k d l.
-            let there : (get_or others k d).span.begin ≤ (get_or others j d).span.begin = rise k j d (omega arith) below in
-            let same : get_or others j d ≡ other = get_or_default others j d other below ∙ sym is in
-            before_stays rule (extent_at first) (extent_at other) (extent_at first) (extent_at (get_or others k d)) (omega arith)
-            (subst (λ (o : Key). (get_or others k d).span.begin ≤ o.span.begin) same there) (sym e);
-      }
+    pub pairs_all : (n : ℕ) → length others ≤ n → pairs_with rule a first (take n others) ≡ pairs_with rule a first others
+    pairs_all n h = ap (λ (os : List Entry). pairs_with rule a first os) (take_all n others h)
 
-      -- one that is too far, and so are those behind it
-      pub pairs_beyond : Beyond ≡ answer_at rule first other → pairs_with rule first (take j others) ≡ pairs_with rule first others
-      unfolding pairs_with
-      pairs_beyond e = none_dropped (pair_at rule first) others j (λ k d low high.
-          let there : (get_or others j d).span.begin ≤ (get_or others k d).span.begin = rise j k d low high in
-          let same : get_or others j d ≡ other = get_or_default others j d other below ∙ sym is in
-          pair_is (get_or others k d) Beyond (beyond_stays rule (extent_at first) (extent_at other) (extent_at (get_or others k d))
-          (subst (λ (o : Key). o.span.begin ≤ (get_or others k d).span.begin) same there) (sym e)))
+    pub pairs_within : (j : ℕ) → length (pairs_with rule a first (take j others)) ≤ length (pairs_with rule a first others)
+    unfolding pairs_with
+    pairs_within j = within (pair_at rule a first) others j
 
+    module _ (j : ℕ) (other : Entry) (below : j < length others) (is : other ≡ get_or others j other) where
       -- one more, with its pair or without
-      pub pairs_same : (r : Answer) → is_pair r ≡ false → r ≡ answer_at rule first other → pairs_with rule first (take (j + 1) others) ≡ pairs_with rule first (take j others)
+      pub pairs_same : (r : Answer) → is_pair r ≡ false → r ≡ answer_at rule a other.span → pairs_with rule a first (take (j + 1) others) ≡ pairs_with rule a first (take j others)
       unfolding pairs_with
       pairs_same r n e =
-          one_more (pair_at rule first) others j other below is
-          ∙ ap (λ (ys : List (List Datum)). flat_map (pair_at rule first) (take j others) ++ ys) (pair_is other r (sym e) ∙ ap (λ b. row_if b (row_of rule first other)) n)
+          one_more (pair_at rule a first) others j other below is
+          ∙ ap (λ (ys : List (List Datum)). flat_map (pair_at rule a first) (take j others) ++ ys) (pair_is other r (sym e) ∙ ap (λ b. row_if b (row_of rule first other.values)) n)
           ∙ append-nil _
 
-      pub pairs_more : Pair ≡ answer_at rule first other → pairs_with rule first (take (j + 1) others) ≡ pairs_with rule first (take j others) ++ row_of rule first other ∷ []
+      pub pairs_more : Pair ≡ answer_at rule a other.span → pairs_with rule a first (take (j + 1) others) ≡ pairs_with rule a first (take j others) ++ row_of rule first other.values ∷ []
       unfolding pairs_with
       pairs_more e =
-          one_more (pair_at rule first) others j other below is
-          ∙ ap (λ (ys : List (List Datum)). flat_map (pair_at rule first) (take j others) ++ ys) (pair_is other Pair (sym e))
+          one_more (pair_at rule a first) others j other below is
+          ∙ ap (λ (ys : List (List Datum)). flat_map (pair_at rule a first) (take j others) ++ ys) (pair_is other Pair (sym e))
 
-      pub pairs_room : Pair ≡ answer_at rule first other → length (pairs_with rule first (take j others)) + 1 ≤ length (pairs_with rule first others)
+      pub pairs_room : Pair ≡ answer_at rule a other.span → length (pairs_with rule a first (take j others)) + 1 ≤ length (pairs_with rule a first others)
       unfolding pairs_with
-      pairs_room e = omega (arith, room_for (pair_at rule first) others j other below is, ap length (pair_is other Pair (sym e)))
+      pairs_room e = omega (arith, room_for (pair_at rule a first) others j other below is, ap length (pair_is other Pair (sym e)))
 
-  pub pairs_within : (others : List Key) (j : ℕ) → length (pairs_with rule first (take j others)) ≤ length (pairs_with rule first others)
-  unfolding pairs_with
-  pairs_within others j = within (pair_at rule first) others j
+      module _ (rise : AreInOrder Begin others) where
+        -- one that is too near, and so are those in front of it
+        pub AreBefore-next : Before ≡ answer_at rule a other.span → AreBefore rule a others (j + 1)
+        AreBefore-next e = record {
+          in_list = omega arith;
+          each = λ k d l.
+              let there = rise k j d (omega arith) below in
+              let same : get_or others j d ≡ other = get_or_default others j d other below ∙ sym is in
+              near_stays rule a a other.span (get_or others k d).span (omega arith) (subst (λ (o : Entry). place (λ e. e.begin) (get_or others k d).span ≤ place (λ e. e.begin) o.span) same there) (sym e);
+        }
 
-module _ (rule : Rule) (firsts others : List Key) where
-  pub none_too_near : (first : Key) → AreBefore rule first others 0
-  none_too_near first = record { in_list = omega arith; each = λ k d l. absurd (omega arith) }
+        -- one that is too far, and so are those behind it
+        pub pairs_beyond : Beyond ≡ answer_at rule a other.span → pairs_with rule a first (take j others) ≡ pairs_with rule a first others
+        unfolding pairs_with
+        pairs_beyond e = none_dropped (pair_at rule a first) others j (λ k d low high.
+            let there = rise j k d low high in
+            let same : get_or others j d ≡ other = get_or_default others j d other below ∙ sym is in
+            pair_is (get_or others k d) Beyond (far_stays rule a other.span (get_or others k d).span
+            (subst (λ (o : Entry). place (λ e. e.begin) o.span ≤ place (λ e. e.begin) (get_or others k d).span) same there) (sym e)))
 
+pub none_too_near : (rule : Rule) (a : Extent) (others : List Entry) → AreBefore rule a others 0
+none_too_near rule a others = record { in_list = omega arith; each = λ k d l. absurd (omega arith) }
+
+-- what is too near for one row is too near for the later ones
+pub AreBefore-later : (rule : Rule) (a a' : Extent) (others : List Entry) (n : ℕ) → rank_of rule a ≤ rank_of rule a' → AreBefore rule a others n → AreBefore rule a' others n
+AreBefore-later rule a a' others n h before = record {
+  in_list = before.in_list;
+  each = λ k d l. near_stays rule a a' (get_or others k d).span (get_or others k d).span h (omega arith) (before.each k d l);
+}
+
+module _ (rule : Rule) (firsts others : List Entry) where
   pub all_pairs_none : all_pairs rule (take 0 firsts) others ≡ []
   unfolding all_pairs
   all_pairs_none = refl
 
-  module _ (i : ℕ) (first : Key) (below : i < length firsts) (is : first ≡ get_or firsts i first) where
-    -- what is too near for one key is too near for the later ones
-    pub AreBefore-later : IsNonDecreasingBy (λ key. rank_of rule (extent_at key)) firsts → (n k : ℕ) (d : Key) → i ≤ k → k < length firsts → AreBefore rule first others n → AreBefore rule (get_or firsts k d) others n
-    AreBefore-later rise n k d low high h =
-        let there : rank_of rule (extent_at (get_or firsts i d)) ≤ rank_of rule (extent_at (get_or firsts k d)) = rise i k d low high in
-        let same : get_or firsts i d ≡ first = get_or_default firsts i d first below ∙ sym is in
-        record {
-          in_list = h.in_list;
-          each = λ m e l. before_stays rule (extent_at first) (extent_at (get_or others m e)) (extent_at (get_or firsts k d)) (extent_at (get_or others m e))
-              (subst (λ (f : Key). rank_of rule (extent_at f) ≤ rank_of rule (extent_at (get_or firsts k d))) same there) (omega arith) (h.each m e l);
-        }
+  pub all_pairs_all : (n : ℕ) → length firsts ≤ n → all_pairs rule (take n firsts) others ≡ all_pairs rule firsts others
+  all_pairs_all n h = ap (λ (fs : List Entry). all_pairs rule fs others) (take_all n firsts h)
 
-    pub all_pairs_more : all_pairs rule (take (i + 1) firsts) others ≡ all_pairs rule (take i firsts) others ++ pairs_with rule first others
-    unfolding all_pairs
-    all_pairs_more = one_more (λ f. pairs_with rule f others) firsts i first below is
+  pub all_pairs_within : (n : ℕ) → length (all_pairs rule (take n firsts) others) ≤ length (all_pairs rule firsts others)
+  unfolding all_pairs
+  all_pairs_within n = within (λ (first : Entry). pairs_from rule first.span first.values others) firsts n
 
-    pub all_pairs_room : length (all_pairs rule (take i firsts) others) + length (pairs_with rule first others) ≤ length (all_pairs rule firsts others)
+  module _ (i : ℕ) (first : Entry) (below : i < length firsts) (is : first ≡ get_or firsts i first) where
+    pub all_pairs_more : all_pairs rule (take (i + 1) firsts) others ≡ all_pairs rule (take i firsts) others ++ pairs_from rule first.span first.values others
     unfolding all_pairs
-    all_pairs_room = room_for (λ f. pairs_with rule f others) firsts i first below is
+    all_pairs_more = one_more (λ (f : Entry). pairs_from rule f.span f.values others) firsts i first below is
+
+    pub all_pairs_room : length (all_pairs rule (take i firsts) others) + length (pairs_from rule first.span first.values others) ≤ length (all_pairs rule firsts others)
+    unfolding all_pairs
+    all_pairs_room = room_for (λ (f : Entry). pairs_from rule f.span f.values others) firsts i first below is
+
+-- what begins before a left span, and what begins no later than a right one, was met before
+from_left : (a : Extent) (o : Option Extent) → place (λ e. e.begin) o < a.begin + 1 → answer_at OverlapsFromLeft a o ≡ Before
+from_left a None h = refl
+from_left a (Some b) h = begins_before a b (omega arith)
+
+from_right : (a : Extent) (o : Option Extent) → place (λ e. e.begin) o ≤ a.begin + 1 → answer_at OverlapsFromRight a o ≡ Before
+from_right a None h = refl
+from_right a (Some b) h = begins_no_later a b (omega arith)
+
+module _ (a : Extent) (others : List Entry) (n : ℕ) (inside : n ≤ length others) where
+  pub from_left-before : ((k : ℕ) → k < n → place (λ e. e.begin) (get_or others k no_entry).span < a.begin + 1) → AreBefore OverlapsFromLeft a others n
+  from_left-before h = record {
+    in_list = inside;
+    each = λ k d low. subst (λ (e : Entry). answer_at OverlapsFromLeft a e.span ≡ Before) (get_or_default others k no_entry d (omega arith)) (from_left a (get_or others k no_entry).span (h k low));
+  }
+
+  pub from_right-before : ((k : ℕ) → k < n → place (λ e. e.begin) (get_or others k no_entry).span ≤ a.begin + 1) → AreBefore OverlapsFromRight a others n
+  from_right-before h = record {
+    in_list = inside;
+    each = λ k d low. subst (λ (e : Entry). answer_at OverlapsFromRight a e.span ≡ Before) (get_or_default others k no_entry d (omega arith)) (from_right a (get_or others k no_entry).span (h k low));
+  }
+
+-- what begins no earlier than a left span, and what begins after a right one, isn't too near
+pub from_left-never : (a : Extent) (o : Option Extent) → a.begin + 1 ≤ place (λ e. e.begin) o → answer_at OverlapsFromLeft a o ≡ Before → ⊥
+from_left-never a None h e = absurd (omega arith)
+from_left-never a (Some b) h e = absurd (omega (arith, before_begins a b e))
+
+pub from_right-never : (a : Extent) (o : Option Extent) → a.begin + 1 < place (λ e. e.begin) o → answer_at OverlapsFromRight a o ≡ Before → ⊥
+from_right-never a None h e = absurd (omega arith)
+from_right-never a (Some b) h e = absurd (omega (arith, before_begins_no_later a b e))

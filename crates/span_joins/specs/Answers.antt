@@ -1,11 +1,15 @@
 -- What a test of one span against another tells a sweep that goes through the other spans by their begins.
-use Rattle.std.specs.Prelude.{ℕ, ◌-◌, Bool, true, false, cond, ◌&&◌, nat_lt, nat_le, ℤ, pos, int_le}
+use Rattle.std.specs.Prelude.{ℕ, ◌≡◌, ◌-◌, Bool, true, false, cond, ◌&&◌, not, nat_lt, nat_le, ℤ, pos, int_le}
 use Rattle.span_token.specs.Extents.{Extent}
 use Rattle.span_token.specs.Documents.{LiesIn, characters}
 use Rattle.span_token.specs.Tokens.{tokens_of}
-use Rattle.span_token.specs.Relations.{do_overlap, does_contain, tokens_between}
+use Rattle.span_token.specs.Relations.{do_overlap, does_contain, does_follow, does_follow_tok, tokens_between}
 use Rattle.span_joins.specs.declared.rule.Rule.{Rule}
 use Rattle.span_joins.specs.declared.rule.Rule.TheVariants.{Gap, Tokens, Contains, OverlapsFromLeft, OverlapsFromRight}
+use Rattle.span_joins.specs.declared.rule.By.{By}
+use Rattle.span_joins.specs.declared.rule.By.TheVariants.{Begin, End}
+use Rattle.span_joins.specs.declared.way.Way.{Way}
+use Rattle.span_joins.specs.declared.way.Way.TheVariants.{Swept, Met}
 use Rattle.span_joins.specs.declared.rule.Answer.{Answer}
 use Rattle.span_joins.specs.declared.rule.Answer.TheVariants.{Before, Pair, Neither, Beyond}
 
@@ -30,13 +34,22 @@ answer_of OverlapsFromLeft a b =
     by_begin (nat_lt b.begin a.begin) (nat_lt a.begin b.begin && nat_le a.end b.begin) (do_overlap a b)
 answer_of OverlapsFromRight a b = by_begin (nat_le b.begin a.begin) (nat_le a.end b.begin) (do_overlap a b)
 
+-- the order of the first spans of a sweep
+abbrev pub order_of : Rule → By
+order_of (Gap low high) = End
+order_of (Tokens doc low high) = End
+order_of Contains = Begin
+order_of OverlapsFromLeft = Begin
+order_of OverlapsFromRight = Begin
+
+-- the number of a span that an order goes by
+abbrev pub number_of : By → Extent → ℕ
+number_of Begin e = e.begin
+number_of End e = e.end
+
 -- what the first spans of a sweep rise by
 abbrev pub rank_of : Rule → Extent → ℕ
-rank_of (Gap low high) a = a.end
-rank_of (Tokens doc low high) a = a.end
-rank_of Contains a = a.begin
-rank_of OverlapsFromLeft a = a.begin
-rank_of OverlapsFromRight a = a.begin
+rank_of rule a = number_of (order_of rule) a
 
 -- each span that is neither too near nor too far makes a pair
 abbrev pub is_exact : Rule → Bool
@@ -67,3 +80,36 @@ is_pair Before = false
 is_pair Pair = true
 is_pair Neither = false
 is_pair Beyond = false
+
+-- the test that a rule makes
+abbrev pub test_of : Rule → Extent → Extent → Bool
+test_of (Gap low high) a b = does_follow a b low high
+test_of (Tokens doc low high) a b = does_follow_tok (tokens_of (characters doc.now)) a b low high
+test_of Contains a b = does_contain a b
+test_of OverlapsFromLeft a b = not (nat_lt b.begin a.begin) && do_overlap a b
+test_of OverlapsFromRight a b = not (nat_le b.begin a.begin) && do_overlap a b
+
+-- the test of a way to join
+abbrev pub test_by : Way → Extent → Extent → Bool
+test_by (Swept rule) = test_of rule
+test_by Met = do_overlap
+
+-- the order of its left rows
+abbrev pub order_by : Way → By
+order_by (Swept rule) = order_of rule
+order_by Met = Begin
+
+-- its tests are bounded
+abbrev pub is_bounded : Way → Bool
+is_bounded (Swept rule) = is_exact rule
+is_bounded Met = false
+
+-- the first rows of a sweep are the left ones
+abbrev pub IsStraight : Way → Type 0
+IsStraight (Swept rule) = is_turned rule ≡ false
+IsStraight Met = Unit {0}
+
+-- a span that it may look at
+abbrev pub MayMeet : Way → Extent → Type 0
+MayMeet (Swept rule) e = IsWithin rule e
+MayMeet Met e = Unit {0}

@@ -1,6 +1,7 @@
 -- The join of two lists of rows by a test of the spans in one column of each.
 use Rattle.std.specs.Prelude.{ℕ, ◌+◌, ◌≡◌, ◌↔◌, Bool, IsTrue, false, Option, Some, None, List, ◌++◌, map, slice_index_or}
 use Rattle.std.specs.List.{filter, filter_map, flat_map}
+use Rattle.std.specs.List.Sorted.{IsNonDecreasingBy}
 use Rattle.aql_base.specs.Bags.{SameBag}
 use Rattle.span_token.specs.Extents.{Extent}
 use Rattle.row_values.specs.Datums.{Datum, null, span}
@@ -40,3 +41,12 @@ pub record IsJoin (P : Extent → Extent → Type 0) (left : RowList) (lc : ℕ)
 -- the spans in a column, in the order of the rows; Null is passed over
 unfoldable pub spans_in : ℕ → List (List Datum) → List Extent
 spans_in column rows = filter_map (span_in column) rows
+
+-- where a span stands in the order by a number of it; what has no span comes first
+abbrev pub place : (Extent → ℕ) → Option Extent → ℕ
+place number None = 0
+place number (Some e) = number e + 1
+
+-- the rows rise by a number of the spans in a column, those without a span first
+abbrev pub DoRise : (Extent → ℕ) → ℕ → List (List Datum) → Type 0
+DoRise number column rows = IsNonDecreasingBy (λ row. place number (span_in column row)) rows

@@ -1,9 +1,12 @@
-ghost use Rattle.std.specs.Prelude.{◌≡◌, ◌+◌};
+ghost use Rattle.std.specs.Prelude.{◌≡◌, ◌+◌, ◌≤◌};
 ghost use Rattle.span_token.specs.Extents.{extent_of};
 ghost use Rattle.span_token.specs.Documents.{LiesIn, characters};
 ghost use Rattle.span_token.specs.Tokens.{tokens_of};
 ghost use Rattle.span_token.specs.Relations.{tokens_between};
-ghost use Rattle.span_joins.specs.Answers.{answer_of, by_gap as gap_answer, by_begin as begin_answer, IsWithin};
+ghost use Rattle.std.specs.Option.{option_map};
+ghost use Rattle.span_joins.specs.declared.rule.Answer.TheVariants.{Pair};
+ghost use Rattle.span_joins.specs.Sweeps.{IsWithinAny, answer_at};
+ghost use Rattle.span_joins.specs.Answers.{answer_of, by_gap as gap_answer, by_begin as begin_answer, order_of, IsWithin};
 
 use aql_base::Steps;
 use span_token::{Document, Span, between, contains, overlaps};
@@ -24,6 +27,28 @@ pub(crate) enum Rule<'a, 'b> {
     OverlapsFromRight,
 }
 
+/// What rows are in the order of.
+#[derive(Clone, Copy)]
+pub(crate) enum By {
+    /// The begins of their spans.
+    Begin,
+    /// The ends of their spans.
+    End,
+}
+
+impl Rule<'_, '_> {
+    /// The order of the first spans of a sweep.
+    #[inline(always)]
+    pub(crate) fn order(self) -> By
+        ensures { result ≡ order_of self.entry }
+    {
+        match self {
+            Rule::Gap(_, _) | Rule::Tokens(_, _, _) => By::End,
+            _ => By::Begin,
+        }
+    }
+}
+
 /// What a test tells a sweep that goes through the other spans by their begins.
 #[derive(Clone, Copy, PartialEq, Eq)]
 pub(crate) enum Answer {
@@ -38,30 +63,48 @@ pub(crate) enum Answer {
 }
 
 /// Tests one span against another, which is one step: the only way to an answer.
-pub(crate) fn test<L: Ledger>(
-    rule: &Rule<'_, '_>,
-    first: Span,
-    other: Span,
-    steps: &mut Steps<L>,
-) -> Answer
-    requires first_within { IsWithin rule.now (extent_of first) }
-    requires other_within { IsWithin rule.now (extent_of other) }
-    ensures answer { result ≡ answer_of rule.now (extent_of first) (extent_of other) }
+#[inline(always)]
+fn test<L: Ledger>(rule: Rule<'_, '_>, first: Span, other: Span, steps: &mut Steps<L>) -> Answer
+    requires first_within { IsWithin rule (extent_of first) }
+    requires other_within { IsWithin rule (extent_of other) }
+    ensures answer { result ≡ answer_of rule.entry (extent_of first) (extent_of other) }
     ensures step { steps.new ≡ steps.old + 1 }
 {
     steps.tick();
     answered(rule, first, other)
 }
 
+/// Tests a span against that of another row. A row without one takes no test.
+#[inline(always)]
+pub(crate) fn test_at<L: Ledger>(
+    rule: Rule<'_, '_>,
+    first: Span,
+    other: Option<Span>,
+    steps: &mut Steps<L>,
+) -> Answer
+    requires first_within { IsWithin rule (extent_of first) }
+    requires other_within { IsWithinAny rule (option_map extent_of other) }
+    ensures answer { result ≡ answer_at rule.entry (extent_of first) (option_map extent_of other) }
+    ensures pair { result ≡ Pair → steps.new ≡ steps.old + 1 }
+    ensures at_most { steps.new ≤ steps.old + 1 }
+    ensures grows { steps.old ≤ steps.new }
+{
+    match other {
+        Some(other) => test(rule, first, other, steps),
+        None => Answer::Before,
+    }
+}
+
 /// The answer of a rule.
-fn answered(rule: &Rule<'_, '_>, first: Span, other: Span) -> Answer
-    requires first_within { IsWithin rule.now (extent_of first) }
-    requires other_within { IsWithin rule.now (extent_of other) }
-    ensures { result ≡ answer_of rule.now (extent_of first) (extent_of other) }
+#[inline(always)]
+fn answered(rule: Rule<'_, '_>, first: Span, other: Span) -> Answer
+    requires first_within { IsWithin rule (extent_of first) }
+    requires other_within { IsWithin rule (extent_of other) }
+    ensures { result ≡ answer_of rule.entry (extent_of first) (extent_of other) }
 {
     let in_order = first.end <= other.begin;
     let gap = between(first, other);
-    match *rule {
+    match rule {
         Rule::Gap(min, max) => {
             if in_order {
                 by_gap(min, max, gap.end - gap.begin)
@@ -95,6 +138,7 @@ fn answered(rule: &Rule<'_, '_>, first: Span, other: Span) -> Answer
 }
 
 /// The answer by how much lies between.
+#[inline(always)]
 fn by_gap(min: i64, max: i64, gap: u32) -> Answer
     ensures { result ≡ gap_answer min max gap }
 {
@@ -111,6 +155,7 @@ fn by_gap(min: i64, max: i64, gap: u32) -> Answer
 }
 
 /// The answer by where the other span begins, and then by a test.
+#[inline(always)]
 fn by_begin(before: bool, beyond: bool, pair: bool) -> Answer
     ensures { result ≡ begin_answer before beyond pair }
 {
@@ -126,6 +171,7 @@ fn by_begin(before: bool, beyond: bool, pair: bool) -> Answer
 }
 
 /// How many tokens lie wholly in a span.
+#[inline(always)]
 fn tokens_within(doc: &Document<'_>, span: Span) -> u32
     requires { LiesIn (extent_of span) doc.now }
     ensures { result ≡ tokens_between (tokens_of (characters doc.now)) span.begin span.end }

@@ -1,8 +1,9 @@
-ghost use Rattle.std.specs.Prelude.{◌≡◌, ◌+◌, ◌<◌, ◌≤◌, [], ◌∷◌, length, IfOk, All};
+ghost use Rattle.std.specs.Prelude.{◌≡◌, ◌+◌, ◌<◌, ◌≤◌, [], ◌∷◌, length, map, IfOk, All};
 ghost use Rattle.span_token.specs.Documents.{LiesIn};
 ghost use Rattle.span_token.specs.Extents.{extent_of};
-ghost use Rattle.row_values.specs.Datums.{int, span};
-ghost use Rattle.span_joins.specs.Joins.{spans_in};
+ghost use Rattle.row_values.specs.Datums.{datum_of, int, span};
+ghost use Rattle.span_joins.specs.Joins.{span_in, span_of, spans_in};
+ghost use Rattle.span_joins.specs.Tables.{Rises, span_between};
 
 use super::*;
 use aql_base::Steps;
@@ -21,7 +22,9 @@ type Pair = (i64, i64);
 
 const NULL: Ends = (1, 0);
 
-fn value(ends: Ends) -> Value<'static> {
+fn value(ends: Ends) -> Value<'static>
+    ensures { span_of (datum_of result) ≡ span_between ends }
+{
     let (begin, end) = ends;
     if begin <= end {
         Value::Span(Span { begin, end })
@@ -32,7 +35,8 @@ fn value(ends: Ends) -> Value<'static> {
 
 /// The row of a number and a value.
 fn row_of(alloc: Global, number: i64, value: Value<'static>) -> Result<Row<'static>, Fail>
-    ensures { IfOk result (λ row. length row ≡ 2) }
+    ensures length { IfOk result (λ row. length row ≡ 2) }
+    ensures span { IfOk result (λ row. span_in 1 row ≡ span_of (datum_of value.entry)) }
 {
     let mut row = Row::single(alloc, Value::Int(number));
     row.push(value)?;
@@ -42,7 +46,7 @@ fn row_of(alloc: Global, number: i64, value: Value<'static>) -> Result<Row<'stat
 /// A row for each span, with its place from 0 in front.
 fn given(alloc: Global, table: &[Ends]) -> Result<Rows<'static>, Fail>
     ensures width { IfOk result (λ rows. rows.width ≡ 2) }
-    ensures number { IfOk result (λ rows. length rows.rows ≡ length table.now) }
+    ensures spans { IfOk result (λ rows. map (span_in 1) rows.rows ≡ map span_between table.now) }
 {
     let mut rows = Rows::new(alloc, 2);
     for ends in table {
@@ -67,7 +71,7 @@ fn pairs(alloc: Global, rows: &Rows<'_>) -> Result<Vec<Pair>, Fail>
     Ok(pairs)
 }
 
-/// Joins the tables by a gap in characters.
+/// Joins the tables by a gap in characters; by few tests where both are in order.
 fn followed<L: Ledger>(
     alloc: Global,
     left: &[Ends],
@@ -77,7 +81,7 @@ fn followed<L: Ledger>(
     steps: &mut Steps<L>,
 ) -> Result<Rows<'static>, Fail>
     ensures width { IfOk result (λ out. out.width ≡ 4) }
-    ensures tests { IfOk result (λ out. steps.new ≤ steps.old + (length left.now + length right.now + length out.rows)) }
+    ensures tests { Rises (λ e. e.end) left.now → Rises (λ e. e.begin) right.now → IfOk result (λ out. steps.new ≤ steps.old + (length left.now + length right.now + length out.rows)) }
 {
     let left = given(alloc, left)?;
     let right = given(alloc, right)?;
@@ -142,7 +146,7 @@ fn by_characters<L: Ledger>(
 #[test]
 fn gaps_in_characters(rt: HostRuntime) -> Result<(), Fail> {
     let widest = (i64::MIN, i64::MAX);
-    let table: [(&str, &[Ends], &[Ends], (i64, i64), &[Pair]); 13] = [
+    let table: [(&str, &[Ends], &[Ends], (i64, i64), &[Pair]); 20] = [
         ("no rows", &[], &[], (0, 9), &[]),
         ("no left row", &[], &[(0, 1)], widest, &[]),
         ("no right row", &[(0, 1)], &[], widest, &[]),
@@ -191,6 +195,55 @@ fn gaps_in_characters(rt: HostRuntime) -> Result<(), Fail> {
             &[(3, 4), (1, 2)],
             (0, 0),
             &[(0, 0), (1, 1)],
+        ),
+        (
+            "rows in any order, Null in the middle",
+            &[(4, 6), NULL, (0, 2)],
+            &[(7, 8), NULL, (2, 4), (6, 6)],
+            (0, 1),
+            &[(0, 0), (0, 3), (2, 2)],
+        ),
+        (
+            "Null after spans",
+            &[(0, 1), (2, 3), NULL],
+            &[(1, 2), (4, 5), (5, 6), NULL],
+            (0, 1),
+            &[(0, 0), (1, 1)],
+        ),
+        (
+            "left rows out of order",
+            &[(5, 6), (0, 1), (2, 4)],
+            &[(1, 1), (4, 5), (6, 7), (8, 9)],
+            (0, 2),
+            &[(0, 2), (0, 3), (1, 0), (2, 1), (2, 2)],
+        ),
+        (
+            "right rows out of order",
+            &[(0, 1), (2, 4), (5, 6)],
+            &[(8, 9), (4, 5), (1, 1), (6, 7)],
+            (0, 2),
+            &[(0, 2), (1, 1), (1, 3), (2, 0), (2, 3)],
+        ),
+        (
+            "left rows by their begins and not by their ends",
+            &[(0, 9), (1, 2)],
+            &[(2, 3), (9, 9)],
+            (0, 0),
+            &[(0, 1), (1, 0)],
+        ),
+        (
+            "equal begins with empty spans",
+            &[(0, 3), (3, 3)],
+            &[(3, 3), (3, 5), (3, 3)],
+            (0, 0),
+            &[(0, 0), (0, 1), (0, 2), (1, 0), (1, 1), (1, 2)],
+        ),
+        (
+            "the last right row out of order, after all left rows",
+            &[(0, 1)],
+            &[(1, 2), (5, 6), (2, 3)],
+            (0, 1),
+            &[(0, 0), (0, 2)],
         ),
     ];
     for (name, left, right, bounds, want) in table {
@@ -300,7 +353,7 @@ fn by_places<L: Ledger>(
 
 #[test]
 fn overlaps_and_contains_side_by_side(rt: HostRuntime) -> Result<(), Fail> {
-    let table: [(&str, &[Ends], &[Ends], &[Pair], &[Pair]); 6] = [
+    let table: [(&str, &[Ends], &[Ends], &[Pair], &[Pair]); 14] = [
         ("no rows", &[], &[], &[], &[]),
         ("Null alone", &[NULL], &[NULL], &[], &[]),
         (
@@ -330,6 +383,62 @@ fn overlaps_and_contains_side_by_side(rt: HostRuntime) -> Result<(), Fail> {
             &[(1, 2), NULL, (4, 6), (0, 1)],
             &[(0, 0), (0, 2), (0, 3), (1, 0), (2, 2)],
             &[(0, 0), (0, 2), (0, 3), (1, 0)],
+        ),
+        (
+            "Null after spans",
+            &[(0, 4), (2, 3), NULL],
+            &[(1, 2), (2, 5), NULL],
+            &[(0, 0), (0, 1), (1, 1)],
+            &[(0, 0)],
+        ),
+        (
+            "rows in any order, Null in the middle",
+            &[(4, 6), NULL, (0, 3)],
+            &[(5, 6), NULL, (2, 5)],
+            &[(0, 0), (0, 2), (2, 2)],
+            &[(0, 0)],
+        ),
+        (
+            "equal begins with empty spans",
+            &[(3, 3), (3, 5)],
+            &[(3, 3), (3, 4)],
+            &[(0, 0), (1, 1)],
+            &[(0, 0), (1, 0), (1, 1)],
+        ),
+        (
+            "left rows out of order",
+            &[(5, 7), (0, 2), (1, 6)],
+            &[(0, 1), (1, 3), (4, 6), (6, 8)],
+            &[(0, 2), (0, 3), (1, 0), (1, 1), (2, 1), (2, 2)],
+            &[(1, 0), (2, 1), (2, 2)],
+        ),
+        (
+            "right rows out of order",
+            &[(0, 2), (1, 6), (5, 7)],
+            &[(6, 8), (0, 1), (4, 6), (1, 3)],
+            &[(0, 1), (0, 3), (1, 2), (1, 3), (2, 0), (2, 2)],
+            &[(0, 1), (1, 2), (1, 3)],
+        ),
+        (
+            "a long left span after short ones",
+            &[(0, 1), (1, 2), (2, 9)],
+            &[(0, 3), (3, 4), (5, 6), (8, 10)],
+            &[(0, 0), (1, 0), (2, 0), (2, 1), (2, 2), (2, 3)],
+            &[(2, 1), (2, 2)],
+        ),
+        (
+            "a long right span after short ones",
+            &[(0, 3), (3, 4), (5, 6), (8, 10)],
+            &[(0, 1), (1, 2), (2, 9)],
+            &[(0, 0), (0, 1), (0, 2), (1, 2), (2, 2), (3, 2)],
+            &[(0, 0), (0, 1)],
+        ),
+        (
+            "the last right row out of order, after all left rows",
+            &[(0, 4)],
+            &[(1, 2), (5, 6), (2, 3)],
+            &[(0, 0), (0, 2)],
+            &[(0, 0), (0, 2)],
         ),
     ];
     for (name, left, right, overlapping, containing) in table {
