@@ -15,7 +15,7 @@ use Rattle.span_joins.specs.declared.rule.Rule.{Rule}
 use Rattle.span_joins.specs.declared.rule.Rule.TheVariants.{Gap, Tokens, Contains, OverlapsFromLeft, OverlapsFromRight}
 use Rattle.span_joins.specs.declared.rule.Answer.{Answer}
 use Rattle.span_joins.specs.declared.rule.Answer.TheVariants.{Before, Pair, Neither, Beyond}
-use Rattle.span_joins.specs.Answers.{by_gap, by_count, by_begin, answer_of, rank_of, is_exact, is_pair}
+use Rattle.span_joins.specs.Answers.{by_gap, by_count, by_begin, place_of, number_of, other_order_of, answer_of, rank_of, is_exact, is_pair}
 
 -- less isn't enough where more isn't, and more is too much where less is
 still_low : (z : ℤ) (n m : ℕ) → m ≤ n → int_le z (pos n) ≡ false → int_le z (pos m) ≡ false
@@ -179,26 +179,44 @@ is_before before beyond pair e = ap (λ b. by_begin b beyond pair) e
 is_beyond : (before beyond pair : Bool) → before ≡ false → beyond ≡ true → by_begin before beyond pair ≡ Beyond
 is_beyond before beyond pair e f = ap₂ (λ b c. by_begin b c pair) e f
 
--- a span that is too near stays so for first spans of a greater rank, and so do those that begin no later
-pub before_stays : (rule : Rule) (a b a' b' : Extent) → rank_of rule a ≤ rank_of rule a' → b'.begin ≤ b.begin → answer_of rule a b ≡ Before → answer_of rule a' b' ≡ Before
+abbrev one_if : Bool → ℕ
+one_if b = cond b 1 0
+
+-- places go by begins, and an empty span stands before others of its begin
+bit : (b : Bool) → one_if b ≤ 1
+bit true = omega arith
+bit false = omega arith
+
+place_begins : (a b : Extent) → place_of a ≤ place_of b → a.begin ≤ b.begin
+place_begins a b h = omega (arith, h, bit (nat_lt a.begin a.end), bit (nat_lt b.begin b.end))
+
+place_within : (b : Extent) (n : ℕ) → b.begin ≤ b.end → b.end ≤ n → place_of b ≤ n + n
+place_within b n h k = by (nat_lt b.begin b.end) refl
+  where
+    by : (t : Bool) → nat_lt b.begin b.end ≡ t → b.begin + b.begin + cond (nat_lt b.begin b.end) 1 0 ≤ n + n
+    by true e = omega (arith, ltb-true b.begin b.end e, ap one_if e)
+    by false e = omega (arith, ap one_if e)
+
+-- a span that is too near stays so for first spans of a greater rank, and so do those that stand no later
+pub before_stays : (rule : Rule) (a b a' b' : Extent) → rank_of rule a ≤ rank_of rule a' → number_of (other_order_of rule) b' ≤ number_of (other_order_of rule) b → answer_of rule a b ≡ Before → answer_of rule a' b' ≡ Before
 before_stays (Gap low high) a b a' b' h k e = count_before (λ from to. to - from) fewer_characters low high a b a' b' h k e
 before_stays (Tokens doc low high) a b a' b' h k e = count_before (tokens_between (tokens_of (characters doc.now))) (fewer_tokens (tokens_of (characters doc.now))) low high a b a' b' h k e
 before_stays Contains a b a' b' h k e =
-    is_before (nat_lt b'.begin a'.begin) _ _ (lt-ltb b'.begin a'.begin (omega (arith, ltb-true b.begin a.begin (begin_before _ _ _ e))))
+    is_before (nat_lt b'.begin a'.begin) _ _ (lt-ltb b'.begin a'.begin (omega (arith, place_begins b' b k, h, ltb-true b.begin a.begin (begin_before _ _ _ e))))
 before_stays OverlapsFromLeft a b a' b' h k e =
     is_before (nat_lt b'.begin a'.begin) _ _ (lt-ltb b'.begin a'.begin (omega (arith, ltb-true b.begin a.begin (begin_before _ _ _ e))))
 before_stays OverlapsFromRight a b a' b' h k e =
     is_before (nat_le b'.begin a'.begin) _ _ (le-leb b'.begin a'.begin (omega (arith, leb-true b.begin a.begin (begin_before _ _ _ e))))
 
--- and those that begin no earlier than one too far are too far
-pub beyond_stays : (rule : Rule) (a b b' : Extent) → b.begin ≤ b'.begin → answer_of rule a b ≡ Beyond → answer_of rule a b' ≡ Beyond
+-- and those that stand no earlier than one too far are too far
+pub beyond_stays : (rule : Rule) (a b b' : Extent) → number_of (other_order_of rule) b ≤ number_of (other_order_of rule) b' → answer_of rule a b ≡ Beyond → answer_of rule a b' ≡ Beyond
 beyond_stays (Gap low high) a b b' h e = count_beyond (λ from to. to - from) fewer_characters low high a b b' h e
 beyond_stays (Tokens doc low high) a b b' h e = count_beyond (tokens_between (tokens_of (characters doc.now))) (fewer_tokens (tokens_of (characters doc.now))) low high a b b' h e
 beyond_stays Contains a b b' h e =
     let parts = begin_beyond _ _ _ e in
-    is_beyond (nat_lt b'.begin a.begin) (nat_lt a.end b'.begin) _
-    (le-ltb b'.begin a.begin (omega (arith, ltb-false b.begin a.begin parts.0)))
-    (lt-ltb a.end b'.begin (omega (arith, ltb-true a.end b.begin parts.1)))
+    is_beyond (nat_lt b'.begin a.begin) (nat_lt (a.end + a.end) (place_of b')) _
+    (le-ltb b'.begin a.begin (omega (arith, place_begins b b' h, ltb-false b.begin a.begin parts.0)))
+    (lt-ltb (a.end + a.end) (place_of b') (omega (arith, h, ltb-true (a.end + a.end) (place_of b) parts.1)))
 beyond_stays OverlapsFromLeft a b b' h e =
     let parts = begin_beyond _ _ _ e in
     let both = and_parts (nat_lt a.begin b.begin) (nat_le a.end b.begin) parts.1 in
@@ -260,8 +278,8 @@ never_beyond false false false h = refl
 
 pub pair-contains : (a b : Extent) → b.begin ≤ b.end → is_pair (answer_of Contains a b) ≡ does_contain a b
 pair-contains a b h =
-    never_beyond (nat_lt b.begin a.begin) (nat_lt a.end b.begin) (does_contain a b)
-    (λ x e. le-ltb a.end b.begin (omega (arith, leb-true b.end a.end (and_parts (nat_le a.begin b.begin) (nat_le b.end a.end) e).1)))
+    never_beyond (nat_lt b.begin a.begin) (nat_lt (a.end + a.end) (place_of b)) (does_contain a b)
+    (λ x e. le-ltb (a.end + a.end) (place_of b) (place_within b a.end h (leb-true b.end a.end (and_parts (nat_le a.begin b.begin) (nat_le b.end a.end) e).1)))
     ∙ by (nat_lt b.begin a.begin) (nat_le a.begin b.begin) (nat_le b.end a.end) (λ e. lt-leb a.begin b.begin (ltb-true b.begin a.begin e))
   where
     by : (x y z : Bool) → (x ≡ true → y ≡ false) → (not x && (y && z)) ≡ (y && z)

@@ -6,13 +6,12 @@ use Rattle.std.proofs.lemmas.List.{take_more, get_or_default, take_all}
 use Rattle.std.proofs.lemmas.List.Folds.{length-flat_map-take}
 use Rattle.span_token.specs.Extents.{Extent}
 use Rattle.row_values.specs.Datums.{Datum}
-use Rattle.span_joins.specs.declared.rule.By.TheVariants.{Begin}
 use Rattle.span_joins.specs.declared.rule.Rule.{Rule}
 use Rattle.span_joins.specs.declared.rule.Rule.TheVariants.{OverlapsFromLeft, OverlapsFromRight}
 use Rattle.span_joins.specs.declared.rule.Answer.{Answer}
 use Rattle.span_joins.specs.declared.rule.Answer.TheVariants.{Before, Pair, Neither, Beyond}
 use Rattle.span_joins.specs.Joins.{place}
-use Rattle.span_joins.specs.Answers.{is_pair, is_exact, rank_of}
+use Rattle.span_joins.specs.Answers.{is_pair, is_exact, number_of, other_order_of, rank_of}
 use Rattle.span_joins.specs.Sweeps.{Entry, no_entry, answer_at, row_if, row_of, pair_at, pairs_with, pairs_from, all_pairs, AreBefore, AreInOrder}
 use Rattle.span_joins.proofs.AnswerLaws.{before_stays, beyond_stays, never_neither, begins_before, begins_no_later, before_begins, before_begins_no_later}
 
@@ -50,13 +49,14 @@ module _ {X Y : Type 0} (f : X → List Y) where
   within (x ∷ xs) (suc j) = omega (arith, length-append (f x) (flat_map f (take j xs)), length-append (f x) (flat_map f xs), within xs j)
 
 -- rows in front of one that is too near are too near, for later first rows too
-near_stays : (rule : Rule) (a a' : Extent) (o o' : Option Extent) → rank_of rule a ≤ rank_of rule a' → place (λ e. e.begin) o' ≤ place (λ e. e.begin) o → answer_at rule a o ≡ Before → answer_at rule a' o' ≡ Before
+near_stays : (rule : Rule) (a a' : Extent) (o o' : Option Extent) → rank_of rule a ≤ rank_of rule a' → place (number_of (other_order_of rule)) o' ≤ place (number_of (other_order_of rule)) o
+    → answer_at rule a o ≡ Before → answer_at rule a' o' ≡ Before
 near_stays rule a a' o None h k e = refl
 near_stays rule a a' None (Some b') h k e = absurd (omega arith)
 near_stays rule a a' (Some b) (Some b') h k e = before_stays rule a b a' b' h (omega arith) e
 
 -- and rows behind one that is too far are too far
-far_stays : (rule : Rule) (a : Extent) (o o' : Option Extent) → place (λ e. e.begin) o ≤ place (λ e. e.begin) o' → answer_at rule a o ≡ Beyond → answer_at rule a o' ≡ Beyond
+far_stays : (rule : Rule) (a : Extent) (o o' : Option Extent) → place (number_of (other_order_of rule)) o ≤ place (number_of (other_order_of rule)) o' → answer_at rule a o ≡ Beyond → answer_at rule a o' ≡ Beyond
 far_stays rule a None o' k e = absurd cc
 far_stays rule a (Some b) None k e = absurd (omega arith)
 far_stays rule a (Some b) (Some b') k e = beyond_stays rule a b b' (omega arith) e
@@ -102,7 +102,7 @@ module _ (rule : Rule) (a : Extent) (first : List Datum) where
       unfolding pairs_with
       pairs_room e = omega (arith, room_for (pair_at rule a first) others j other below is, ap length (pair_is other Pair (sym e)))
 
-      module _ (rise : AreInOrder Begin others) where
+      module _ (rise : AreInOrder (other_order_of rule) others) where
         -- one that is too near, and so are those in front of it
         pub AreBefore-next : Before ≡ answer_at rule a other.span → AreBefore rule a others (j + 1)
         AreBefore-next e = record {
@@ -110,7 +110,7 @@ module _ (rule : Rule) (a : Extent) (first : List Datum) where
           each = λ k d l.
               let there = rise k j d (omega arith) below in
               let same : get_or others j d ≡ other = get_or_default others j d other below ∙ sym is in
-              near_stays rule a a other.span (get_or others k d).span (omega arith) (subst (λ (o : Entry). place (λ e. e.begin) (get_or others k d).span ≤ place (λ e. e.begin) o.span) same there) (sym e);
+              near_stays rule a a other.span (get_or others k d).span (omega arith) (subst (λ (o : Entry). place (number_of (other_order_of rule)) (get_or others k d).span ≤ place (number_of (other_order_of rule)) o.span) same there) (sym e);
         }
 
         -- one that is too far, and so are those behind it
@@ -120,7 +120,7 @@ module _ (rule : Rule) (a : Extent) (first : List Datum) where
             let there = rise j k d low high in
             let same : get_or others j d ≡ other = get_or_default others j d other below ∙ sym is in
             pair_is (get_or others k d) Beyond (far_stays rule a other.span (get_or others k d).span
-            (subst (λ (o : Entry). place (λ e. e.begin) o.span ≤ place (λ e. e.begin) (get_or others k d).span) same there) (sym e)))
+            (subst (λ (o : Entry). place (number_of (other_order_of rule)) o.span ≤ place (number_of (other_order_of rule)) (get_or others k d).span) same there) (sym e)))
 
 pub none_too_near : (rule : Rule) (a : Extent) (others : List Entry) → AreBefore rule a others 0
 none_too_near rule a others = record { in_list = omega arith; each = λ k d l. absurd (omega arith) }

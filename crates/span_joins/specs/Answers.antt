@@ -1,5 +1,5 @@
 -- What a test of one span against another tells a sweep that goes through the other spans by their begins.
-use Rattle.std.specs.Prelude.{ℕ, ◌≡◌, ◌-◌, Bool, true, false, cond, ◌&&◌, not, nat_lt, nat_le, ℤ, pos, int_le}
+use Rattle.std.specs.Prelude.{ℕ, ◌≡◌, ◌+◌, ◌-◌, Bool, true, false, cond, ◌&&◌, not, nat_lt, nat_le, ℤ, pos, int_le}
 use Rattle.span_token.specs.Extents.{Extent}
 use Rattle.span_token.specs.Documents.{LiesIn, characters}
 use Rattle.span_token.specs.Tokens.{tokens_of}
@@ -7,7 +7,7 @@ use Rattle.span_token.specs.Relations.{do_overlap, does_contain, does_follow, do
 use Rattle.span_joins.specs.declared.rule.Rule.{Rule}
 use Rattle.span_joins.specs.declared.rule.Rule.TheVariants.{Gap, Tokens, Contains, OverlapsFromLeft, OverlapsFromRight}
 use Rattle.span_joins.specs.declared.rule.By.{By}
-use Rattle.span_joins.specs.declared.rule.By.TheVariants.{Begin, End}
+use Rattle.span_joins.specs.declared.rule.By.TheVariants.{Begin, Place, End}
 use Rattle.span_joins.specs.declared.way.Way.{Way}
 use Rattle.span_joins.specs.declared.way.Way.TheVariants.{Swept, Met}
 use Rattle.span_joins.specs.declared.rule.Answer.{Answer}
@@ -25,11 +25,15 @@ by_count count low high a b = cond (nat_le a.end b.begin) (by_gap low high (coun
 abbrev pub by_begin : Bool → Bool → Bool → Answer
 by_begin before beyond pair = cond before Before (cond beyond Beyond (cond pair Pair Neither))
 
+-- by the begin, and of spans of one begin an empty one first
+abbrev pub place_of : Extent → ℕ
+place_of e = e.begin + e.begin + cond (nat_lt e.begin e.end) 1 0
+
 -- the answer of a rule
 abbrev pub answer_of : Rule → Extent → Extent → Answer
 answer_of (Gap low high) a b = by_count (λ from to. to - from) low high a b
 answer_of (Tokens doc low high) a b = by_count (tokens_between (tokens_of (characters doc.now))) low high a b
-answer_of Contains a b = by_begin (nat_lt b.begin a.begin) (nat_lt a.end b.begin) (does_contain a b)
+answer_of Contains a b = by_begin (nat_lt b.begin a.begin) (nat_lt (a.end + a.end) (place_of b)) (does_contain a b)
 answer_of OverlapsFromLeft a b =
     by_begin (nat_lt b.begin a.begin) (nat_lt a.begin b.begin && nat_le a.end b.begin) (do_overlap a b)
 answer_of OverlapsFromRight a b = by_begin (nat_le b.begin a.begin) (nat_le a.end b.begin) (do_overlap a b)
@@ -42,9 +46,18 @@ order_of Contains = Begin
 order_of OverlapsFromLeft = Begin
 order_of OverlapsFromRight = Begin
 
+-- the order of the others
+abbrev pub other_order_of : Rule → By
+other_order_of (Gap low high) = Begin
+other_order_of (Tokens doc low high) = Begin
+other_order_of Contains = Place
+other_order_of OverlapsFromLeft = Begin
+other_order_of OverlapsFromRight = Begin
+
 -- the number of a span that an order goes by
 abbrev pub number_of : By → Extent → ℕ
 number_of Begin e = e.begin
+number_of Place e = place_of e
 number_of End e = e.end
 
 -- what the first spans of a sweep rise by
@@ -98,6 +111,11 @@ test_by Met = do_overlap
 abbrev pub order_by : Way → By
 order_by (Swept rule) = order_of rule
 order_by Met = Begin
+
+-- and of its right rows
+abbrev pub right_order_by : Way → By
+right_order_by (Swept rule) = other_order_of rule
+right_order_by Met = Begin
 
 -- its tests are bounded
 abbrev pub is_bounded : Way → Bool

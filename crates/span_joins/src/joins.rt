@@ -100,7 +100,7 @@ pub fn join_follows_tok<'d, L: Ledger>(
 /// Spans that touch don't overlap; an empty span overlaps itself, and a span around its place. As
 /// `join_follows`, but no clause bounds the tests. Both sides are gone through at once by the begins of
 /// the spans: rows in order take two tests for each row, and one for each two rows of which one begins
-/// within the other.
+/// within the other or, where it is empty, with it.
 ///
 /// Meaning: `IsJoin` and `joined_where`, `specs/Joins.antt`; docs/LANGUAGE.md, "Joins".
 pub fn join_overlaps<'d, L: Ledger>(
@@ -126,9 +126,9 @@ pub fn join_overlaps<'d, L: Ledger>(
 
 /// The pairs of rows such that the span of the left row contains that of the right row.
 ///
-/// Each span contains itself. As `join_follows`, but both sides are taken by the begins of their spans, and
-/// no clause bounds the tests: rows in order take one for each row, and one for each left row and right
-/// row that begins within it or at its end.
+/// Each span contains itself. As `join_follows`, but both sides are taken by the begins of their spans, the
+/// right rows of one begin with an empty span first, and no clause bounds the tests: rows in order take one
+/// for each row, and one for each left row and right row that begins within it.
 ///
 /// Meaning: `IsJoin` and `joined_where`, `specs/Joins.antt`; docs/LANGUAGE.md, "Joins".
 pub fn join_contains<'d, L: Ledger>(

@@ -2,7 +2,7 @@ ghost use Rattle.std.specs.Prelude.{ℕ, ◌≡◌, ◌+◌, ◌-◌, ◌++◌, 
 ghost use Rattle.span_token.specs.Extents.{Extent};
 ghost use Rattle.aql_base.specs.Bags.{SameBag};
 ghost use Rattle.span_joins.specs.Joins.{place};
-ghost use Rattle.span_joins.specs.Answers.{number_of};
+ghost use Rattle.span_joins.specs.Answers.{number_of, other_order_of};
 ghost use Rattle.span_joins.specs.declared.rule.By.TheVariants.{Begin};
 ghost use Rattle.span_joins.specs.declared.rule.Answer.TheVariants.{Before};
 ghost use Rattle.span_joins.specs.declared.meet.Turn.TheVariants.{Left, LeftAlone, Right};
@@ -156,7 +156,7 @@ fn push_next<'d, L: Ledger>(
     requires first_within { IsWithinAny rule (entry_at firsts i).span }
     requires others_within { All (λ other. IsWithinAny rule other.span) (entries_of others) }
 
-    ensures pairs { AreInOrder Begin (entries_of others.entry) → ((a : Extent) → (entry_at firsts.entry i).span ≡ Some a → AreBefore rule.entry a (entries_of others.entry) j)
+    ensures pairs { AreInOrder (other_order_of rule.entry) (entries_of others.entry) → ((a : Extent) → (entry_at firsts.entry i).span ≡ Some a → AreBefore rule.entry a (entries_of others.entry) j)
         → IfOk result (λ rises. rises ≡ true → out.new.rows ≡ out.old.rows ++ pairs_from rule.entry (entry_at firsts.entry i).span (entry_at firsts.entry i).values (entries_of others.entry)) }
     ensures yes { IfOk result (λ rises. rises ≡ true → 0 < i → place (number_of Begin) (entry_at firsts.entry (i - 1)).span ≤ place (number_of Begin) (entry_at firsts.entry i).span) }
     ensures proper { IfOk result (λ rises. rises ≡ true → IsProper (entry_at firsts.entry i).span) }

@@ -6,7 +6,7 @@ ghost use Rattle.span_token.specs.Relations.{tokens_between};
 ghost use Rattle.std.specs.Option.{option_map};
 ghost use Rattle.span_joins.specs.declared.rule.Answer.TheVariants.{Pair};
 ghost use Rattle.span_joins.specs.Sweeps.{IsWithinAny, answer_at};
-ghost use Rattle.span_joins.specs.Answers.{answer_of, by_gap as gap_answer, by_begin as begin_answer, order_of, IsWithin};
+ghost use Rattle.span_joins.specs.Answers.{answer_of, by_gap as gap_answer, by_begin as begin_answer, order_of, other_order_of, place_of as place_number, IsWithin};
 
 use aql_base::Steps;
 use span_token::{Document, Span, between, contains, overlaps};
@@ -32,6 +32,8 @@ pub(crate) enum Rule<'a, 'b> {
 pub(crate) enum By {
     /// The begins of their spans.
     Begin,
+    /// The begins of their spans, and of spans of one begin an empty one first.
+    Place,
     /// The ends of their spans.
     End,
 }
@@ -44,6 +46,17 @@ impl Rule<'_, '_> {
     {
         match self {
             Rule::Gap(_, _) | Rule::Tokens(_, _, _) => By::End,
+            _ => By::Begin,
+        }
+    }
+
+    /// The order of the others.
+    #[inline(always)]
+    pub(crate) fn other_order(self) -> By
+        ensures { result ≡ other_order_of self.entry }
+    {
+        match self {
+            Rule::Contains => By::Place,
             _ => By::Begin,
         }
     }
@@ -121,7 +134,7 @@ fn answered(rule: Rule<'_, '_>, first: Span, other: Span) -> Answer
         }
         Rule::Contains => by_begin(
             other.begin < first.begin,
-            first.end < other.begin,
+            2 * u64::from(first.end) < place_of(other),
             contains(first, other),
         ),
         Rule::OverlapsFromLeft => by_begin(
@@ -135,6 +148,14 @@ fn answered(rule: Rule<'_, '_>, first: Span, other: Span) -> Answer
             overlaps(first, other),
         ),
     }
+}
+
+/// Where a span stands by its begin, and of spans of one begin an empty one first.
+#[inline(always)]
+pub(crate) fn place_of(span: Span) -> u64
+    ensures { result ≡ place_number (extent_of span) }
+{
+    2 * u64::from(span.begin) + u64::from(span.begin < span.end)
 }
 
 /// The answer by how much lies between.

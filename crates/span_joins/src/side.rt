@@ -6,7 +6,7 @@ ghost use Rattle.span_joins.specs.Answers.{number_of};
 ghost use Rattle.span_joins.specs.Joins.{place as place_of, span_in as row_span};
 ghost use Rattle.span_joins.specs.Sweeps.{AreInOrder, IsLast, IsProper, entries_of, entry_of, entry_at};
 
-use crate::rule::By;
+use crate::rule::{By, place_of as place_number};
 use row_values::{Row, Value};
 use span_token::{OutOfMemory, Span};
 use std::alloc::Global;
@@ -125,6 +125,7 @@ fn place(by: By, span: Option<Span>) -> u64
         None => 0,
         Some(span) => match by {
             By::Begin => u64::from(span.begin) + 1,
+            By::Place => place_number(span) + 1,
             By::End => u64::from(span.end) + 1,
         },
     }

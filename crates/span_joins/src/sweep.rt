@@ -1,8 +1,7 @@
 ghost use Rattle.std.specs.Prelude.{ℕ, ◌≡◌, ◌+◌, ◌++◌, ◌<◌, ◌≤◌, ◌∷◌, [], true, false, IfOk, OnOk, OnErr, IsTrue, length, take, All};
 ghost use Rattle.std.specs.Option.{option_map};
 ghost use Rattle.span_token.specs.Extents.{extent_of};
-ghost use Rattle.span_joins.specs.Answers.{IsWithin, is_exact, is_turned, order_of};
-ghost use Rattle.span_joins.specs.declared.rule.By.TheVariants.{Begin};
+ghost use Rattle.span_joins.specs.Answers.{IsWithin, is_exact, order_of, other_order_of};
 ghost use Rattle.span_joins.specs.declared.rule.Answer.TheVariants.{Before};
 ghost use Rattle.span_joins.specs.Sweeps.{AreBefore, AreInOrder, HaveWidth, IsLast, IsProper, IsWithinAny, all_pairs, answer_at, entries_of, entry_at, pairs_with, row_of};
 
@@ -16,7 +15,7 @@ use std::sync::ledger::Ledger;
 
 /// Puts the pairs of all first rows with the others after the rows of `out`.
 ///
-/// The first rows have to be in the order of the rule, and the others in that of their begins. That is
+/// The first rows and the others have to be in the two orders of the rule. That is
 /// looked at in passing: where they aren't, the result is false, and the rows that were put may be any.
 #[inline(always)]
 pub(crate) fn sweep<'d, L: Ledger>(
@@ -31,11 +30,11 @@ pub(crate) fn sweep<'d, L: Ledger>(
     requires firsts_within { All (λ first. IsWithinAny rule first.span) (entries_of firsts) }
     requires others_within { All (λ other. IsWithinAny rule other.span) (entries_of others) }
 
-    ensures pairs { AreInOrder (order_of rule.entry) (entries_of firsts.entry) → AreInOrder Begin (entries_of others.entry)
+    ensures pairs { AreInOrder (order_of rule.entry) (entries_of firsts.entry) → AreInOrder (other_order_of rule.entry) (entries_of others.entry)
         → OnOk result (out.new.rows ≡ out.old.rows ++ all_pairs rule.entry (entries_of firsts.entry) (entries_of others.entry)) }
-    ensures in_order { AreInOrder (order_of rule.entry) (entries_of firsts.entry) → AreInOrder Begin (entries_of others.entry) → IfOk result (λ seen. seen ≡ true) }
+    ensures in_order { AreInOrder (order_of rule.entry) (entries_of firsts.entry) → AreInOrder (other_order_of rule.entry) (entries_of others.entry) → IfOk result (λ seen. seen ≡ true) }
     ensures firsts_seen { IfOk result (λ seen. seen ≡ true → AreInOrder (order_of rule.entry) (entries_of firsts.entry)) }
-    ensures others_seen { IfOk result (λ seen. seen ≡ true → AreInOrder Begin (entries_of others.entry)) }
+    ensures others_seen { IfOk result (λ seen. seen ≡ true → AreInOrder (other_order_of rule.entry) (entries_of others.entry)) }
     ensures proper { IfOk result (λ seen. seen ≡ true → All (λ other. IsProper other.span) (entries_of others.entry)) }
 
     ensures width { out.new.width ≡ out.old.width }
@@ -47,7 +46,7 @@ pub(crate) fn sweep<'d, L: Ledger>(
     let (mut last_first, mut last_other) = (0, 0);
     for i in 0..firsts.len() {
         let rises = firsts.rises_at(rule.order(), i, &mut last_first);
-        if !others.rises_at(By::Begin, i, &mut last_other) || !rises {
+        if !others.rises_at(rule.other_order(), i, &mut last_other) || !rises {
             return Ok(false);
         }
         if let Some(first) = firsts.span(i) {
@@ -55,21 +54,21 @@ pub(crate) fn sweep<'d, L: Ledger>(
             from = push_pairs(alloc, rule, first, row, others, from, out, steps)?;
         }
     }
-    Ok(rises_from(others, firsts.len(), last_other))
+    Ok(rises_from(others, rule.other_order(), firsts.len(), last_other))
 }
 
-/// Whether the rows from number `from` on go on in the order of their begins; `last` is the place of the
+/// Whether the rows from number `from` on go on in an order; `last` is the place of the
 /// row in front of them.
-fn rises_from(side: Side<'_, '_>, from: usize, mut last: u64) -> bool
-    requires last { IsLast Begin (entries_of side) from last }
-    requires rises { AreInOrder Begin (take from (entries_of side)) }
+fn rises_from(side: Side<'_, '_>, by: By, from: usize, mut last: u64) -> bool
+    requires last { IsLast by (entries_of side) from last }
+    requires rises { AreInOrder by (take from (entries_of side)) }
     requires proper { All (λ entry. IsProper entry.span) (take from (entries_of side)) }
-    ensures yes { result ≡ true → AreInOrder Begin (entries_of side.entry) }
+    ensures yes { result ≡ true → AreInOrder by (entries_of side.entry) }
     ensures proper { result ≡ true → All (λ entry. IsProper entry.span) (entries_of side.entry) }
-    ensures always { AreInOrder Begin (entries_of side.entry) → result ≡ true }
+    ensures always { AreInOrder by (entries_of side.entry) → result ≡ true }
 {
     for i in from..side.len() {
-        if !side.rises_at(By::Begin, i, &mut last) {
+        if !side.rises_at(by, i, &mut last) {
             return false;
         }
     }
@@ -94,9 +93,9 @@ pub(crate) fn push_pairs<'d, L: Ledger>(
     requires first_within { IsWithin rule (extent_of first) }
     requires others_within { All (λ other. IsWithinAny rule other.span) (entries_of others) }
 
-    ensures pairs { AreInOrder Begin (entries_of others.entry) → AreBefore rule.entry (extent_of first) (entries_of others.entry) from
+    ensures pairs { AreInOrder (other_order_of rule.entry) (entries_of others.entry) → AreBefore rule.entry (extent_of first) (entries_of others.entry) from
         → OnOk result (out.new.rows ≡ out.old.rows ++ pairs_with rule.entry (extent_of first) row.now (entries_of others.entry)) }
-    ensures before { AreInOrder Begin (entries_of others.entry) → AreBefore rule.entry (extent_of first) (entries_of others.entry) from
+    ensures before { AreInOrder (other_order_of rule.entry) (entries_of others.entry) → AreBefore rule.entry (extent_of first) (entries_of others.entry) from
         → IfOk result (AreBefore rule.entry (extent_of first) (entries_of others.entry)) }
 
     ensures still { ((k : ℕ) → from ≤ k → k < length (entries_of others.entry) → answer_at rule.entry (extent_of first) (entry_at others.entry k).span ≡ Before → ⊥) → IfOk result (λ next. next ≡ from) }

@@ -1,7 +1,6 @@
 ghost use Rattle.std.specs.Prelude.{◌≡◌, ◌+◌, ◌*◌, ◌++◌, ◌≤◌, [], true, IfOk, OnOk, IsTrue, length, All};
 ghost use Rattle.aql_base.specs.Bags.{SameBag};
-ghost use Rattle.span_joins.specs.Answers.{IsStraight, is_bounded, order_by, test_by};
-ghost use Rattle.span_joins.specs.declared.rule.By.TheVariants.{Begin};
+ghost use Rattle.span_joins.specs.Answers.{IsStraight, is_bounded, order_by, right_order_by, test_by};
 ghost use Rattle.span_joins.specs.Sweeps.{AreInOrder, HaveWidth, IsProper, MayMeetAny, entries_of, pairs_of};
 
 use crate::meet::meet;
@@ -33,6 +32,16 @@ impl Way<'_, '_> {
             Way::Met => By::Begin,
         }
     }
+
+    /// The order that the right rows have to be in.
+    fn right_order(self) -> By
+        ensures { result ≡ right_order_by self.entry }
+    {
+        match self {
+            Way::Swept(rule) => rule.other_order(),
+            Way::Met => By::Begin,
+        }
+    }
 }
 
 /// Fills `out`, which has no row, with the pairs of two sides in any order.
@@ -51,7 +60,7 @@ pub(crate) fn put<'d, L: Ledger>(
     requires rights_within { All (λ right. MayMeetAny way right.span) (entries_of rights) }
     ensures pairs { OnOk result (SameBag out.new.rows (pairs_of (test_by way.entry) (entries_of lefts.entry) (entries_of rights.entry))) }
     ensures width { out.new.width ≡ out.old.width }
-    ensures bound { IsTrue (is_bounded way.entry) → AreInOrder (order_by way.entry) (entries_of lefts.entry) → AreInOrder Begin (entries_of rights.entry)
+    ensures bound { IsTrue (is_bounded way.entry) → AreInOrder (order_by way.entry) (entries_of lefts.entry) → AreInOrder (right_order_by way.entry) (entries_of rights.entry)
         → steps.new ≤ steps.old + (length (entries_of lefts.entry) + length (entries_of rights.entry) + length (pairs_of (test_by way.entry) (entries_of lefts.entry) (entries_of rights.entry))) }
     ensures bound_in_any_order { IsTrue (is_bounded way.entry) → steps.new ≤ steps.old + 2 * (length (entries_of lefts.entry) + length (entries_of rights.entry) + length (pairs_of (test_by way.entry) (entries_of lefts.entry) (entries_of rights.entry))) }
     ensures counted { OnOk result (steps.old + length out.new.rows ≤ steps.new) }
@@ -84,7 +93,7 @@ fn put_sorted<'d, L: Ledger>(
     ensures grows { steps.old ≤ steps.new }
 {
     let left_keys = lefts.sorted(alloc, way.order())?;
-    let right_keys = rights.sorted(alloc, By::Begin)?;
+    let right_keys = rights.sorted(alloc, way.right_order())?;
     let lefts = Side::Sorted(left_keys.as_slice());
     let rights = Side::Sorted(right_keys.as_slice());
     put_in_order(alloc, way, lefts, rights, out, steps)?;
@@ -93,8 +102,7 @@ fn put_sorted<'d, L: Ledger>(
 
 /// Puts the pairs of two sides after the rows of `out`.
 ///
-/// The left rows have to be in the order of the way, and the right ones in that of their begins. That is
-/// looked at in passing: where they aren't, the result is false, and the rows that were put may be any.
+/// The left and the right rows have to be in the two orders of the way. That is looked at in passing: where they aren't, the result is false, and the rows that were put may be any.
 fn put_in_order<'d, L: Ledger>(
     alloc: Global,
     way: Way<'_, '_>,
@@ -108,11 +116,11 @@ fn put_in_order<'d, L: Ledger>(
     requires lefts_within { All (λ left. MayMeetAny way left.span) (entries_of lefts) }
     requires rights_within { All (λ right. MayMeetAny way right.span) (entries_of rights) }
 
-    ensures pairs { AreInOrder (order_by way.entry) (entries_of lefts.entry) → AreInOrder Begin (entries_of rights.entry) → All (λ right. IsProper right.span) (entries_of rights.entry)
+    ensures pairs { AreInOrder (order_by way.entry) (entries_of lefts.entry) → AreInOrder (right_order_by way.entry) (entries_of rights.entry) → All (λ right. IsProper right.span) (entries_of rights.entry)
         → OnOk result (SameBag out.new.rows (out.old.rows ++ pairs_of (test_by way.entry) (entries_of lefts.entry) (entries_of rights.entry))) }
-    ensures in_order { AreInOrder (order_by way.entry) (entries_of lefts.entry) → AreInOrder Begin (entries_of rights.entry) → IfOk result (λ seen. seen ≡ true) }
+    ensures in_order { AreInOrder (order_by way.entry) (entries_of lefts.entry) → AreInOrder (right_order_by way.entry) (entries_of rights.entry) → IfOk result (λ seen. seen ≡ true) }
     ensures lefts_seen { IfOk result (λ seen. seen ≡ true → AreInOrder (order_by way.entry) (entries_of lefts.entry)) }
-    ensures rights_seen { IfOk result (λ seen. seen ≡ true → AreInOrder Begin (entries_of rights.entry)) }
+    ensures rights_seen { IfOk result (λ seen. seen ≡ true → AreInOrder (right_order_by way.entry) (entries_of rights.entry)) }
     ensures proper { IfOk result (λ seen. seen ≡ true → All (λ right. IsProper right.span) (entries_of rights.entry)) }
 
     ensures width { out.new.width ≡ out.old.width }

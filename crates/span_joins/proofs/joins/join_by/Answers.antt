@@ -1,13 +1,14 @@
-use Rattle.std.proofs.Common.{◌≡◌, ℕ, List, length, map, All, ap, ap₂, sym, subst, ◌∙◌, arith}
+use Rattle.std.proofs.Common.{◌≡◌, ℕ, List, length, map, All, ap, ap₂, sym, true, subst, ◌∙◌, arith}
 use Rattle.std.proofs.lemmas.List.{length-map}
 use Rattle.aql_base.specs.Bags.{SameBag}
 use Rattle.row_values.specs.Datums.{Datum}
 use Rattle.row_values.specs.Rows.{RowList}
 use Rattle.span_joins.specs.declared.rule.By.{By}
 use Rattle.span_joins.specs.declared.way.Way.{Way}
-use Rattle.span_joins.specs.declared.rule.By.TheVariants.{Begin}
+use Rattle.span_joins.specs.declared.way.Way.TheVariants.{Swept, Met}
+use Rattle.span_joins.specs.declared.rule.Rule.TheVariants.{Gap, Tokens, Contains, OverlapsFromLeft, OverlapsFromRight}
 use Rattle.span_joins.specs.Joins.{joined_where, spans_in, DoRise}
-use Rattle.span_joins.specs.Answers.{number_of, order_by, test_by, MayMeet}
+use Rattle.span_joins.specs.Answers.{number_of, order_by, right_order_by, is_bounded, test_by, MayMeet}
 use Rattle.span_joins.specs.Sweeps.{entry, pairs_of, AreInOrder}
 use Rattle.span_joins.proofs.OrderLaws.{in_order-rows}
 use Rattle.span_joins.proofs.PairLaws.{joined_where-entries, have_width-rows, may_meet-rows}
@@ -35,11 +36,20 @@ pairs_are way lc rc left right ls rs p q = ap₂ (λ (xs ys : List (List Datum))
 are_in_order : (by : By) (column : ℕ) (rows ls : List (List Datum)) → ls ≡ rows → DoRise (number_of by) column rows → AreInOrder by (map (entry column) ls)
 are_in_order by column rows ls p h = in_order-rows by column ls (subst (λ (xs : List (List Datum)). DoRise (number_of by) column xs) (sym p) h)
 
+-- the right rows of a bounded way are taken by their begins
+bounded_rise : (way : Way) (column : ℕ) (rows : List (List Datum)) → is_bounded way ≡ true → DoRise (λ e. e.begin) column rows → DoRise (number_of (right_order_by way)) column rows
+bounded_rise (Swept (Gap low high)) column rows e h = h
+bounded_rise (Swept (Tokens doc low high)) column rows e h = h
+bounded_rise (Swept Contains) column rows e h = absurd cc
+bounded_rise (Swept OverlapsFromLeft) column rows e h = absurd cc
+bounded_rise (Swept OverlapsFromRight) column rows e h = absurd cc
+bounded_rise Met column rows e h = absurd cc
+
 pub returns-in_err-put-clause-bound : goal.returns-in_err-put-clause-bound
 returns-in_err-put-clause-bound g c bounded up rise =
     omega (
       arith,
-      c.in_err-put.ensures.bound bounded (are_in_order (order_by c.args.way) c.args.lc c.args.left.now.rows c.as_slice.result.now c.as_slice.ensures up) (are_in_order Begin c.args.rc c.args.right.now.rows c.as_slice-2.result.now c.as_slice-2.ensures rise),
+      c.in_err-put.ensures.bound bounded (are_in_order (order_by c.args.way) c.args.lc c.args.left.now.rows c.as_slice.result.now c.as_slice.ensures up) (are_in_order (right_order_by c.args.way) c.args.rc c.args.right.now.rows c.as_slice-2.result.now c.as_slice-2.ensures (bounded_rise c.args.way c.args.rc c.args.right.now.rows bounded rise)),
       ap length c.as_slice.ensures,
       ap length c.as_slice-2.ensures,
       length-map c.as_slice.result.now (entry c.args.lc),
@@ -68,7 +78,7 @@ pub returns-clause-bound : goal.returns-clause-bound
 returns-clause-bound g c bounded up rise =
     omega (
       arith,
-      c.in_ok-put.ensures.bound bounded (are_in_order (order_by c.args.way) c.args.lc c.args.left.now.rows c.as_slice.result.now c.as_slice.ensures up) (are_in_order Begin c.args.rc c.args.right.now.rows c.as_slice-2.result.now c.as_slice-2.ensures rise),
+      c.in_ok-put.ensures.bound bounded (are_in_order (order_by c.args.way) c.args.lc c.args.left.now.rows c.as_slice.result.now c.as_slice.ensures up) (are_in_order (right_order_by c.args.way) c.args.rc c.args.right.now.rows c.as_slice-2.result.now c.as_slice-2.ensures (bounded_rise c.args.way c.args.rc c.args.right.now.rows bounded rise)),
       ap length c.as_slice.ensures,
       ap length c.as_slice-2.ensures,
       length-map c.as_slice.result.now (entry c.args.lc),

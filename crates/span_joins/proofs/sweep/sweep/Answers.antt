@@ -4,9 +4,8 @@ use Rattle.span_token.specs.Extents.{Extent, extent_of}
 use Rattle.row_values.specs.Datums.{Datum}
 use Rattle.row_values.specs.Rows.{RowList}
 use Rattle.span_joins.specs.declared.rule.By.{By}
-use Rattle.span_joins.specs.declared.rule.By.TheVariants.{Begin}
 use Rattle.span_joins.specs.Joins.{place}
-use Rattle.span_joins.specs.Answers.{number_of, order_of}
+use Rattle.span_joins.specs.Answers.{number_of, order_of, other_order_of}
 use Rattle.span_joins.specs.Sweeps.{Entry, entries_of, entry_at, no_entry, pairs_with, pairs_from, all_pairs, AreBefore, AreInOrder, IsLast}
 use Rattle.span_joins.proofs.OrderLaws.{none_of, in_order-next, proper-next}
 use Rattle.span_joins.proofs.SweepLaws.{none_too_near, all_pairs_none, AreBefore-later, all_pairs_more, all_pairs_room, all_pairs_within}
@@ -70,7 +69,8 @@ loop-i-preserved g c =
     let so_far = c.loop-i.invariant in
     let more = all_pairs_more rule firsts others i first below is in
     let firsts_seen = in_order-next firsts i (order_of rule) so_far.firsts_seen (λ low. rw (← c.order.ensures) (c.rises_at-rises.ensures.yes c.if-not-rises.false low)) in
-    let others_seen = in_order-next others i Begin so_far.others_seen (λ low. c.rises_at.ensures.yes c.if-not-rises_at.false low) in
+    let others_seen = in_order-next others i (other_order_of rule) so_far.others_seen (λ low. rw (← c.other_order.ensures) (c.rises_at.ensures.yes c.if-not-rises_at.false low)) in
+    let last_other : IsLast (other_order_of rule) others (i + 1) c.rises_at.new.last = rw (← c.other_order.ensures) c.rises_at.ensures.last in
     let last_first : IsLast (order_of rule) firsts (i + 1) c.rises_at-rises.new.last = rw (← c.order.ensures) c.rises_at-rises.ensures.last in
     let proper = proper-next others i so_far.proper c.rises_at.ensures.proper in
     elim c.match-span.branch [
@@ -80,10 +80,10 @@ loop-i-preserved g c =
           let pairs : pairs_from rule first.span first.values others ≡ pairs_with rule a w.row-row.result.now others =
           ap₂ (λ o row. pairs_from rule o row others) at (sym w.row-row.ensures) in
           let both = more ∙ ap (λ (rows : List (List Datum)). all_pairs rule (take i firsts) others ++ rows) pairs in
-          let known : AreInOrder (order_of rule) firsts → AreInOrder Begin others → AreBefore rule a others c.loop-i.from = λ up rise. so_far.before up rise i no_entry a (omega arith) below at in
+          let known : AreInOrder (order_of rule) firsts → AreInOrder (other_order_of rule) others → AreBefore rule a others c.loop-i.from = λ up rise. so_far.before up rise i no_entry a (omega arith) below at in
           record {
             last_first = last_first;
-            last_other = c.rises_at.ensures.last;
+            last_other = last_other;
             before = λ up rise k d b low high is_b.
                 rw w.from-is (AreBefore-later rule a b others w.in_ok-from.from
                 (later (order_of rule) firsts up i k d a b (omega arith) high at is_b)
@@ -107,7 +107,7 @@ loop-i-preserved g c =
           more ∙ ap (λ (o : Option Extent). all_pairs rule (take i firsts) others ++ pairs_from rule o first.values others) at ∙ append-nil _ in
           record {
             last_first = last_first;
-            last_other = c.rises_at.ensures.last;
+            last_other = last_other;
             before = λ up rise k d b low high is_b. rw w.from-is (so_far.before up rise k d b (omega arith) high is_b);
             pairs = λ up rise. ap (λ (r : RowList). r.rows) w.out-is ∙ so_far.pairs up rise ∙ ap (λ (rows : List (List Datum)). old ++ rows) (sym same);
             firsts_seen = firsts_seen;

@@ -7,7 +7,7 @@ use Rattle.span_joins.specs.declared.rule.Rule.{Rule}
 use Rattle.span_joins.specs.declared.rule.Rule.TheVariants.{OverlapsFromLeft, OverlapsFromRight}
 use Rattle.span_joins.specs.declared.way.Way.{Way}
 use Rattle.span_joins.specs.declared.way.Way.TheVariants.{Swept, Met}
-use Rattle.span_joins.specs.Answers.{order_by, is_bounded, test_by, IsStraight}
+use Rattle.span_joins.specs.Answers.{order_by, right_order_by, is_bounded, test_by, IsStraight}
 use Rattle.span_joins.specs.Sweeps.{Entry, entries_of, pairs_of, all_pairs, AreInOrder, IsProper}
 use Rattle.span_joins.proofs.PairLaws.{swept-pairs, exact-pairs, met-pairs}
 use Rattle.span_joins.proofs.way.put_in_order.Goals as goal
@@ -24,7 +24,7 @@ met way ls rs old new is rows =
 pub returns-in-Gap-InPlace-InPlace-clause-pairs : goal.returns-in-Gap-InPlace-InPlace-clause-pairs
 returns-in-Gap-InPlace-InPlace-clause-pairs g c up rise proper =
     on_ok_weaker c.sweep.result (swept c.args.way c.in-Swept.rule (entries_of c.args.lefts) (entries_of c.args.rights) c.args.out.now.rows c.sweep.new.out.rows c.in-Swept.is c.requires.straight proper)
-    (c.sweep.ensures.pairs (subst (λ w. AreInOrder (order_by w) (entries_of c.args.lefts)) c.in-Swept.is up) rise)
+    (c.sweep.ensures.pairs (subst (λ w. AreInOrder (order_by w) (entries_of c.args.lefts)) c.in-Swept.is up) (subst (λ w. AreInOrder (right_order_by w) (entries_of c.args.rights)) c.in-Swept.is rise))
 
 pub returns-in-Gap-InPlace-InPlace-clause-bound : goal.returns-in-Gap-InPlace-InPlace-clause-bound
 returns-in-Gap-InPlace-InPlace-clause-bound g c bounded =
@@ -33,7 +33,7 @@ returns-in-Gap-InPlace-InPlace-clause-bound g c bounded =
 pub returns-in-Contains-InPlace-InPlace-clause-pairs : goal.returns-in-Contains-InPlace-InPlace-clause-pairs
 returns-in-Contains-InPlace-InPlace-clause-pairs g c up rise proper =
     on_ok_weaker c.sweep-in-Contains-InPlace-InPlace.result (swept c.args.way c.in-Swept.rule (entries_of c.args.lefts) (entries_of c.args.rights) c.args.out.now.rows c.sweep-in-Contains-InPlace-InPlace.new.out.rows c.in-Swept.is c.requires.straight proper)
-    (c.sweep-in-Contains-InPlace-InPlace.ensures.pairs (subst (λ w. AreInOrder (order_by w) (entries_of c.args.lefts)) c.in-Swept.is up) rise)
+    (c.sweep-in-Contains-InPlace-InPlace.ensures.pairs (subst (λ w. AreInOrder (order_by w) (entries_of c.args.lefts)) c.in-Swept.is up) (subst (λ w. AreInOrder (right_order_by w) (entries_of c.args.rights)) c.in-Swept.is rise))
 
 pub returns-in-Contains-InPlace-InPlace-clause-lefts_seen : goal.returns-in-Contains-InPlace-InPlace-clause-lefts_seen
 returns-in-Contains-InPlace-InPlace-clause-lefts_seen g c =
@@ -42,7 +42,7 @@ returns-in-Contains-InPlace-InPlace-clause-lefts_seen g c =
 pub returns-in_default-clause-pairs : goal.returns-in_default-clause-pairs
 returns-in_default-clause-pairs g c up rise proper =
     on_ok_weaker c.sweep-in_default.result (swept c.args.way c.in-Swept.rule (entries_of c.args.lefts) (entries_of c.args.rights) c.args.out.now.rows c.sweep-in_default.new.out.rows c.in-Swept.is c.requires.straight proper)
-    (c.sweep-in_default.ensures.pairs (subst (λ w. AreInOrder (order_by w) (entries_of c.args.lefts)) c.in-Swept.is up) rise)
+    (c.sweep-in_default.ensures.pairs (subst (λ w. AreInOrder (order_by w) (entries_of c.args.lefts)) c.in-Swept.is up) (subst (λ w. AreInOrder (right_order_by w) (entries_of c.args.rights)) c.in-Swept.is rise))
 
 pub returns-in_default-clause-bound : goal.returns-in_default-clause-bound
 returns-in_default-clause-bound g c bounded =
@@ -51,7 +51,7 @@ returns-in_default-clause-bound g c bounded =
 pub returns-in-InPlace-InPlace-clause-pairs : goal.returns-in-InPlace-InPlace-clause-pairs
 returns-in-InPlace-InPlace-clause-pairs g c up rise proper =
     on_ok_weaker c.meet.result (met c.args.way (entries_of c.args.lefts) (entries_of c.args.rights) c.args.out.now.rows c.meet.new.out.rows c.in-Met.is)
-    (c.meet.ensures.pairs (subst (λ w. AreInOrder (order_by w) (entries_of c.args.lefts)) c.in-Met.is up) rise)
+    (c.meet.ensures.pairs (subst (λ w. AreInOrder (order_by w) (entries_of c.args.lefts)) c.in-Met.is up) (subst (λ w. AreInOrder (right_order_by w) (entries_of c.args.rights)) c.in-Met.is rise))
 
 pub returns-in-InPlace-InPlace-clause-lefts_seen : goal.returns-in-InPlace-InPlace-clause-lefts_seen
 returns-in-InPlace-InPlace-clause-lefts_seen g c =
@@ -60,8 +60,20 @@ returns-in-InPlace-InPlace-clause-lefts_seen g c =
 pub returns-in_default-2-clause-pairs : goal.returns-in_default-2-clause-pairs
 returns-in_default-2-clause-pairs g c up rise proper =
     on_ok_weaker c.meet-in_default-2.result (met c.args.way (entries_of c.args.lefts) (entries_of c.args.rights) c.args.out.now.rows c.meet-in_default-2.new.out.rows c.in-Met.is)
-    (c.meet-in_default-2.ensures.pairs (subst (λ w. AreInOrder (order_by w) (entries_of c.args.lefts)) c.in-Met.is up) rise)
+    (c.meet-in_default-2.ensures.pairs (subst (λ w. AreInOrder (order_by w) (entries_of c.args.lefts)) c.in-Met.is up) (subst (λ w. AreInOrder (right_order_by w) (entries_of c.args.rights)) c.in-Met.is rise))
 
 pub returns-in_default-2-clause-lefts_seen : goal.returns-in_default-2-clause-lefts_seen
 returns-in_default-2-clause-lefts_seen g c =
     IfOk-weaker c.meet-in_default-2.result _ _ (λ seen h yes. subst (λ w. AreInOrder (order_by w) (entries_of c.args.lefts)) (sym c.in-Met.is) (h yes)) c.meet-in_default-2.ensures.lefts_seen
+
+pub returns-in-Contains-InPlace-InPlace-clause-rights_seen : goal.returns-in-Contains-InPlace-InPlace-clause-rights_seen
+returns-in-Contains-InPlace-InPlace-clause-rights_seen g c =
+    IfOk-weaker c.sweep-in-Contains-InPlace-InPlace.result _ _ (λ seen h yes. subst (λ w. AreInOrder (right_order_by w) (entries_of c.args.rights)) (sym c.in-Swept.is) (h yes)) c.sweep-in-Contains-InPlace-InPlace.ensures.others_seen
+
+pub returns-in-InPlace-InPlace-clause-rights_seen : goal.returns-in-InPlace-InPlace-clause-rights_seen
+returns-in-InPlace-InPlace-clause-rights_seen g c =
+    IfOk-weaker c.meet.result _ _ (λ seen h yes. subst (λ w. AreInOrder (right_order_by w) (entries_of c.args.rights)) (sym c.in-Met.is) (h yes)) c.meet.ensures.rights_seen
+
+pub returns-in_default-2-clause-rights_seen : goal.returns-in_default-2-clause-rights_seen
+returns-in_default-2-clause-rights_seen g c =
+    IfOk-weaker c.meet-in_default-2.result _ _ (λ seen h yes. subst (λ w. AreInOrder (right_order_by w) (entries_of c.args.rights)) (sym c.in-Met.is) (h yes)) c.meet-in_default-2.ensures.rights_seen

@@ -3,7 +3,6 @@ use Rattle.std.specs.List.Sorted.{IsPermutation}
 use Rattle.std.proofs.lemmas.List.Sorted.{All-permutation, length_permutation}
 use Rattle.aql_base.proofs.Bags.{SameBag-append, SameBag-refl, SameBag-sym, SameBag-trans}
 use Rattle.span_joins.specs.declared.rule.By.{By}
-use Rattle.span_joins.specs.declared.rule.By.TheVariants.{Begin}
 use Rattle.span_joins.specs.declared.side.Key.{Key}
 use Rattle.span_joins.specs.Answers.{test_by}
 use Rattle.span_joins.specs.Sweeps.{Entry, entries_of, entry_of, pairs_of, AreInOrder, IsProper, MayMeetAny}
@@ -53,9 +52,9 @@ returns-clause-pairs g c =
     let lefts = borrowed ls c.in_ok-left_keys.left_keys.items c.as_slice.result.now c.as_slice.ensures.value c.in_ok-left_keys.ensures.same in
     let rights = borrowed rs c.in_ok-right_keys.right_keys.items c.as_slice-2.result.now c.as_slice-2.ensures.value c.in_ok-right_keys.ensures.same in
     let up = subst (λ (xs : List Key). AreInOrder c.order.result (map entry_of xs)) (sym c.as_slice.ensures.value) c.in_ok-left_keys.ensures.sorted in
-    let rise = subst (λ (xs : List Key). AreInOrder Begin (map entry_of xs)) (sym c.as_slice-2.ensures.value) c.in_ok-right_keys.ensures.sorted in
+    let rise = subst (λ (xs : List Key). AreInOrder c.right_order.result (map entry_of xs)) (sym c.as_slice-2.ensures.value) c.in_ok-right_keys.ensures.sorted in
     let proper = subst (λ (xs : List Key). All (λ (e : Entry). IsProper e.span) (map entry_of xs)) (sym c.as_slice-2.ensures.value) c.in_ok-right_keys.ensures.proper in
-    SameBag-trans _ _ _ (c.in_ok-put_in_order.ensures.pairs (subst (λ (by : By). AreInOrder by ls') c.order.ensures up) rise proper)
+    SameBag-trans _ _ _ (c.in_ok-put_in_order.ensures.pairs (subst (λ (by : By). AreInOrder by ls') c.order.ensures up) (subst (λ (by : By). AreInOrder by rs') c.right_order.ensures rise) proper)
     (SameBag-append old old _ _ (SameBag-refl old) (SameBag-sym (pairs_of test ls rs) (pairs_of test ls' rs') (pairs_of-SameBag test ls ls' rs rs' lefts rights)))
 
 pub returns-clause-bound : goal.returns-clause-bound
