@@ -2,6 +2,7 @@
 
 usage: layers.py AQL_BENCH LAYERS FILE.txt ROUNDS [NAME ..]
 """
+import pathlib
 import re
 import subprocess
 import sys
@@ -17,25 +18,26 @@ SPOKEN = re.compile(r"^(\S+): (\d+) MB/s, best of \d+, (\d+) us, came to (\d+)$"
 
 
 def run(program, name, file, rounds):
-    """The speed in MB a second that a program prints for a bench, and what it came to."""
+    """The microseconds of the best round that a program prints for a bench, and what it came to."""
     ended = subprocess.run([program, name, file, rounds], stderr=subprocess.PIPE, text=True)
     said = SPOKEN.match(ended.stderr.strip())
     if ended.returncode != 0 or not said:
         sys.exit(f"{program} {name} ended with status {ended.returncode}: {ended.stderr.strip()}")
-    return int(said[2]), said[4]
+    return int(said[3]), said[4]
 
 
 def main():
     ours, rust, file, rounds, *names = sys.argv[1:]
+    size = pathlib.Path(file).stat().st_size
     print("bench | aqlx MB/s | Rust MB/s | aqlx/Rust")
     for name in names or NAMES:
         best, came = {}, {}
         for _ in range(3):
             for who, program in (("ours", ours), ("rust", rust)):
-                speed, came[who] = run(program, name, file, rounds)
-                best[who] = max(best.get(who, 0), speed)
+                micros, came[who] = run(program, name, file, rounds)
+                best[who] = min(best.get(who, micros), max(micros, 1))
         note = "" if came["ours"] == came["rust"] else f" | came to {came['ours']} and {came['rust']}"
-        print(f"{name} | {best['ours']:.0f} | {best['rust']:.0f} | {best['ours'] / best['rust']:.2f}{note}")
+        print(f"{name} | {size / best['ours']:.3g} | {size / best['rust']:.3g} | {best['rust'] / best['ours']:.2f}{note}")
 
 
 main()
