@@ -1,5 +1,7 @@
 -- spans
 pub mod ExtentLemmas
+pub mod SpanOrderLaws
+pub mod LimitLaws
 -- tokens
 pub mod ClassLemmas
 pub mod Rising

@@ -1,5 +1,5 @@
 -- Lists in a rising order that have the same elements, and lists made by a filter and a map.
-use Rattle.std.proofs.Common.{◌≡◌, ◌≤◌, ◌<◌, ◌+◌, ◌-◌, ◌∙◌, ◌⊎◌, inl, inr, ℕ, zero, suc, Bool, true, false, cond, List, [], ◌∷◌, length, map, get_or, refl, sym, ap, ap₂, arith}
+use Rattle.std.proofs.Common.{◌≡◌, ◌≤◌, ◌<◌, ◌+◌, ◌-◌, ◌∙◌, ◌⊎◌, inl, inr, ℕ, zero, suc, Bool, true, false, cond, List, [], ◌∷◌, length, map, get_or, refl, sym, ap, ap₂, subst, arith}
 use Rattle.std.specs.List.{All, AllPairs, Contains, filter, range_with_len}
 use Rattle.std.proofs.lemmas.List.{get_or-map, length-map}
 use Rattle.std.proofs.lemmas.List.FromFn.{get_or-range_with_len, length-range_with_len}
@@ -21,35 +21,43 @@ AllPairs-head R x xs all = λ k d h. all 0 (suc k) d (omega arith) (omega arith)
 pub AllPairs-tail : {X : Type 0} (R : X → X → Type 0) (x : X) (xs : List X) → AllPairs R (x ∷ xs) → AllPairs R xs
 AllPairs-tail R x xs all = λ i j d l h. all (suc i) (suc j) d (omega arith) (omega arith)
 
-same_first : {X : Type 0} (f : X → ℕ) (x y : X) (xs ys : List X) → ((z : X) → Contains xs z → f x < f z) → ((z : X) → Contains ys z → f y < f z)
-    → Contains (y ∷ ys) x → Contains (x ∷ xs) y → x ≡ y
-same_first f x y xs ys above_x above_y there back =
+same_first : {X : Type 0} (R : X → X → Type 0) → ((x y : X) → R x y → R y x → ⊥) → (x y : X) (xs ys : List X) → ((z : X) → Contains xs z → R x z)
+    → ((z : X) → Contains ys z → R y z) → Contains (y ∷ ys) x → Contains (x ∷ xs) y → x ≡ y
+same_first R never_both x y xs ys above_x above_y there back =
     elim (Contains-cases y ys x there) [
       | inl e ↦ sym e
       | inr later ↦ elim (Contains-cases x xs y back) [
         | inl e ↦ e
-        | inr after ↦ absurd (omega (arith, above_y x later, above_x y after))
+        | inr after ↦ absurd (never_both x y (above_x y after) (above_y x later))
       ]
     ]
 
-not_first : {X : Type 0} (f : X → ℕ) (y z : X) (ys : List X) → f y < f z → Contains (y ∷ ys) z → Contains ys z
-not_first f y z ys above h =
-    elim (Contains-cases y ys z h) [ inl e ↦ absurd (omega (arith, above, ap f e)) | inr later ↦ later ]
+not_first : {X : Type 0} (R : X → X → Type 0) → ((x y : X) → R x y → R y x → ⊥) → (y z : X) (ys : List X) → R y z → Contains (y ∷ ys) z → Contains ys z
+not_first R never_both y z ys above h =
+    elim (Contains-cases y ys z h) [
+      | inl e ↦ let itself : R y y = subst (R y) (sym e) above in absurd (never_both y y itself itself)
+      | inr later ↦ later
+    ]
+
+-- two lists in one order that have the same elements are one
+pub same_in_order : {X : Type 0} (R : X → X → Type 0) → ((x y : X) → R x y → R y x → ⊥) → (xs ys : List X) → AllPairs R xs → AllPairs R ys
+    → ((x : X) → Contains xs x → Contains ys x) → ((x : X) → Contains ys x → Contains xs x) → xs ≡ ys
+same_in_order R never_both [] [] up vp there back = refl
+same_in_order R never_both [] (y ∷ ys) up vp there back = absurd (omega (arith, (back y (Contains-here y ys)).1))
+same_in_order R never_both (x ∷ xs) [] up vp there back = absurd (omega (arith, (there x (Contains-here x xs)).1))
+same_in_order {X} R never_both (x ∷ xs) (y ∷ ys) up vp there back =
+    let above_x : (z : X) → Contains xs z → R x z = λ z. All-contains (R x) xs z (AllPairs-head R x xs up) in
+    let above_y : (z : X) → Contains ys z → R y z = λ z. All-contains (R y) ys z (AllPairs-head R y ys vp) in
+    let first : x ≡ y = same_first R never_both x y xs ys above_x above_y (there x (Contains-here x xs)) (back y (Contains-here y ys)) in
+    ap₂ (λ z zs. z ∷ zs) first
+    (same_in_order R never_both xs ys (AllPairs-tail R x xs up) (AllPairs-tail R y ys vp)
+    (λ z h. not_first R never_both y z ys (subst (λ w. R w z) first (above_x z h)) (there z (Contains-there x xs z h)))
+    (λ z h. not_first R never_both x z xs (subst (λ w. R w z) (sym first) (above_y z h)) (back z (Contains-there y ys z h))))
 
 -- two lists that rise and have the same elements are one
 pub same_rising : {X : Type 0} (f : X → ℕ) (xs ys : List X) → AllPairs (λ x y. f x < f y) xs → AllPairs (λ x y. f x < f y) ys
     → ((x : X) → Contains xs x → Contains ys x) → ((x : X) → Contains ys x → Contains xs x) → xs ≡ ys
-same_rising f [] [] up vp there back = refl
-same_rising f [] (y ∷ ys) up vp there back = absurd (omega (arith, (back y (Contains-here y ys)).1))
-same_rising f (x ∷ xs) [] up vp there back = absurd (omega (arith, (there x (Contains-here x xs)).1))
-same_rising {X} f (x ∷ xs) (y ∷ ys) up vp there back =
-    let above_x : (z : X) → Contains xs z → f x < f z = λ z. All-contains (λ u. f x < f u) xs z (AllPairs-head (λ u v. f u < f v) x xs up) in
-    let above_y : (z : X) → Contains ys z → f y < f z = λ z. All-contains (λ u. f y < f u) ys z (AllPairs-head (λ u v. f u < f v) y ys vp) in
-    let first : x ≡ y = same_first f x y xs ys above_x above_y (there x (Contains-here x xs)) (back y (Contains-here y ys)) in
-    ap₂ (λ z zs. z ∷ zs) first
-    (same_rising f xs ys (AllPairs-tail (λ u v. f u < f v) x xs up) (AllPairs-tail (λ u v. f u < f v) y ys vp)
-    (λ z h. not_first f y z ys (omega (arith, above_x z h, ap f first)) (there z (Contains-there x xs z h)))
-    (λ z h. not_first f x z xs (omega (arith, above_y z h, ap f first)) (back z (Contains-there y ys z h))))
+same_rising f xs ys = same_in_order (λ x y. f x < f y) (λ x y low high. absurd (omega (arith, low, high))) xs ys
 
 -- what a filter and a map leave, by the elements that they came from
 listed_there : {X : Type 0} (b : Bool) (f : ℕ → X) (j : ℕ) (ks left : List ℕ) (x : X) → Contains (map f left) x → Contains (map f (cond b (j ∷ left) left)) x

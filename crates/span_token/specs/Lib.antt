@@ -1,11 +1,18 @@
+-- ---- words of public clauses
 -- spans
 pub mod Extents
+pub mod SpanOrder
 pub mod Relations
 pub mod Contexts
 -- documents
+pub mod Limits
 pub mod Documents
 pub mod Words
 pub mod Tokens
+pub mod SourceTokens
+-- refusals
+pub mod Refusals
+-- ---- words of private clauses
 pub mod Classes
 pub mod Leads
 pub mod Points

@@ -18,7 +18,7 @@ pub record FollowsTok (tokens : List Extent) (a b : Extent) (low high : ℤ) : T
   pub at_least : low ≤ℤ pos (tokens_between tokens a.end b.begin)
   pub at_most : pos (tokens_between tokens a.end b.begin) ≤ℤ high
 
--- the two share a character, or are equal
+-- the two share a character, or an empty one lies strictly inside the other, or they are equal
 abbrev pub Overlaps : Extent → Extent → Type 0
 Overlaps a b = ((a.begin < b.end) × (b.begin < a.end)) ⊎ (a ≡ b)
 

@@ -14,6 +14,7 @@ mod classes;
 mod contexts;
 mod document;
 mod leads;
+mod limits;
 mod owned;
 mod places;
 mod points;
@@ -27,6 +28,7 @@ mod tokens;
 
 pub use contexts::{left_context, left_context_tok, right_context, right_context_tok};
 pub use document::Document;
+pub use limits::TEXT_LIMIT;
 pub use owned::{OwnedList, OwnedText};
 pub use refusal::{Failure, OutOfMemory};
 pub use relations::{between, combine, contains, follows, follows_tok, overlaps};
