@@ -16,6 +16,10 @@ opens kinds = count_by (is_sign "(") kinds
 abbrev pub closes : List Kind → ℕ
 closes kinds = count_by (is_sign ")") kinds
 
+-- how deep the parentheses of a statement may nest
+abbrev pub nesting_limit : ℕ
+nesting_limit = 64
+
 -- after each of the tokens, there are at most so many more `(` than `)` before it
 abbrev pub IsWithin : ℕ → List Kind → Type 0
 IsWithin depth kinds = (i : ℕ) → opens (take i kinds) ≤ depth + closes (take i kinds)

@@ -3,7 +3,7 @@
 ghost use Rattle.std.specs.Prelude.{◌≡◌, ◌<◌, ◌^◌, ◌≤◌, length, take};
 ghost use Rattle.aql_lexer.specs.Kinds.{kinds_of};
 ghost use Rattle.aql_syntax.specs.Programs.{runs_of};
-ghost use Rattle.aql_parser.specs.Nesting.{IsNesting};
+ghost use Rattle.aql_parser.specs.Nesting.{IsNesting, nesting_limit};
 ghost use Rattle.aql_parser.specs.Runs.{IsFirstRun, IsLeastDepth};
 
 use crate::cursor::is_symbol;
@@ -57,13 +57,14 @@ pub fn first_run(toks: &[Tok]) -> Run
 /// place within a statement.
 ///
 /// A statement is the tokens up to and with a `;`; the tokens after the last `;`, if any, are one more.
-/// Takes no memory.
+/// Takes no memory. `parse` takes programs that nest no deeper than `MAX_NESTING`, 64.
 ///
 /// Meaning: `runs_of`, `aql_syntax`'s `specs/Programs.antt`; `IsNesting`, `specs/Nesting.antt`.
 pub fn measure(toks: &[Tok]) -> Sizes
     requires few { length toks.now < 2 ^ 32 }
     ensures statements { result.statements ≡ length (runs_of (kinds_of toks.now)) }
     ensures nesting { IsNesting (kinds_of toks.now) result.nesting }
+    ensures limit { MAX_NESTING ≡ nesting_limit }
 {
     let mut statements = 0;
     let mut nesting = 0u32;

@@ -5,7 +5,7 @@ ghost use Rattle.aql_lexer.specs.Kinds.{kinds_of, token_of};
 ghost use Rattle.aql_syntax.specs.Trees.{Statement as Tree};
 ghost use Rattle.aql_syntax.specs.Views.{statement_of};
 ghost use Rattle.aql_syntax.specs.Programs.{AreTokensOf, placed_in};
-ghost use Rattle.aql_parser.specs.Nesting.{NestsWithin, IsWithin};
+ghost use Rattle.aql_parser.specs.Nesting.{NestsWithin, IsWithin, nesting_limit};
 ghost use Rattle.aql_parser.specs.Faults.{IsFaultOf, IsDecided};
 ghost use Rattle.aql_parser.specs.Runs.{IsTreeOf, IsKept, IsNamed, is_module, may_follow};
 
@@ -52,7 +52,7 @@ fn kept(tree: Statement, read_whole: bool, follows: bool) -> Result<Statement, R
 /// The statement whose tokens are all of `run`, where `before` statements stand before it.
 fn whole(alloc: Global, run: &[Tok], at: u32, before: usize) -> Result<Statement, Refused>
     requires few { at + length run.now < 2 ^ 32 }
-    requires nested { IsWithin MAX_NESTING (kinds_of run.now) }
+    requires nested { IsWithin nesting_limit (kinds_of run.now) }
     ensures { IsTreeOf at (kinds_of run.now) before result }
 {
     let mut toks = Cursor::new(run, at);
@@ -75,7 +75,7 @@ fn named(refused: Refused, statement: u32, line: u32) -> Failure<SyntaxFault>
 ///
 /// A statement is the tokens up to and with a `;`; tokens after the last `;` are one more, which has
 /// no tree. `module` is the first statement or none. Each `at` is the number, from 0, of its node's
-/// first token. No statement may nest deeper than `MAX_NESTING`, as `measure` counts.
+/// first token. No statement may nest deeper than `MAX_NESTING`, 64, as `measure` counts.
 ///
 /// `SyntaxFault` comes exactly where some statement has no tree, and names the first one. The only
 /// other refusal is want of memory.
@@ -84,7 +84,7 @@ fn named(refused: Refused, statement: u32, line: u32) -> Failure<SyntaxFault>
 /// `IsDecided`, `specs/Faults.antt`; the grammar, `aql_syntax`'s `specs/Grammar`.
 pub fn parse(alloc: Global, toks: &[Tok]) -> Result<Vec<Statement>, Failure<SyntaxFault>>
     requires few { length toks.now < 2 ^ 32 }
-    requires nested { NestsWithin MAX_NESTING (kinds_of toks.now) }
+    requires nested { NestsWithin nesting_limit (kinds_of toks.now) }
     ensures trees { IfOk result (λ trees. AreTokensOf (kinds_of toks.now) (map statement_of trees.items)) }
     ensures placed { IfOk result (λ trees. placed_in (kinds_of toks.now) (map statement_of trees.items)
         ≡ map statement_of trees.items) }

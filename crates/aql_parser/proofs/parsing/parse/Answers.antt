@@ -2,12 +2,13 @@ use Rattle.std.proofs.Common.{◌≡◌, ◌∙◌, ◌+◌, ◌-◌, [], ◌∷
 use Rattle.std.proofs.lemmas.List.{take_rest, length-map, map-append}
 use Rattle.aql_lexer.specs.Kinds.{token_of}
 use Rattle.aql_syntax.specs.Views.{statement_of}
+use Rattle.aql_parser.specs.Nesting.{nesting_limit}
 use Rattle.aql_parser.proofs.ProgramRules.{decided, few_parsed, run_nested, fault_is, next_parsed, all_parsed, only_these, only_memory}
 use Rattle.aql_parser.proofs.parsing.parse.Goals as goal
 
 pub whole-requires-clause-nested : goal.whole-requires-clause-nested
 whole-requires-clause-nested c =
-    run_nested 64 c.args.toks.now c.loop-rest.rest.now (map statement_of c.loop-rest.trees.items) c.first_run-len.result.len
+    run_nested nesting_limit c.args.toks.now c.loop-rest.rest.now (map statement_of c.loop-rest.trees.items) c.first_run-len.result.len
     c.requires.nested c.loop-rest.invariant c.first_run-len.ensures.run
 
 pub overflow_cast-len : goal.overflow_cast-len
