@@ -1,5 +1,5 @@
 -- Counts of faults, and what a call that failed did to them.
-use Rattle.std.specs.Prelude.{ℕ, ◌+◌, ◌-◌, ◌^◌, ◌≤◌, min, Result, OnErr}
+use Rattle.std.specs.Prelude.{◌≡◌, ℕ, ◌+◌, ◌-◌, ◌^◌, ◌≤◌, min, Result, OnOk, OnErr}
 
 -- one more than a count, which stops at its last value, 2^64 - 1
 abbrev pub counted : ℕ → ℕ
@@ -9,7 +9,8 @@ counted n = min (n + 1) (2 ^ 64 - 1)
 abbrev pub Rose : ℕ → ℕ → Type 0
 Rose before now = counted before ≤ now
 
--- a call never lowers the count of faults, and fails only where the count rose
+-- a call that failed counts one fault more, and one that did not counts none
 pub record HasCause {T E : Type 0} (before now : ℕ) (result : Result T E) : Type 0 where
   pub later : before ≤ now
-  pub failed : OnErr result (Rose before now)
+  pub stands : OnOk result (now ≡ before)
+  pub failed : OnErr result (now ≡ counted before)

@@ -1,6 +1,6 @@
 use std::fmt;
 
-/// A read, a write or a flush that failed. The count of faults of its object rose in that call.
+/// A read, a write or a flush that failed. The count of faults of its object rose by one in that call.
 #[derive(Clone, Copy, Debug, PartialEq, Eq)]
 pub struct Failed;
 

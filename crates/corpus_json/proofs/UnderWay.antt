@@ -15,7 +15,7 @@ use Rattle.corpus_json.specs.Reading.{Reading, settled, IsUnended, IsAnswer, Nex
 pub record IsUnderWay (left_before left_now : Option (List ℕ)) (faults_before faults_now : ℕ) (before now : Reading) (line : List ℕ) : Type 0 where
   pub more : List ℕ
   pub consumed : Consumes left_before left_now more
-  pub later : faults_before ≤ faults_now
+  pub stands : faults_now ≡ faults_before
   pub counted : now.taken ≡ before.taken + length more
   pub bytes : before.ready ++ more ≡ line ++ now.ready
   pub unended : IsUnended line
@@ -26,13 +26,17 @@ answered : (left_before left_now : Option (List ℕ)) (faults_before faults_now 
     → before.last ≡ None
     → Consumes left_before left_now more
     → now.taken ≡ before.taken + length more
+    → (step ≢ Failed → faults_now ≡ faults_before)
+    → faults_now ≤ faults_before + 1
     → IsAnswer (before.ready ++ more) line left_now faults_before faults_now now step
     → NextLine left_before left_now faults_before faults_now before now line step
-answered left_before left_now faults_before faults_now before now line more step going consumed counted answer =
+answered left_before left_now faults_before faults_now before now line more step going consumed counts stands once answer =
     record {
       more = more;
       consumed = consumed;
-      counted = counted;
+      counted = counts;
+      stands = stands;
+      once = once;
       answer = subst (λ (last : Option Step). MatchOption last (IsAnswer (before.ready ++ more) line left_now faults_before faults_now now step) (λ last. (step ≡ last) × (more ≡ []) × (now ≡ before))) (sym going) answer;
     }
 
@@ -42,7 +46,7 @@ module _ (left_before : Option (List ℕ)) (faults_before : ℕ) (before : Readi
   begins = record {
     more = [];
     consumed = Consumes-nil left_before;
-    later = omega arith;
+    stands = refl;
     counted = omega arith;
     bytes = append-nil before.ready;
     unended = record { no_lf = All-nil IsNotLf; short = omega arith };
@@ -50,6 +54,10 @@ module _ (left_before : Option (List ℕ)) (faults_before : ℕ) (before : Readi
   }
 
   module _ (left_now : Option (List ℕ)) (faults_now : ℕ) (now : Reading) (line : List ℕ) (way : IsUnderWay left_before left_now faults_before faults_now before now line) where
+    -- a count that stands is at most one more
+    none_more : faults_now ≤ faults_before + 1
+    none_more = omega (arith, way.stands)
+
     -- a line with its LF
     gives_line : (then : Reading) (line_then : List ℕ) → TakesLine now then line line_then
         → NextLine left_before left_now faults_before faults_now before then line_then Line
@@ -58,7 +66,7 @@ module _ (left_before : Option (List ℕ)) (faults_before : ℕ) (before : Readi
         way.bytes ∙ ap (λ ready. line ++ ready) took.split ∙ sym (append_assoc line took.piece (10 ∷ then.ready)) ∙ ap (λ l. l ++ 10 ∷ then.ready) (sym took.line) in
         let no_lf : HasNoLf line_then = subst HasNoLf (sym took.line) (All-append IsNotLf line took.piece way.unended.no_lf took.no_lf) in
         answered left_before left_now faults_before faults_now before then line_then way.more Line going way.consumed
-        (ap (λ (r : Reading). r.taken) took.same ∙ way.counted)
+        (ap (λ (r : Reading). r.taken) took.same ∙ way.counted) (λ _. way.stands) none_more
         (record { no_lf = no_lf; short = took.short }, inl record { split = split; going = ap (λ (r : Reading). r.last) took.same ∙ way.going })
 
     -- a line that is too long
@@ -70,7 +78,7 @@ module _ (left_before : Option (List ℕ)) (faults_before : ℕ) (before : Readi
         let long : LINE_LIMIT < length (line ++ took.piece) = rw length-append took.long in
         let same : then.taken ≡ now.taken = ap (λ (r : Reading). r.taken) took.settled in
         let stands : then ≡ settled then.taken Long = took.settled ∙ ap (λ taken. settled taken Long) (sym same) in
-        answered left_before left_now faults_before faults_now before then line_then way.more Long going way.consumed (same ∙ way.counted)
+        answered left_before left_now faults_before faults_now before then line_then way.more Long going way.consumed (same ∙ way.counted) (λ _. way.stands) none_more
         (record { front = line ++ took.piece; others = took.others; split = split; no_lf = All-append IsNotLf line took.piece way.unended.no_lf took.no_lf; long = long }, stands)
 
     -- a piece that is an answer
@@ -90,7 +98,7 @@ module _ (left_before : Option (List ℕ)) (faults_before : ℕ) (before : Readi
         record {
           more = way.more;
           consumed = way.consumed;
-          later = way.later;
+          stands = way.stands;
           counted = ap (λ (r : Reading). r.taken) took.same ∙ way.counted;
           bytes = way.bytes ∙ sym took.line ∙ sym (append-nil line_then) ∙ ap (λ ready. line_then ++ ready) (sym none);
           unended = record { no_lf = subst HasNoLf (sym took.line) (All-append IsNotLf line now.ready way.unended.no_lf took.no_lf); short = took.short };
@@ -108,7 +116,7 @@ module _ (left_before : Option (List ℕ)) (faults_before : ℕ) (before : Readi
         record {
           more = way.more ++ read.more;
           consumed = Consumes-trans left_before left_now left_then way.more read.more way.consumed read.consumed;
-          later = omega (arith, way.later, read.later);
+          stands = read.stands (λ e. cc) ∙ way.stands;
           counted = rw length-append (omega (arith, taken, way.counted));
           bytes = sym (append_assoc before.ready way.more read.more) ∙ ap (λ l. l ++ read.more) (way.bytes ∙ ap (λ r. line ++ r) none ∙ append-nil line) ∙ ap (λ r. line ++ r) (sym ready);
           unended = way.unended;
@@ -127,13 +135,20 @@ module _ (left_before : Option (List ℕ)) (faults_before : ℕ) (before : Readi
           ∙ append-nil line
 
       last_answer : (step : Step) (more : List ℕ) → more ≡ [] → Consumes left_now left_then more → then.taken ≡ now.taken
+          → (step ≢ Failed → faults_then ≡ faults_now)
+          → faults_then ≤ faults_now + 1
           → IsAnswer (before.ready ++ (way.more ++ more)) line left_then faults_before faults_then then step
           → NextLine left_before left_then faults_before faults_then before then line step
-      last_answer step more no_more consumed same answer =
+      last_answer step more no_more consumed same stands once answer =
           answered left_before left_then faults_before faults_then before then line (way.more ++ more) step going
           (Consumes-trans left_before left_now left_then way.more more way.consumed consumed)
           (rw (no_more, append-nil) (same ∙ way.counted))
+          (λ other. stands other ∙ way.stands)
+          (omega (arith, once, way.stands))
           answer
+
+      at_most : faults_then ≡ faults_now → faults_then ≤ faults_now + 1
+      at_most kept = omega (arith, kept)
 
       same_taken : (step : Step) → then ≡ settled now.taken step → then.taken ≡ now.taken
       same_taken step is = ap (λ (r : Reading). r.taken) is
@@ -148,23 +163,26 @@ module _ (left_before : Option (List ℕ)) (faults_before : ℕ) (before : Readi
       gives_last End true empty some read =
           let all = all_in_line read.more read.brings.0 in
           let why = read.brings.1 in
-          last_answer End read.more read.brings.0 read.consumed (same_taken End why.2)
+          let kept = read.stands (λ e. cc) in
+          last_answer End read.more read.brings.0 read.consumed (same_taken End why.2) (λ _. kept) (at_most kept)
           (all ∙ empty refl, why.0, rw (same_taken End why.2) why.1, stands End why.2)
       gives_last End false empty some read =
           let all = all_in_line read.more read.brings.0 in
           let why = read.brings.1 in
-          last_answer Line read.more read.brings.0 read.consumed (same_taken End why.2)
+          let kept = read.stands (λ e. cc) in
+          last_answer Line read.more read.brings.0 read.consumed (same_taken End why.2) (λ _. kept) (at_most kept)
           (way.unended, inr record { whole = all; some = λ e. some refl (sym all ∙ e); at_end = why.0; below = rw (same_taken End why.2) why.1; ended = stands End why.2 })
       gives_last Long is_empty empty some read = absurd read.brings.1
       gives_last Failed is_empty empty some read =
           let all = all_in_line read.more read.brings.0 in
           let why = read.brings.1 in
-          last_answer Failed read.more read.brings.0 read.consumed (same_taken Failed why.2)
-          (subst IsUnended (sym all) way.unended, omega (arith, why.0, way.later), rw (same_taken Failed why.2) why.1, stands Failed why.2)
+          last_answer Failed read.more read.brings.0 read.consumed (same_taken Failed why.2) (λ other. absurd (other refl)) (omega (arith, why.0))
+          (subst IsUnended (sym all) way.unended, omega (arith, why.0, way.stands), rw (same_taken Failed why.2) why.1, stands Failed why.2)
       gives_last Limit is_empty empty some read =
           let all = all_in_line read.more read.brings.0 in
           let why = read.brings.1 in
-          last_answer Limit read.more read.brings.0 read.consumed (same_taken Limit why.1)
+          let kept = read.stands (λ e. cc) in
+          last_answer Limit read.more read.brings.0 read.consumed (same_taken Limit why.1) (λ _. kept) (at_most kept)
           (subst IsUnended (sym all) way.unended, same_taken Limit why.1 ∙ why.0, stands Limit why.1)
 
 -- the test for an empty list

@@ -64,15 +64,16 @@ pub fills-some : (left_before left_now : Option (List ℕ)) (faults_before fault
     → n ≤ length buf
     → taken + n ≤ CORPUS_LIMIT
     → Consumes left_before left_now (take n buf)
-    → faults_before ≤ faults_now
+    → faults_now ≡ faults_before
     → Fills left_before left_now faults_before faults_now before record { ready = slice_range all 0 n; taken = taken + n; last = last } None
-fills-some left_before left_now faults_before faults_now all buf n taken last before same was going some within below consumed later =
+fills-some left_before left_now faults_before faults_now all buf n taken last before same was going some within below consumed stands =
     let front : slice_range buf 0 n ≡ take n buf = grind (arith) in
     let size : length (take n buf) ≡ n = length-take-le n buf within in
     let sum : taken + n ≡ before.taken + length (take n buf) = omega arith in
     record {
       more = take n buf;
       consumed = consumed;
-      later = later;
+      later = omega (arith, stands);
+      stands = λ _. stands;
       brings = (λ none. some (sym size ∙ ap length none), omega arith, cc);
     }

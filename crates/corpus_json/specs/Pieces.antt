@@ -1,7 +1,7 @@
 -- The two steps by which a line is put together: a piece of what is ready, and a read.
 use Rattle.std.specs.Prelude.{◌≡◌, ◌≢◌, ℕ, ◌+◌, ◌<◌, ◌≤◌, Bool, if◌then◌else◌, List, [], ◌∷◌, ◌++◌, length, Option, None, Some}
 use Rattle.std.specs.Io.KnownBytes.{Consumes, IsAtEnd}
-use Rattle.aql_io.specs.Causes.{Rose}
+use Rattle.aql_io.specs.Causes.{counted}
 use Rattle.corpus_json.specs.declared.step.Step.{Step}
 use Rattle.corpus_json.specs.declared.step.Step.TheVariants.{Line, End, Long, Failed, Limit}
 use Rattle.corpus_json.specs.declared.limits.TheConstants.{LINE_LIMIT, CORPUS_LIMIT}
@@ -48,7 +48,7 @@ BringsNothing left faults_before faults_now before now Line = ⊥
 BringsNothing left faults_before faults_now before now End = IsAtEnd left × (before.taken < CORPUS_LIMIT) × (now ≡ settled before.taken End)
 BringsNothing left faults_before faults_now before now Long = ⊥
 BringsNothing left faults_before faults_now before now Failed =
-    Rose faults_before faults_now × (before.taken < CORPUS_LIMIT) × (now ≡ settled before.taken Failed)
+    (faults_now ≡ counted faults_before) × (before.taken < CORPUS_LIMIT) × (now ≡ settled before.taken Failed)
 BringsNothing left faults_before faults_now before now Limit = (before.taken ≡ CORPUS_LIMIT) × (now ≡ settled before.taken Limit)
 
 -- what a read brought, by the answer
@@ -62,6 +62,7 @@ pub record Fills (left_before left_now : Option (List ℕ)) (faults_before fault
   pub more : List ℕ
   pub consumed : Consumes left_before left_now more
   pub later : faults_before ≤ faults_now
+  pub stands : answer ≢ Some Failed → faults_now ≡ faults_before
   pub brings : Brings left_now faults_before faults_now before now more answer
 
 -- the answer where a read brought nothing: at the source's end, a line that was begun is whole

@@ -14,4 +14,4 @@ returns-in-Ok-clause-read g c =
     fills-some (g.S.Source.left c.args.source.now) (g.S.Source.left c.read_most.new.source) (g.S.Source.faults c.args.source.now) (g.S.Source.faults c.read_most.new.source)
     all buf c.in-Ok.n s.taken s.last c.args.self.now same
     (ap (λ (r : Reading). r.taken) c.self.view_is) (ap (λ (r : Reading). r.last) c.self.view_is ∙ c.requires.going)
-    (c.in-Ok.n-test).1 (omega (arith, c.in-Ok.ensures.bound)) (omega (arith, c.in-Ok.ensures.bound)) (c.in-Ok.ensures.bytes).0 c.read_most.ensures.cause.later
+    (c.in-Ok.n-test).1 (omega (arith, c.in-Ok.ensures.bound)) (omega (arith, c.in-Ok.ensures.bound)) (c.in-Ok.ensures.bytes).0 c.in-Ok.ensures.cause.stands
