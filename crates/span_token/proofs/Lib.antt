@@ -12,5 +12,7 @@ pub mod ContextLemmas
 pub mod LeadsLemmas
 pub mod PlaceLemmas
 pub mod BlockLemmas
+pub mod OffsetLemmas
+pub mod SourceLemmas
 pub mod StepLemmas
 pub mod ScanLemmas

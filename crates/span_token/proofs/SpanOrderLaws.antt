@@ -1,9 +1,7 @@
 -- The order of spans is one: the relation and the comparison say the same, and one list at most is in order with a
 -- property.
-use Rattle.std.proofs.Common.{◌≡◌, ◌<◌, ◌↔◌, ◌⊎◌, inl, inr, ℕ, List, refl, sym, arith}
-use Rattle.std.specs.Ordering.{nat_cmp, ordering_then}
-use Rattle.std.specs.declared.cmp.Ordering.TheVariants.{Less, Equal, Greater}
-use Rattle.std.proofs.lemmas.Bool.{cases_lt}
+use Rattle.std.proofs.Common.{◌≡◌, ◌↔◌, inl, inr, List, arith}
+use Rattle.std.specs.declared.cmp.Ordering.TheVariants.{Less}
 use Rattle.std.proofs.lemmas.Bool.Decides.{nat_tests}
 use Rattle.span_token.specs.Extents.{Extent}
 use Rattle.span_token.specs.SpanOrder.{IsBefore, extent_cmp, AreInOrder}

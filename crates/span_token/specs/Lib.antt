@@ -19,3 +19,5 @@ pub mod Points
 pub mod Scans
 pub mod Places
 pub mod Layout
+pub mod Offsets
+pub mod SourceLayout

@@ -3,7 +3,7 @@ use Rattle.std.specs.Prelude.{ℕ, ◌<◌, ◌≤◌, List, length, slice_index
 use Rattle.std.specs.List.{filter}
 use Rattle.span_token.specs.Documents.{Doc, characters}
 use Rattle.span_token.specs.Extents.{Extent}
-use Rattle.span_token.specs.Relations.{does_contain}
+use Rattle.span_token.specs.Relations.{ContainsExtent, does_contain}
 use Rattle.span_token.specs.Tokens.{tokens_of}
 
 -- the tokens wholly in an extent
@@ -22,6 +22,10 @@ run_extent tokens first last = record { begin = (nth_token tokens first).begin; 
 pub record InTextOrder (tokens : List Extent) : Type 0 where
   pub filled : (i : ℕ) → i < length tokens → (nth_token tokens i).begin < (nth_token tokens i).end
   pub apart : (i j : ℕ) → i < j → j < length tokens → (nth_token tokens i).end ≤ (nth_token tokens j).begin
+
+-- tokens that lie in an extent
+abbrev pub HoldsTokens : Extent → List Extent → Type 0
+HoldsTokens e tokens = (i : ℕ) → i < length tokens → ContainsExtent e (nth_token tokens i)
 
 -- some tokens of a document
 pub record SomeTokens : Type 0 where

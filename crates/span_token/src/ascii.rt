@@ -1,4 +1,5 @@
 ghost use Rattle.std.specs.Prelude.{◌≡◌, ◌≤◌, ◌+◌, [], length, drop, map, IfOk, MatchOption, IsAscii};
+ghost use Rattle.span_token.specs.Limits.{text_limit};
 ghost use Rattle.std.specs.List.{prefix_len};
 ghost use Rattle.span_token.specs.Extents.{extent_of};
 ghost use Rattle.span_token.specs.Words.{is_word_char};
@@ -12,7 +13,7 @@ use std::alloc::Global;
 /// The tokens of an ASCII text, in which each byte is a character.
 pub(crate) fn ascii_tokens(alloc: Global, bytes: &[u8]) -> Result<Vec<Span>, OutOfMemory>
     requires ascii { IsAscii bytes.now }
-    requires short { length bytes.now ≤ 16777216 }
+    requires short { length bytes.now ≤ text_limit }
     ensures { IfOk result (λ spans. map extent_of spans.items ≡ tokens_of bytes.now) }
 {
     let mut spans = Vec::new(alloc);
@@ -27,7 +28,7 @@ pub(crate) fn ascii_tokens(alloc: Global, bytes: &[u8]) -> Result<Vec<Span>, Out
 /// The first token from a byte on.
 fn next_ascii(bytes: &[u8], from: usize) -> Option<Span>
     requires ascii { IsAscii bytes.now }
-    requires short { length bytes.now ≤ 16777216 }
+    requires short { length bytes.now ≤ text_limit }
     requires within { from ≤ length bytes.now }
     requires seam { IsSeam bytes.now from }
     ensures { MatchOption result (tokens_from bytes.now from ≡ []) (λ span. IsNextAscii bytes.now from span) }

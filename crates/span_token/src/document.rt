@@ -1,4 +1,5 @@
 ghost use Rattle.std.specs.Prelude.{ℕ, ◌≡◌, ◌≤◌, ◌<◌, ◌+◌, length, slice_get, count_by, nat_lt, nat_le, take, slice_range, chars, IfOk, IsUtf8, IsCharBoundary, option_map};
+ghost use Rattle.span_token.specs.Limits.{text_limit};
 ghost use Rattle.span_token.specs.Extents.{Extent, extent_of};
 ghost use Rattle.span_token.specs.Tokens.{tokens_of, AreTokens};
 ghost use Rattle.span_token.specs.Contexts.{AreWithin};
@@ -49,7 +50,7 @@ impl<'d> Document<'d> {
         text: &'d str,
         label: Option<&'d str>,
     ) -> Result<Document<'d>, OutOfMemory>
-        requires short { length text.now ≤ 16777216 }
+        requires short { length text.now ≤ text_limit }
         ensures document { IfOk result (λ d. d ≡ record { text = text.now; label = option_map (λ l. l.now) label.entry }) }
     {
         let tokens = Tokens::Kept(tokens_of_text(alloc, text)?);
@@ -65,7 +66,7 @@ impl<'d> Document<'d> {
         text: &'d str,
         label: Option<&'d str>,
     ) -> Result<Document<'d>, OutOfMemory>
-        requires short { length text.now ≤ 16777216 }
+        requires short { length text.now ≤ text_limit }
         ensures document { IfOk result (λ d. d ≡ record { text = text.now; label = option_map (λ l. l.now) label.entry }) }
     {
         Document::with_tokens(alloc, text, label, Tokens::Unkept)
@@ -78,7 +79,7 @@ impl<'d> Document<'d> {
         label: Option<&'d str>,
         tokens: Tokens,
     ) -> Result<Document<'d>, OutOfMemory>
-        requires short { length text.now ≤ 16777216 }
+        requires short { length text.now ≤ text_limit }
         requires fits { FitsTokens tokens text.now }
         ensures document { IfOk result (λ d. d ≡ record { text = text.now; label = option_map (λ l. l.now) label.entry }) }
     {
@@ -96,7 +97,7 @@ impl<'d> Document<'d> {
     /// The number of characters, which are Unicode scalar values.
     pub fn len(&self) -> u32
         ensures len { result ≡ len_of self.now }
-        ensures short { result ≤ 16777216 }
+        ensures short { result ≤ text_limit }
     {
         self.characters
     }
@@ -122,7 +123,7 @@ impl<'d> Document<'d> {
     /// The text that the document was made of.
     pub fn text(&self) -> &'d str
         ensures text { result.now ≡ self.now.text }
-        ensures short { length result.now ≤ 16777216 }
+        ensures short { length result.now ≤ text_limit }
     {
         self.text
     }
@@ -232,13 +233,24 @@ impl<'d> Document<'d> {
     }
 
     /// The byte at which character `place` begins, or the text ends.
-    fn byte_of(&self, place: u32) -> usize
+    pub(crate) fn byte_of(&self, place: u32) -> usize
         requires { place ≤ len_of self.now }
         ensures place { IsPlace self.now.text place result }
         ensures utf8 { IsUtf8 self.now.text }
-        ensures short { length self.now.text ≤ 16777216 }
+        ensures short { length self.now.text ≤ text_limit }
     {
         self.places.byte_of(self.text, place)
+    }
+
+    /// The same, sought from the byte of an earlier character on.
+    pub(crate) fn byte_after(&self, from: usize, passed: u32, place: u32) -> usize
+        requires from { IsPlace self.now.text passed from }
+        requires ahead { passed ≤ place }
+        requires exists { place ≤ len_of self.now }
+        ensures place { IsPlace self.now.text place result }
+        ensures short { length self.now.text ≤ text_limit }
+    {
+        self.places.byte_after(self.text, from, passed, place)
     }
 
     /// How many characters begin before byte `byte`.

@@ -1,4 +1,5 @@
 ghost use Rattle.std.specs.Prelude.{◌≡◌, ◌≤◌, length, take, IfOk};
+ghost use Rattle.span_token.specs.Limits.{text_limit};
 ghost use Rattle.span_token.specs.Leads.{leads, IsPlace};
 ghost use Rattle.span_token.specs.Places.{AreBlockCounts, FitsText};
 
@@ -21,7 +22,7 @@ pub(crate) enum Places {
 impl Places {
     /// What `text` needs.
     pub(crate) fn of(alloc: Global, text: &str) -> Result<Places, OutOfMemory>
-        requires { length text.now ≤ 16777216 }
+        requires { length text.now ≤ text_limit }
         ensures { IfOk result (λ places. FitsText places text.now) }
     {
         if text.is_ascii() {
@@ -54,11 +55,25 @@ impl Places {
             Places::Blocks(counts) => sought(counts, text, place),
         }
     }
+
+    /// The same, sought from the byte of an earlier character on.
+    pub(crate) fn byte_after(&self, text: &str, from: usize, passed: u32, place: u32) -> usize
+        requires fits { FitsText self.now text.now }
+        requires from { IsPlace text.now passed from }
+        requires ahead { passed ≤ place }
+        requires exists { place ≤ leads text.now }
+        ensures { IsPlace text.now place result }
+    {
+        match self {
+            Places::Ascii => place as usize,
+            Places::Blocks(_) => seek(text, from, passed, place),
+        }
+    }
 }
 
 /// How many characters of `bytes` begin before each block.
 fn block_counts(alloc: Global, bytes: &[u8]) -> Result<Vec<u32>, OutOfMemory>
-    requires { length bytes.now ≤ 16777216 }
+    requires { length bytes.now ≤ text_limit }
     ensures { IfOk result (λ counts. AreBlockCounts counts.items bytes.now) }
 {
     let blocks = bytes.len() / BLOCK;

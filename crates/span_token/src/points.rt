@@ -1,4 +1,5 @@
 ghost use Rattle.std.specs.Prelude.{◌≡◌, ◌≤◌, ◌+◌, length, drop, chars, MatchOption};
+ghost use Rattle.span_token.specs.Limits.{text_limit};
 ghost use Rattle.std.specs.List.{prefix_len};
 ghost use Rattle.span_token.specs.Words.{is_word_char};
 ghost use Rattle.span_token.specs.Points.{IsPoint, IsStep};
@@ -16,7 +17,7 @@ pub(crate) struct Point {
 #[inline(always)]
 pub(crate) fn step(text: &str, at: Point) -> Option<(Class, Point)>
     requires point { IsPoint text.now at }
-    requires short { length text.now ≤ 16777216 }
+    requires short { length text.now ≤ text_limit }
     ensures { MatchOption result (at.place ≡ length (chars text.now)) (λ r. IsStep text.now at r.0 r.1) }
 {
     let bytes = text.as_bytes();
@@ -38,7 +39,7 @@ pub(crate) fn step(text: &str, at: Point) -> Option<(Class, Point)>
 #[inline(never)]
 fn step_beyond(text: &str, at: Point) -> Option<(Class, Point)>
     requires point { IsPoint text.now at }
-    requires short { length text.now ≤ 16777216 }
+    requires short { length text.now ≤ text_limit }
     ensures { MatchOption result (at.place ≡ length (chars text.now)) (λ r. IsStep text.now at r.0 r.1) }
 {
     let c = text[at.byte..].chars().next()?;
@@ -53,7 +54,7 @@ fn step_beyond(text: &str, at: Point) -> Option<(Class, Point)>
 #[inline(always)]
 pub(crate) fn past_word(text: &str, from: Point) -> Point
     requires point { IsPoint text.now from }
-    requires short { length text.now ≤ 16777216 }
+    requires short { length text.now ≤ text_limit }
     ensures point { IsPoint text.now result }
     ensures place { result.place ≡ from.place + prefix_len is_word_char (drop from.place (chars text.now)) }
 {

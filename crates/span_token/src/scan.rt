@@ -1,4 +1,5 @@
 ghost use Rattle.std.specs.Prelude.{◌≡◌, ◌≤◌, ◌∷◌, [], length, chars, MatchOption};
+ghost use Rattle.span_token.specs.Limits.{text_limit};
 ghost use Rattle.span_token.specs.Extents.{extent_of};
 ghost use Rattle.span_token.specs.Tokens.{tokens_of, tokens_from};
 ghost use Rattle.span_token.specs.Points.{IsPoint, IsSeam, IsNextToken};
@@ -31,7 +32,7 @@ impl<'a> Model for TokenScan<'a> {
 impl<'a> TokenScan<'a> {
     /// The tokens of `text`, from the first one on.
     pub(crate) fn new(text: &'a str) -> TokenScan<'a>
-        requires { length text.now ≤ 16777216 }
+        requires { length text.now ≤ text_limit }
         ensures { result ≡ tokens_of (chars text.now) }
     {
         let at = Point { byte: 0, place: 0 };
@@ -54,7 +55,7 @@ impl<'a> TokenScan<'a> {
 fn next_token(text: &str, from: Point) -> Option<(Span, Point)>
     requires point { IsPoint text.now from }
     requires seam { IsSeam (chars text.now) from.place }
-    requires short { length text.now ≤ 16777216 }
+    requires short { length text.now ≤ text_limit }
     ensures { MatchOption result (tokens_from (chars text.now) from.place ≡ []) (λ r. IsNextToken text.now from r.0 r.1) }
 {
     let mut at = from;

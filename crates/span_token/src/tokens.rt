@@ -1,4 +1,5 @@
 ghost use Rattle.std.specs.Prelude.{◌≡◌, ◌≤◌, ◌<◌, length, map, chars, IfOk, count_by, nat_lt, nat_le, slice_get, option_map};
+ghost use Rattle.span_token.specs.Limits.{text_limit};
 ghost use Rattle.span_token.specs.Extents.{extent_of};
 ghost use Rattle.span_token.specs.Tokens.{tokens_of, AreTokens};
 ghost use Rattle.span_token.specs.Places.{FitsTokens};
@@ -14,7 +15,7 @@ use std::alloc::Global;
 ///
 /// Meaning: `AreTokens`, `specs/Tokens.antt`.
 pub fn tokens_of_text(alloc: Global, text: &str) -> Result<Vec<Span>, OutOfMemory>
-    requires short { length text.now ≤ 16777216 }
+    requires short { length text.now ≤ text_limit }
     ensures list { IfOk result (λ spans. map extent_of spans.items ≡ tokens_of (chars text.now)) }
     ensures meaning { IfOk result (λ spans. AreTokens (chars text.now) (map extent_of spans.items)) }
 {
@@ -27,7 +28,7 @@ pub fn tokens_of_text(alloc: Global, text: &str) -> Result<Vec<Span>, OutOfMemor
 
 /// The tokens of a text, decoded where it isn't ASCII.
 fn decoded_tokens(alloc: Global, text: &str) -> Result<Vec<Span>, OutOfMemory>
-    requires { length text.now ≤ 16777216 }
+    requires { length text.now ≤ text_limit }
     ensures { IfOk result (λ spans. map extent_of spans.items ≡ tokens_of (chars text.now)) }
 {
     let mut spans = Vec::new(alloc);
@@ -49,7 +50,7 @@ impl Tokens {
     /// How many tokens `text` has.
     pub(crate) fn count(&self, text: &str) -> u32
         requires fits { FitsTokens self.now text.now }
-        requires short { length text.now ≤ 16777216 }
+        requires short { length text.now ≤ text_limit }
         ensures { result ≡ length (tokens_of (chars text.now)) }
     {
         match self {
@@ -61,7 +62,7 @@ impl Tokens {
     /// Token `i` of `text`.
     pub(crate) fn get(&self, text: &str, i: u32) -> Span
         requires fits { FitsTokens self.now text.now }
-        requires short { length text.now ≤ 16777216 }
+        requires short { length text.now ≤ text_limit }
         requires exists { i < length (tokens_of (chars text.now)) }
         ensures { slice_get (tokens_of (chars text.now)) i ≡ Some (extent_of result) }
     {
@@ -74,7 +75,7 @@ impl Tokens {
     /// How many tokens of `text` begin before a place.
     pub(crate) fn begun_before(&self, text: &str, place: u32) -> u32
         requires fits { FitsTokens self.now text.now }
-        requires short { length text.now ≤ 16777216 }
+        requires short { length text.now ≤ text_limit }
         ensures { result ≡ count_by (λ t. nat_lt t.begin place) (tokens_of (chars text.now)) }
     {
         match self {
@@ -86,7 +87,7 @@ impl Tokens {
     /// How many tokens of `text` end at or before a place.
     pub(crate) fn ended_by(&self, text: &str, place: u32) -> u32
         requires fits { FitsTokens self.now text.now }
-        requires short { length text.now ≤ 16777216 }
+        requires short { length text.now ≤ text_limit }
         ensures { result ≡ count_by (λ t. nat_le t.end place) (tokens_of (chars text.now)) }
     {
         match self {
@@ -98,7 +99,7 @@ impl Tokens {
 
 /// The number of tokens, found one by one.
 fn count_found(text: &str) -> u32
-    requires { length text.now ≤ 16777216 }
+    requires { length text.now ≤ text_limit }
     ensures { result ≡ length (tokens_of (chars text.now)) }
 {
     let mut count = 0;
@@ -111,7 +112,7 @@ fn count_found(text: &str) -> u32
 
 /// Token `i`, found after those before it; None where there are fewer.
 fn nth_found(text: &str, i: u32) -> Option<Span>
-    requires { length text.now ≤ 16777216 }
+    requires { length text.now ≤ text_limit }
     ensures { option_map extent_of result ≡ slice_get (tokens_of (chars text.now)) i }
 {
     let mut before = i;
@@ -127,7 +128,7 @@ fn nth_found(text: &str, i: u32) -> Option<Span>
 
 /// The number of tokens that begin before a place, found one by one.
 fn count_begun(text: &str, place: u32) -> u32
-    requires { length text.now ≤ 16777216 }
+    requires { length text.now ≤ text_limit }
     ensures { result ≡ count_by (λ t. nat_lt t.begin place) (tokens_of (chars text.now)) }
 {
     let mut count = 0;
@@ -142,7 +143,7 @@ fn count_begun(text: &str, place: u32) -> u32
 
 /// The number of tokens that end at or before a place, found one by one.
 fn count_ended(text: &str, place: u32) -> u32
-    requires { length text.now ≤ 16777216 }
+    requires { length text.now ≤ text_limit }
     ensures { result ≡ count_by (λ t. nat_le t.end place) (tokens_of (chars text.now)) }
 {
     let mut count = 0;

@@ -1,0 +1,47 @@
+ghost use Rattle.std.specs.Prelude.{ℕ, ◌≡◌, ◌-◌, ◌≤◌, ◌<◌, length, OnOk};
+ghost use Rattle.span_token.specs.Documents.{characters, len_of};
+ghost use Rattle.span_token.specs.Tokens.{tokens_of};
+ghost use Rattle.span_token.specs.SourceTokens.{nth_token};
+ghost use Rattle.span_token.specs.Offsets.{AreOffsets};
+
+use crate::{Document, OutOfMemory};
+
+/// The bytes of a token in the text of its document, half-open, from 0.
+#[derive(Clone, Copy)]
+pub(crate) struct TokenBytes {
+    pub(crate) begin: u32,
+    pub(crate) end: u32,
+}
+
+/// The bytes of the tokens with these numbers, none of which begins before `from`, in the place of what
+/// `into` held: each is found once, from the one before.
+pub(crate) fn put_offsets(
+    doc: &Document<'_>,
+    from: u32,
+    first: u32,
+    past: u32,
+    into: &mut Vec<TokenBytes>,
+) -> Result<(), OutOfMemory>
+    requires in_document { from ≤ len_of doc.now }
+    requires ordered { first ≤ past }
+    requires in_list { past ≤ length (tokens_of (characters doc.now)) }
+    requires ahead { (k : ℕ) → first ≤ k → k < past → from ≤ (nth_token (tokens_of (characters doc.now)) k).begin }
+    ensures number { OnOk result (length into.new.items ≡ past - first) }
+    ensures offsets { OnOk result (AreOffsets doc.now first into.new.items) }
+{
+    into.clear();
+    let mut place = from;
+    let mut byte = doc.byte_of(place);
+    for token in first..past {
+        let span = doc.token(token);
+        let begin = doc.byte_after(byte, place, span.begin);
+        let end = doc.byte_after(begin, span.begin, span.end);
+        into.push(TokenBytes {
+            begin: begin as u32,
+            end: end as u32,
+        })?;
+        place = span.end;
+        byte = end;
+    }
+    Ok(())
+}

@@ -1,0 +1,150 @@
+ghost use Rattle.std.specs.Prelude.{◌≡◌, ◌≤◌, ◌<◌, length, IfOk};
+ghost use Rattle.span_token.specs.Documents.{LiesIn, characters, text_in};
+ghost use Rattle.span_token.specs.Extents.{extent_of};
+ghost use Rattle.span_token.specs.SourceTokens.{InTextOrder, HoldsTokens, tokens_in, nth_token, run_extent};
+ghost use Rattle.span_token.specs.Tokens.{tokens_of};
+
+use crate::offsets::{TokenBytes, put_offsets};
+use crate::{Document, OutOfMemory, Span};
+use std::alloc::Global;
+use std::marker::Model;
+
+/// Room for the tokens of a source, kept from one source to the next. What it holds tells nothing.
+#[derive(Drop)]
+pub struct TokenRoom {
+    offsets: Vec<TokenBytes>,
+}
+
+impl TokenRoom {
+    /// No room so far; takes no memory.
+    pub fn new(alloc: Global) -> TokenRoom {
+        TokenRoom {
+            offsets: Vec::new(alloc),
+        }
+    }
+}
+
+/// Tokens of a document that stand in a row, with the bytes at which each begins and ends: the text of
+/// a run of them is found without a search. Contracts see the document and these tokens.
+///
+/// Tokens have numbers from 0 on.
+#[derive(Drop)]
+pub struct SourceTokens<'a, 'd> {
+    doc: &'a Document<'d>,
+    first: u32,
+    past: u32,
+    offsets: &'a [TokenBytes],
+}
+
+impl<'a, 'd> Model for SourceTokens<'a, 'd> {
+    ghost use Rattle.span_token.specs.SourceTokens.{SomeTokens};
+
+    ghost Value = { SomeTokens };
+
+    ghost use Rattle.span_token.specs.SourceLayout.{tokens_seen, AreKept};
+
+    ghost view = { tokens_seen };
+
+    ghost invariant = { AreKept };
+}
+
+impl<'a, 'd> SourceTokens<'a, 'd> {
+    /// The tokens wholly in `source`.
+    ///
+    /// Goes through the text of `source` once, where it isn't ASCII. Takes 8 bytes a token, and only
+    /// where `room` has none.
+    ///
+    /// Meaning: `tokens_in`, `specs/SourceTokens.antt`.
+    pub fn of(
+        room: &'a mut TokenRoom,
+        doc: &'a Document<'d>,
+        source: Span,
+    ) -> Result<SourceTokens<'a, 'd>, OutOfMemory>
+        requires in_document { LiesIn (extent_of source) doc.now }
+        ensures doc { IfOk result (λ t. t.doc ≡ doc.now) }
+        ensures tokens { IfOk result (λ t. t.tokens ≡ tokens_in doc.now (extent_of source)) }
+        ensures within { IfOk result (λ t. HoldsTokens (extent_of source) t.tokens) }
+    {
+        let (first, past) = doc.tokens_in(source);
+        let offsets = &mut room.offsets;
+        put_offsets(doc, source.begin, first, past, offsets)?;
+        Ok(SourceTokens {
+            doc,
+            first,
+            past,
+            offsets: offsets.as_slice(),
+        })
+    }
+
+    /// All tokens of `doc`.
+    pub fn all(
+        room: &'a mut TokenRoom,
+        doc: &'a Document<'d>,
+    ) -> Result<SourceTokens<'a, 'd>, OutOfMemory>
+        ensures doc { IfOk result (λ t. t.doc ≡ doc.now) }
+        ensures tokens { IfOk result (λ t. t.tokens ≡ tokens_of (characters doc.now)) }
+    {
+        let past = doc.token_count();
+        let offsets = &mut room.offsets;
+        put_offsets(doc, 0, 0, past, offsets)?;
+        Ok(SourceTokens {
+            doc,
+            first: 0,
+            past,
+            offsets: offsets.as_slice(),
+        })
+    }
+
+    /// How many they are. They aren't empty, and stand apart in the order of the text.
+    pub fn len(&self) -> usize
+        ensures len { result ≡ length self.now.tokens }
+        ensures order { InTextOrder self.now.tokens }
+    {
+        (self.past - self.first) as usize
+    }
+
+    /// Token `i`.
+    pub fn get(&self, i: usize) -> Span
+        requires there { i < length self.now.tokens }
+        ensures token { extent_of result ≡ nth_token self.now.tokens i }
+        ensures order { InTextOrder self.now.tokens }
+        ensures in_document { LiesIn (extent_of result) self.now.doc }
+    {
+        self.doc.token(self.first + i as u32)
+    }
+
+    /// The text of token `i`.
+    pub fn text(&self, i: usize) -> &'d str
+        requires there { i < length self.now.tokens }
+        ensures text { result.now ≡ text_in self.now.doc (nth_token self.now.tokens i) }
+    {
+        self.run_text(i, i)
+    }
+
+    /// From the begin of token `first` to the end of token `last`.
+    ///
+    /// Meaning: `run_extent`, `specs/SourceTokens.antt`.
+    pub fn run(&self, first: usize, last: usize) -> Span
+        requires in_order { first ≤ last }
+        requires there { last < length self.now.tokens }
+        ensures run { extent_of result ≡ run_extent self.now.tokens first last }
+        ensures in_document { LiesIn (extent_of result) self.now.doc }
+    {
+        let begin = self.get(first).begin;
+        let end = self.get(last).end;
+        Span { begin, end }
+    }
+
+    /// The text from the begin of token `first` to the end of token `last`.
+    pub fn run_text(&self, first: usize, last: usize) -> &'d str
+        requires in_order { first ≤ last }
+        requires there { last < length self.now.tokens }
+        ensures text { result.now ≡ text_in self.now.doc (run_extent self.now.tokens first last) }
+    {
+        let offsets = self.offsets;
+        let begin = offsets[first].begin as usize;
+        let end = offsets[last].end as usize;
+        let text = self.doc.text();
+        &text[begin..end]
+    }
+}
