@@ -4,3 +4,4 @@ pub mod PrintingViews
 pub mod Prints
 pub mod PrintLaws
 pub mod HasTokens
+pub mod SameTerms

@@ -164,14 +164,14 @@ prints_nowhere = record { prints = λ ks rest h all. absurd h }
 pub printed_later : (i : ℕ) (separator : List Kind) → printed_before (i + 1) separator ≡ separator
 printed_later i separator = grind (arith, nat_tests)
 
--- one of two keywords, of which the second is written
-pub prints_either : (w v : String) → is_word (codes v) ≡ true → Prints (Keyword free w or Keyword free v) (Keyword plain w or Keyword plain v) (word v ∷ [])
+-- one of two keywords, of which the second is written, and is the only plain one
+pub prints_either : (w v : String) → is_word (codes v) ≡ true → Prints (Keyword free w or Keyword free v) (Keyword plain v) (word v ∷ [])
 prints_either w v stands = record {
   prints = λ ks rest h all. record {
     after = either_goes_on w v ks rest h all;
     standing = just (word v) stands;
     freely = λ out. inr (codes v, refl, same_word_refl (codes v));
-    plainly = λ out. inr (codes v, refl, refl);
+    plainly = λ out. (codes v, refl, refl);
   };
 }
 

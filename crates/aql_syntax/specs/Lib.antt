@@ -1,6 +1,10 @@
 -- the tree
 pub mod Trees
+pub mod Lists
 pub mod Views
+pub mod Nodes
+pub mod Naming
+pub mod Sameness
 -- tokens
 pub mod Spellings
 pub mod Parts
@@ -8,5 +12,8 @@ pub mod Places
 -- the grammar
 pub mod Grammar
 pub mod Programs
+-- the shape that each statement with tokens has
+pub mod Shapes
+pub mod ShapeLaws
 -- print
 pub mod Printing

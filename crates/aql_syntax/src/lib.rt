@@ -6,13 +6,17 @@
 
 mod making;
 mod names;
+mod naming;
 mod printing;
+mod sameness;
 #[cfg(test)]
 mod tests;
 mod tree;
 
 pub use names::{is_reserved, same_word};
+pub use naming::is_dictionary_predicate;
 pub use printing::print;
+pub use sameness::same_term;
 pub use tree::{
     Ast, Cons, Extract, Flag, Form, FromPart, Ident, Item, Number, Query, Range, Select, Spec,
     Statement,

@@ -2,7 +2,7 @@
 use Rattle.std.specs.Prelude.{ℕ, Bool, true, false, List, [], ◌∷◌, Option, Some, None, codes, ◌⊎◌}
 use Prim.Native.String.{String}
 use Rattle.aql_lexer.specs.Kinds as k
-use Rattle.aql_syntax.specs.Spellings.{Spelling}
+use Rattle.aql_syntax.specs.Spellings.{Spelling, free, plain}
 use Rattle.aql_syntax.specs.Parts.{Part, ◌▸◌, ◌or◌, Nowhere, Token, Keyword, IsName, IsDictionaryName, IsInt, Optional, Each, Separated}
 use Rattle.aql_syntax.specs.Grammar.Expressions.{IsColumn}
 use Rattle.aql_syntax.specs.Trees.{Name, Number, Range, one, two, Group, Flag, exact, ignore_case}
@@ -17,6 +17,11 @@ abbrev pub unit_of : Bool → String
 unit_of true = "tokens"
 unit_of false = "characters"
 
+-- "token" | "tokens"; plainly always "tokens"
+abbrev pub IsCountWord : Spelling → Part
+IsCountWord free = Keyword free "token" or Keyword free "tokens"
+IsCountWord plain = Keyword plain "tokens"
+
 module _ (spelling : Spelling) where
   -- range = "between" Int "and" Int | Int
   abbrev pub IsRange : Range → Part
@@ -25,7 +30,7 @@ module _ (spelling : Spelling) where
 
   -- range ( "token" | "tokens" ) "in"
   abbrev pub IsBound : Range → Part
-  IsBound range = IsRange range ▸ (Keyword spelling "token" or Keyword spelling "tokens") ▸ Keyword spelling "in"
+  IsBound range = IsRange range ▸ IsCountWord spelling ▸ Keyword spelling "in"
 
   -- "as" name
   abbrev pub IsOutput : Name → Part

@@ -1,4 +1,4 @@
-use Rattle.aql_syntax.proofs.Viewing.{call_view}
+use Rattle.aql_syntax.specs.Nodes.{call_view}
 use Rattle.aql_syntax.proofs.tree.Ast.of_call.Goals as goal
 
 pub returns : goal.returns

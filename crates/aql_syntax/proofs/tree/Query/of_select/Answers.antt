@@ -1,4 +1,4 @@
-use Rattle.aql_syntax.proofs.Viewing.{select_view}
+use Rattle.aql_syntax.specs.Nodes.{select_view}
 use Rattle.aql_syntax.proofs.tree.Query.of_select.Goals as goal
 
 pub returns : goal.returns

@@ -1,4 +1,4 @@
-use Rattle.aql_syntax.proofs.Viewing.{union_view}
+use Rattle.aql_syntax.specs.Nodes.{union_view}
 use Rattle.aql_syntax.proofs.tree.Query.of_union.Goals as goal
 
 pub returns : goal.returns
