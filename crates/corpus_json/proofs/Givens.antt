@@ -5,7 +5,7 @@ use Rattle.std.proofs.KnownBytes.{Consumes-nil, Consumes-trans}
 use Rattle.std.specs.Io.KnownBytes.{Consumes, IsAtEnd}
 use Rattle.corpus_json.specs.declared.step.Step.{Step}
 use Rattle.corpus_json.specs.declared.step.Step.TheVariants.{Line, End, Long, Failed, Limit}
-use Rattle.corpus_json.specs.declared.limits.TheConstants.{CORPUS_LIMIT}
+use Rattle.corpus_json.specs.Limits.{corpus_limit}
 use Rattle.corpus_json.specs.Lines.{HasNoLf, lines_of, joined}
 use Rattle.corpus_json.specs.Reading.{Reading, settled, IsUnended, IsAnswer, NextLine}
 use Rattle.corpus_json.specs.Given.{IsGoing, IsOutcome, HasGiven, lines_after}
@@ -56,11 +56,11 @@ module _ (left_now : Option (List ℕ)) (faults_first faults_before faults_now :
             let last : lines_of true (ready ++ more) ≡ line ∷ [] =
             lines_of-rest true (ready ++ more) (subst HasNoLf (sym at_end.whole) answer.0.no_lf) ∙ last_line-ended (ready ++ more) at_end.some ∙ ap (λ whole. whole ∷ []) at_end.whole in
             comes_out (lines ++ line ∷ []) End at_end.ended
-            (lines_of-going true bytes lines ready more going ∙ ap (λ tail. lines ++ tail) last, at_end.at_end, subst (λ n. n < CORPUS_LIMIT) counted at_end.below)
+            (lines_of-going true bytes lines ready more going ∙ ap (λ tail. lines ++ tail) last, at_end.at_end, subst (λ n. n < corpus_limit) counted at_end.below)
       ]
   shows line End answer =
       comes_out lines End answer.3
-      (lines_of-going true bytes lines ready more going ∙ ap (λ tail. lines ++ lines_of true tail) answer.0 ∙ append-nil lines, answer.1, subst (λ n. n < CORPUS_LIMIT) counted answer.2)
+      (lines_of-going true bytes lines ready more going ∙ ap (λ tail. lines ++ lines_of true tail) answer.0 ∙ append-nil lines, answer.1, subst (λ n. n < corpus_limit) counted answer.2)
   shows line Long answer =
       comes_out lines Long answer.1
       (λ ended. record { others = lines_of ended (ready ++ more); split = lines_of-going ended bytes lines ready more going; first = lines_of-too_long ended (ready ++ more) answer.0 })
@@ -68,7 +68,7 @@ module _ (left_now : Option (List ℕ)) (faults_first faults_before faults_now :
       comes_out lines Failed answer.3 (
         lines_of-going false bytes lines ready more going ∙ ap (λ tail. lines ++ tail) (lines_of-unended (ready ++ more) answer.0) ∙ append-nil lines,
         omega (arith, answer.1),
-        subst (λ n. n < CORPUS_LIMIT) counted answer.2,
+        subst (λ n. n < corpus_limit) counted answer.2,
       )
   shows line Limit answer =
       comes_out lines Limit answer.2 (

@@ -4,6 +4,7 @@ pub mod Values
 pub mod LineCuts
 -- how a reader of lines comes to its answer
 pub mod Windows
+pub mod LastLf
 pub mod UnderWay
 -- what a run of a reader's calls gave, after one more answer
 pub mod Givens
@@ -13,3 +14,5 @@ mod PlacesLemmas
 mod RowSpans
 mod Sections
 mod Views
+-- the constants of the code are the limits of the definitions
+mod LimitLaws

@@ -4,7 +4,7 @@ use Rattle.std.proofs.lemmas.Bool.Decides.{nat_tests}
 use Rattle.std.proofs.lemmas.List.Elements.{All-head, All-tail, All-cons, All-nil}
 use Rattle.std.specs.Bool.{if◌then◌else◌}
 use Rattle.corpus_json.specs.Lines.{Cut, onto, cut, IsNotLf, HasNoLf, last_line, lines_of, joined, BeginsTooLong, FirstIsTooLong}
-use Rattle.corpus_json.specs.declared.limits.TheConstants.{LINE_LIMIT}
+use Rattle.corpus_json.specs.Limits.{line_limit}
 
 -- a front before what is cut already: it belongs to the first line, or to the rest where there is none
 abbrev onto_front : List ℕ → List (List ℕ) → List ℕ → Cut
@@ -62,12 +62,12 @@ last_line-ended [] some = absurd (some refl)
 last_line-ended (byte ∷ bytes) some = refl
 
 -- the rest is no line where the source didn't end and the bytes aren't too many for a line
-pub last_line-open : (bytes : List ℕ) → length bytes ≤ LINE_LIMIT → last_line false bytes ≡ []
+pub last_line-open : (bytes : List ℕ) → length bytes ≤ line_limit → last_line false bytes ≡ []
 last_line-open [] short = refl
 last_line-open (byte ∷ bytes) short = grind (arith, nat_tests)
 
 -- the rest is a line where its bytes are too many for a line
-pub last_line-long : (ended : Bool) (bytes : List ℕ) → LINE_LIMIT < length bytes → last_line ended bytes ≡ bytes ∷ []
+pub last_line-long : (ended : Bool) (bytes : List ℕ) → line_limit < length bytes → last_line ended bytes ≡ bytes ∷ []
 last_line-long ended [] long = absurd (omega arith)
 last_line-long true (byte ∷ bytes) long = refl
 last_line-long false (byte ∷ bytes) long = grind (arith, nat_tests)
@@ -80,10 +80,10 @@ cut-front (byte ∷ front) others none =
     ∙ ap (λ c. onto byte c.lines c.rest) (cut-front front others (All-tail IsNotLf byte front none))
     ∙ onto_front-byte byte front (cut others).lines (cut others).rest
 
-too_long_front : (ended : Bool) (front : List ℕ) (lines : List (List ℕ)) (rest : List ℕ) → LINE_LIMIT < length front
+too_long_front : (ended : Bool) (front : List ℕ) (lines : List (List ℕ)) (rest : List ℕ) → line_limit < length front
     → FirstIsTooLong ((onto_front front lines rest).lines ++ last_line ended (onto_front front lines rest).rest)
 too_long_front ended front [] rest long =
-    let longer : LINE_LIMIT < length (front ++ rest) = simp length-append (omega arith) in
+    let longer : line_limit < length (front ++ rest) = simp length-append (omega arith) in
     record { first = front ++ rest; later = []; split = last_line-long ended (front ++ rest) longer; long = longer }
 too_long_front ended front (line ∷ lines) rest long =
     record { first = front ++ line; later = lines ++ last_line ended rest; split = refl; long = simp length-append (omega arith) }

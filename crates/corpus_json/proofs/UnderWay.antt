@@ -6,7 +6,7 @@ use Rattle.std.proofs.KnownBytes.{Consumes-nil, Consumes-trans}
 use Rattle.std.specs.Io.KnownBytes.{Consumes}
 use Rattle.corpus_json.specs.declared.step.Step.{Step}
 use Rattle.corpus_json.specs.declared.step.Step.TheVariants.{Line, End, Long, Failed, Limit}
-use Rattle.corpus_json.specs.declared.limits.TheConstants.{LINE_LIMIT}
+use Rattle.corpus_json.specs.Limits.{line_limit}
 use Rattle.corpus_json.specs.Lines.{IsNotLf, HasNoLf}
 use Rattle.corpus_json.specs.Pieces.{TakesLine, TakesTooMany, TakesAll, TakesPiece, Fills, step_after}
 use Rattle.corpus_json.specs.Reading.{Reading, settled, IsUnended, IsAnswer, NextLine}
@@ -75,7 +75,7 @@ module _ (left_before : Option (List ℕ)) (faults_before : ℕ) (before : Readi
     gives_long then line_then took =
         let split : before.ready ++ way.more ≡ (line ++ took.piece) ++ took.others =
         way.bytes ∙ ap (λ ready. line ++ ready) took.split ∙ sym (append_assoc line took.piece took.others) in
-        let long : LINE_LIMIT < length (line ++ took.piece) = rw length-append took.long in
+        let long : line_limit < length (line ++ took.piece) = rw length-append took.long in
         let same : then.taken ≡ now.taken = ap (λ (r : Reading). r.taken) took.settled in
         let stands : then ≡ settled then.taken Long = took.settled ∙ ap (λ taken. settled taken Long) (sym same) in
         answered left_before left_now faults_before faults_now before then line_then way.more Long going way.consumed (same ∙ way.counted) (λ _. way.stands) none_more

@@ -4,7 +4,7 @@ use Rattle.std.proofs.lemmas.List.{drop-drop, drop-take, length-take-le, length-
 use Rattle.std.specs.Io.KnownBytes.{Consumes}
 use Rattle.corpus_json.specs.declared.step.Step.{Step}
 use Rattle.corpus_json.specs.declared.step.Step.TheVariants.{Long}
-use Rattle.corpus_json.specs.declared.limits.TheConstants.{CORPUS_LIMIT}
+use Rattle.corpus_json.specs.Limits.{corpus_limit}
 use Rattle.corpus_json.specs.Moves.{MovesWhole, IsTooMany}
 use Rattle.corpus_json.specs.Pieces.{TakesLine, TakesTooMany, Fills}
 use Rattle.corpus_json.specs.Reading.{Reading, settled}
@@ -62,7 +62,7 @@ pub fills-some : (left_before left_now : Option (List ℕ)) (faults_before fault
     → last ≡ None
     → n ≢ 0
     → n ≤ length buf
-    → taken + n ≤ CORPUS_LIMIT
+    → taken + n ≤ corpus_limit
     → Consumes left_before left_now (take n buf)
     → faults_now ≡ faults_before
     → Fills left_before left_now faults_before faults_now before record { ready = slice_range all 0 n; taken = taken + n; last = last } None

@@ -4,7 +4,7 @@ use Rattle.std.specs.Io.KnownBytes.{Consumes, IsAtEnd}
 use Rattle.aql_io.specs.Causes.{Rose}
 use Rattle.corpus_json.specs.declared.step.Step.{Step}
 use Rattle.corpus_json.specs.declared.step.Step.TheVariants.{Line, End, Long, Failed, Limit}
-use Rattle.corpus_json.specs.declared.limits.TheConstants.{CORPUS_LIMIT}
+use Rattle.corpus_json.specs.Limits.{corpus_limit}
 use Rattle.corpus_json.specs.Lines.{HasNoLf, FirstIsTooLong, joined, lines_of}
 use Rattle.corpus_json.specs.Reading.{Reading}
 
@@ -22,11 +22,11 @@ pub record GoesOnTooLong (all lines : List (List ℕ)) : Type 0 where
 -- what the answer that stays says of all the bytes and the lines that were given
 abbrev pub IsOutcome : List ℕ → List (List ℕ) → Option (List ℕ) → ℕ → ℕ → Step → Type 0
 IsOutcome bytes lines left faults_first faults_now Line = ⊥
-IsOutcome bytes lines left faults_first faults_now End = (lines_of true bytes ≡ lines) × IsAtEnd left × (length bytes < CORPUS_LIMIT)
+IsOutcome bytes lines left faults_first faults_now End = (lines_of true bytes ≡ lines) × IsAtEnd left × (length bytes < corpus_limit)
 IsOutcome bytes lines left faults_first faults_now Long = (ended : Bool) → GoesOnTooLong (lines_of ended bytes) lines
 IsOutcome bytes lines left faults_first faults_now Failed =
-    (lines_of false bytes ≡ lines) × Rose faults_first faults_now × (length bytes < CORPUS_LIMIT)
-IsOutcome bytes lines left faults_first faults_now Limit = (lines_of false bytes ≡ lines) × (length bytes ≡ CORPUS_LIMIT)
+    (lines_of false bytes ≡ lines) × Rose faults_first faults_now × (length bytes < corpus_limit)
+IsOutcome bytes lines left faults_first faults_now Limit = (lines_of false bytes ≡ lines) × (length bytes ≡ corpus_limit)
 
 -- since the first call these bytes were taken from the source and these lines given
 pub record HasGiven (left_first left_now : Option (List ℕ)) (faults_first faults_now : ℕ) (now : Reading) (lines : List (List ℕ)) : Type 0 where

@@ -1,3 +1,5 @@
+-- how large a corpus and its lines may be
+pub mod Limits
 -- the lines of the bytes that a corpus gave
 pub mod Lines
 -- what a reader of lines took and gave

@@ -1,7 +1,7 @@
 -- The lines of the bytes that a corpus gave.
 use Rattle.std.specs.Prelude.{◌≡◌, ◌≢◌, ℕ, ◌+◌, ◌<◌, ◌==◌, ◌||◌, Bool, nat_lt, if◌then◌else◌, List, [], ◌∷◌, ◌++◌, length, take, drop, All}
 use Rattle.std.specs.List.{flat_map}
-use Rattle.corpus_json.specs.declared.limits.TheConstants.{LINE_LIMIT}
+use Rattle.corpus_json.specs.Limits.{line_limit}
 
 -- bytes taken apart at each LF: the lines that an LF ends, without it, and what stands after the last LF
 pub record Cut : Type 0 where
@@ -30,7 +30,7 @@ HasNoLf bytes = All IsNotLf bytes
 
 -- the line has more bytes than a line may have
 abbrev pub is_too_long : List ℕ → Bool
-is_too_long line = nat_lt LINE_LIMIT (length line)
+is_too_long line = nat_lt line_limit (length line)
 
 -- what stands after the last LF, as a line: where bytes stand there, and either the source ended with them or they are too many for a line
 abbrev pub last_line : Bool → List ℕ → List (List ℕ)
@@ -51,14 +51,14 @@ pub record BeginsTooLong (bytes : List ℕ) : Type 0 where
   pub others : List ℕ
   pub split : bytes ≡ front ++ others
   pub no_lf : HasNoLf front
-  pub long : LINE_LIMIT < length front
+  pub long : line_limit < length front
 
 -- the first of some lines is too long
 pub record FirstIsTooLong (lines : List (List ℕ)) : Type 0 where
   pub first : List ℕ
   pub later : List (List ℕ)
   pub split : lines ≡ first ∷ later
-  pub long : LINE_LIMIT < length first
+  pub long : line_limit < length first
 
 -- the first LF of the bytes stands at place n
 pub record FirstLfAt (bytes : List ℕ) (n : ℕ) : Type 0 where

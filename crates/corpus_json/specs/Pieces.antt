@@ -4,7 +4,7 @@ use Rattle.std.specs.Io.KnownBytes.{Consumes, IsAtEnd}
 use Rattle.aql_io.specs.Causes.{counted}
 use Rattle.corpus_json.specs.declared.step.Step.{Step}
 use Rattle.corpus_json.specs.declared.step.Step.TheVariants.{Line, End, Long, Failed, Limit}
-use Rattle.corpus_json.specs.declared.limits.TheConstants.{LINE_LIMIT, CORPUS_LIMIT}
+use Rattle.corpus_json.specs.Limits.{line_limit, corpus_limit}
 use Rattle.corpus_json.specs.Lines.{HasNoLf}
 use Rattle.corpus_json.specs.Reading.{Reading, settled}
 
@@ -14,7 +14,7 @@ pub record TakesLine (before now : Reading) (line_before line_now : List ℕ) : 
   pub line : line_now ≡ line_before ++ piece
   pub split : before.ready ≡ piece ++ 10 ∷ now.ready
   pub no_lf : HasNoLf piece
-  pub short : length line_now ≤ LINE_LIMIT
+  pub short : length line_now ≤ line_limit
   pub same : now ≡ record before { ready = now.ready }
 
 -- the line would be too long with what is ready up to the first LF
@@ -23,14 +23,14 @@ pub record TakesTooMany (before now : Reading) (line_before : List ℕ) : Type 0
   pub others : List ℕ
   pub split : before.ready ≡ piece ++ others
   pub no_lf : HasNoLf piece
-  pub long : LINE_LIMIT < length line_before + length piece
+  pub long : line_limit < length line_before + length piece
   pub settled : now ≡ settled before.taken Long
 
 -- all that was ready is at the end of the line, and no LF is in it
 pub record TakesAll (before now : Reading) (line_before line_now : List ℕ) : Type 0 where
   pub line : line_now ≡ line_before ++ before.ready
   pub no_lf : HasNoLf before.ready
-  pub short : length line_now ≤ LINE_LIMIT
+  pub short : length line_now ≤ line_limit
   pub same : now ≡ record before { ready = [] }
 
 -- what a piece did, by the answer
@@ -45,16 +45,16 @@ TakesPiece before now line_before line_now (Some Limit) = ⊥
 -- why a read brought nothing: the source's end, a fault, or the corpus's limit
 abbrev pub BringsNothing : Option (List ℕ) → ℕ → ℕ → Reading → Reading → Step → Type 0
 BringsNothing left faults_before faults_now before now Line = ⊥
-BringsNothing left faults_before faults_now before now End = IsAtEnd left × (before.taken < CORPUS_LIMIT) × (now ≡ settled before.taken End)
+BringsNothing left faults_before faults_now before now End = IsAtEnd left × (before.taken < corpus_limit) × (now ≡ settled before.taken End)
 BringsNothing left faults_before faults_now before now Long = ⊥
 BringsNothing left faults_before faults_now before now Failed =
-    (faults_now ≡ counted faults_before) × (before.taken < CORPUS_LIMIT) × (now ≡ settled before.taken Failed)
-BringsNothing left faults_before faults_now before now Limit = (before.taken ≡ CORPUS_LIMIT) × (now ≡ settled before.taken Limit)
+    (faults_now ≡ counted faults_before) × (before.taken < corpus_limit) × (now ≡ settled before.taken Failed)
+BringsNothing left faults_before faults_now before now Limit = (before.taken ≡ corpus_limit) × (now ≡ settled before.taken Limit)
 
 -- what a read brought, by the answer
 abbrev pub Brings : Option (List ℕ) → ℕ → ℕ → Reading → Reading → List ℕ → Option Step → Type 0
 Brings left faults_before faults_now before now more None =
-    (more ≢ []) × (before.taken + length more ≤ CORPUS_LIMIT) × (now ≡ record { ready = more; taken = before.taken + length more; last = None })
+    (more ≢ []) × (before.taken + length more ≤ corpus_limit) × (now ≡ record { ready = more; taken = before.taken + length more; last = None })
 Brings left faults_before faults_now before now more (Some step) = (more ≡ []) × BringsNothing left faults_before faults_now before now step
 
 -- what a read did: it brought some bytes, which are ready, or nothing for a reason

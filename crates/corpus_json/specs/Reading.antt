@@ -4,7 +4,7 @@ use Rattle.std.specs.Io.KnownBytes.{Consumes, IsAtEnd}
 use Rattle.aql_io.specs.Causes.{Rose}
 use Rattle.corpus_json.specs.declared.step.Step.{Step}
 use Rattle.corpus_json.specs.declared.step.Step.TheVariants.{Line, End, Long, Failed, Limit}
-use Rattle.corpus_json.specs.declared.limits.TheConstants.{LINE_LIMIT, CORPUS_LIMIT}
+use Rattle.corpus_json.specs.Limits.{line_limit, corpus_limit}
 use Rattle.corpus_json.specs.Lines.{HasNoLf, BeginsTooLong}
 
 -- a reading: the bytes that were taken and not given yet, how many were taken in all, and the answer that every later call gives, once it is known
@@ -27,23 +27,23 @@ pub record EndsAtEnd (bytes line : List ℕ) (left : Option (List ℕ)) (now : R
   pub whole : bytes ≡ line
   pub some : bytes ≢ []
   pub at_end : IsAtEnd left
-  pub below : now.taken < CORPUS_LIMIT
+  pub below : now.taken < corpus_limit
   pub ended : now ≡ settled now.taken End
 
 -- no LF stands in the bytes, and they aren't too many for a line
 pub record IsUnended (bytes : List ℕ) : Type 0 where
   pub no_lf : HasNoLf bytes
-  pub short : length bytes ≤ LINE_LIMIT
+  pub short : length bytes ≤ line_limit
 
 -- what each answer says of the bytes that were ready before it, with those that were taken for it:
 -- they begin with the line; there are none and the source is at its end; their first line is too long;
 -- a read failed before their line was whole; or the corpus has reached its limit before
 abbrev pub IsAnswer : List ℕ → List ℕ → Option (List ℕ) → ℕ → ℕ → Reading → Step → Type 0
 IsAnswer bytes line left before faults now Line = IsUnended line × (EndsAtLf bytes line now ⊎ EndsAtEnd bytes line left now)
-IsAnswer bytes line left before faults now End = (bytes ≡ []) × IsAtEnd left × (now.taken < CORPUS_LIMIT) × (now ≡ settled now.taken End)
+IsAnswer bytes line left before faults now End = (bytes ≡ []) × IsAtEnd left × (now.taken < corpus_limit) × (now ≡ settled now.taken End)
 IsAnswer bytes line left before faults now Long = BeginsTooLong bytes × (now ≡ settled now.taken Long)
-IsAnswer bytes line left before faults now Failed = IsUnended bytes × Rose before faults × (now.taken < CORPUS_LIMIT) × (now ≡ settled now.taken Failed)
-IsAnswer bytes line left before faults now Limit = IsUnended bytes × (now.taken ≡ CORPUS_LIMIT) × (now ≡ settled now.taken Limit)
+IsAnswer bytes line left before faults now Failed = IsUnended bytes × Rose before faults × (now.taken < corpus_limit) × (now ≡ settled now.taken Failed)
+IsAnswer bytes line left before faults now Limit = IsUnended bytes × (now.taken ≡ corpus_limit) × (now ≡ settled now.taken Limit)
 
 -- one call of a reader: `more` is what it took from the source; no read failed where it doesn't say so, and no second one where it does;
 -- a reading that stands still takes nothing and answers the same

@@ -1,15 +1,17 @@
-ghost use Rattle.std.specs.Prelude.{IsTrue, ◌↔◌, ◌≡◌, ◌≤◌, ℕ, [], None, Some, Ok, IfOk, OnErr, IfSome, is_some, length, vec_len, take, min, MatchResult, MatchOption, ◌-◌};
+ghost use Rattle.std.specs.Prelude.{IsTrue, ◌↔◌, ◌≡◌, ◌≤◌, ℕ, [], None, Contains, Some, Ok, IfOk, OnErr, IfSome, is_some, length, vec_len, take, min, MatchResult, MatchOption, ◌-◌};
 ghost use Rattle.std.specs.Io.KnownBytes.{Consumes, Keeps, IsAtEnd};
 ghost use Rattle.aql_io.specs.Causes.{HasCause};
+ghost use Rattle.corpus_json.specs.Limits.{line_limit, corpus_limit};
 ghost use Rattle.corpus_json.specs.Lines.{HasNoLf, FirstLfAt};
 ghost use Rattle.corpus_json.specs.Moves.{MovesPiece};
 ghost use Rattle.corpus_json.specs.Pieces.{TakesPiece, Fills, step_after};
 ghost use Rattle.corpus_json.specs.Reading.{NextLine, Took};
+ghost use Rattle.corpus_json.specs.Window.{IsPastLastLf};
 
 use crate::Step;
 use crate::limits::{CORPUS_LIMIT, LINE_LIMIT};
 use aql_io::{Failed, Source};
-use memchr::memchr;
+use memchr::{memchr, memrchr};
 use span_token::OutOfMemory;
 use std::alloc::Global;
 use std::marker::Model;
@@ -25,6 +27,7 @@ pub struct LineBuffer {
     bytes: Vec<u8>,
     from: usize,
     to: usize,
+    past_last_lf: usize,
     taken: u64,
     last: Option<Step>,
 }
@@ -38,7 +41,7 @@ impl Model for LineBuffer {
 
     ghost view = { λ b. record { ready = slice_range b.bytes.items b.from b.to; taken = b.taken; last = b.last } };
 
-    ghost invariant = { λ b. IsWindow b.bytes b.from b.to b.taken };
+    ghost invariant = { λ b. IsWindow b.bytes b.from b.to b.past_last_lf b.taken };
 }
 
 impl LineBuffer {
@@ -51,6 +54,7 @@ impl LineBuffer {
             bytes,
             from: 0,
             to: 0,
+            past_last_lf: 0,
             taken: 0,
             last: None,
         })
@@ -59,7 +63,7 @@ impl LineBuffer {
     /// How many bytes were taken from the source in all.
     pub fn taken(&self) -> u64
         ensures count { result ≡ self.now.taken }
-        ensures below { self.now.taken ≤ CORPUS_LIMIT }
+        ensures below { self.now.taken ≤ corpus_limit }
     {
         self.taken
     }
@@ -69,6 +73,13 @@ impl LineBuffer {
         ensures { IsTrue result ↔ (self.now.ready ≡ []) }
     {
         self.from == self.to
+    }
+
+    /// Whether the next line is ready with its LF, so that it is given without a read.
+    pub fn has_line(&self) -> bool
+        ensures { IsTrue result ↔ Contains self.now.ready 10 }
+    {
+        self.from < self.past_last_lf
     }
 
     /// Puts the next line of `source` into `line`, or says why there is none.
@@ -117,7 +128,7 @@ impl LineBuffer {
     /// Moves what is ready, up to the first LF, to the end of `line`.
     fn take_piece(&mut self, line: &mut Vec<u8>) -> Result<Option<Step>, OutOfMemory>
         requires going { self.old.last ≡ None }
-        requires short { vec_len line.old ≤ LINE_LIMIT }
+        requires short { vec_len line.old ≤ line_limit }
         ensures { IfOk result (TakesPiece self.old self.new line.old.items line.new.items) }
     {
         match move_piece(&self.bytes[self.from..self.to], line)? {
@@ -146,6 +157,7 @@ impl LineBuffer {
     {
         self.from = 0;
         self.to = 0;
+        self.past_last_lf = 0;
         let most = room_below(self.taken);
         if most < 1 {
             self.last = Some(Step::Limit);
@@ -158,6 +170,7 @@ impl LineBuffer {
             }
             Ok(n) => {
                 self.to = n;
+                self.past_last_lf = past_last_lf(&self.bytes[..n]);
                 self.taken += n as u64;
                 None
             }
@@ -182,7 +195,7 @@ pub enum Piece {
 
 /// Moves `ready`, up to its first LF, to the end of `line`, where the line has room for it.
 fn move_piece(ready: &[u8], line: &mut Vec<u8>) -> Result<Piece, OutOfMemory>
-    requires { vec_len line.old ≤ LINE_LIMIT }
+    requires { vec_len line.old ≤ line_limit }
     ensures { IfOk result (MovesPiece ready.now line.old.items line.new.items) }
 {
     let room = LINE_LIMIT - line.len();
@@ -211,6 +224,16 @@ fn find_lf(bytes: &[u8]) -> Option<usize>
     memchr(b'\n', bytes)
 }
 
+/// The place just past the last LF, or 0 where there is none.
+fn past_last_lf(bytes: &[u8]) -> usize
+    ensures { IsPastLastLf bytes.now (length bytes.now) result }
+{
+    match memrchr(b'\n', bytes) {
+        Some(n) => n + 1,
+        None => 0,
+    }
+}
+
 /// The answer where a read brought nothing: at the source's end, a line that was begun is whole.
 fn last_step(step: Step, is_empty: bool) -> Step
     ensures { result ≡ step_after step is_empty }
@@ -223,8 +246,8 @@ fn last_step(step: Step, is_empty: bool) -> Step
 
 /// How many bytes the next read may bring, where `taken` were taken.
 fn room_below(taken: u64) -> usize
-    requires { taken ≤ CORPUS_LIMIT }
-    ensures { result ≡ min ROOM (CORPUS_LIMIT - taken) }
+    requires { taken ≤ corpus_limit }
+    ensures { result ≡ min ROOM (corpus_limit - taken) }
 {
     let left = CORPUS_LIMIT - taken;
     ROOM.min(left as usize)

@@ -1,6 +1,6 @@
 -- Each turn takes what is ready, and reads at least one byte more or ends.
 use Rattle.std.proofs.Common.{◌≡◌, ◌-◌, is_some}
-use Rattle.corpus_json.specs.declared.limits.TheConstants.{CORPUS_LIMIT}
+use Rattle.corpus_json.specs.Limits.{corpus_limit}
 use Rattle.corpus_json.proofs.UnderWay.{IsUnderWay}
 use Rattle.corpus_json.proofs.line_buffer.LineBuffer.next_line.Given as goal
 
@@ -11,4 +11,4 @@ invariant-pieces g l = record {
 }
 
 abbrev pub decreases-pieces : goal.decreases-pieces
-decreases-pieces g l = CORPUS_LIMIT - l.self.taken
+decreases-pieces g l = corpus_limit - l.self.taken
