@@ -36,7 +36,7 @@ module _ {X : Type 0} where
       omega (arith, sum_by-cons (λ y. number_of (p y)) x xs, first, rest)
 
   -- an element that passes is counted
-  some_counted : (p : X → Bool) (xs : List X) (k : ℕ) (d : X) → k < length xs → p (get_or xs k d) ≡ true → 1 ≤ count_by p xs
+  pub some_counted : (p : X → Bool) (xs : List X) (k : ℕ) (d : X) → k < length xs → p (get_or xs k d) ≡ true → 1 ≤ count_by p xs
   some_counted p [] k d below h = absurd (omega arith)
   some_counted p (x ∷ xs) zero d below h = omega (arith, sum_by-cons (λ y. number_of (p y)) x xs, ap number_of h)
   some_counted p (x ∷ xs) (suc k) d below h = omega (arith, sum_by-cons (λ y. number_of (p y)) x xs, some_counted p xs k d (omega arith) h)

@@ -92,7 +92,7 @@ fn one_output(alloc: Global, parts: Parts<'_>) -> Result<Vec<Output>, OutOfMemor
 {
     let mut columns = OwnedList::new(alloc);
     columns.push(OwnedText::copied(alloc, parts.column)?)?;
-    let output = Output::new(alloc, OwnedText::copied(alloc, parts.view)?, columns)?;
+    let output = Output::new(OwnedText::copied(alloc, parts.view)?, columns)?;
     let mut outputs = Vec::new(alloc);
     outputs.push(output)?;
     Ok(outputs)

@@ -106,7 +106,7 @@ fn output(alloc: Global, name: &str, column: &str) -> Result<Output, OutOfMemory
 {
     let mut columns = OwnedList::new(alloc);
     columns.push(OwnedText::copied(alloc, column)?)?;
-    Ok(Output::new(alloc, OwnedText::copied(alloc, name)?, columns)?)
+    Ok(Output::new(OwnedText::copied(alloc, name)?, columns)?)
 }
 
 /// An output with two columns.
@@ -122,7 +122,7 @@ fn output_of_two(
     let mut columns = OwnedList::new(alloc);
     columns.push(OwnedText::copied(alloc, first)?)?;
     columns.push(OwnedText::copied(alloc, second)?)?;
-    Ok(Output::new(alloc, OwnedText::copied(alloc, name)?, columns)?)
+    Ok(Output::new(OwnedText::copied(alloc, name)?, columns)?)
 }
 
 /// Rows of one value.

@@ -1,8 +1,9 @@
 -- Values as definitions see them: a text is its bytes, wherever they lie.
-use Rattle.std.specs.Prelude.{ℕ, ℤ, Bool, List}
+use Rattle.std.specs.Prelude.{ℕ, ℤ, Bool, true, false, List, Option, Some, None, ⊤}
 use Rattle.std.specs.Cmp.Lexicographic.{slice_cmp}
 use Rattle.std.specs.Ordering.{nat_cmp, int_cmp, bool_cmp, ordering_then}
 use Rattle.std.specs.declared.cmp.Ordering.{Ordering}
+use Rattle.span_token.specs.Documents.{Doc, LiesIn}
 use Rattle.span_token.specs.Extents.{Extent, extent_of}
 use Rattle.row_values.specs.declared.value.Value.{Value}
 use Rattle.row_values.specs.declared.value.Value.TheVariants.{Null, Int, Bool as Truth, Text, Span}
@@ -22,6 +23,29 @@ datum_of (Int n) = int n
 datum_of (Truth b) = truth b
 datum_of (Text t) = text t.now
 datum_of (Span s) = span (extent_of s)
+
+-- whether a value is Null
+abbrev pub is_null : Datum → Bool
+is_null null = true
+is_null value = false
+
+-- the integer that a value is; of Null and of a value of another kind none
+abbrev pub integer_of : Datum → Option ℤ
+integer_of (int n) = Some n
+integer_of value = None
+
+-- the span that a value is; of Null and of a value of another kind none
+abbrev pub span_of : Datum → Option Extent
+span_of (span e) = Some e
+span_of value = None
+
+-- a value that is a span lies in the document
+abbrev pub IsOfDocument : Doc → Datum → Type 0
+IsOfDocument document null = ⊤
+IsOfDocument document (int n) = ⊤
+IsOfDocument document (truth b) = ⊤
+IsOfDocument document (text t) = ⊤
+IsOfDocument document (span extent) = LiesIn extent document
 
 -- the place of a value's kind: Null, then integers, truth values, texts and spans
 abbrev pub kind_of : Datum → ℕ

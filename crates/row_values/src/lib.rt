@@ -11,8 +11,6 @@ mod order;
 mod output;
 mod row;
 mod rows;
-#[cfg(test)]
-mod tests;
 mod value;
 
 pub use order::{compare_rows, compare_values, is_in_order, same_value, sort_rows};

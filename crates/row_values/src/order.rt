@@ -1,4 +1,5 @@
 ghost use Rattle.std.specs.Prelude.{◌≡◌, ◌↔◌, IsTrue, OnOk, OnErr};
+ghost use Rattle.aql_base.specs.Bags.{SameBag};
 ghost use Rattle.row_values.specs.Datums.{datum_of, datum_cmp};
 ghost use Rattle.row_values.specs.Rows.{row_cmp, IsInOrder, sorted};
 
@@ -41,6 +42,8 @@ pub fn is_in_order(rows: &Rows<'_>) -> bool
 /// After want of memory the list is as it was.
 pub fn sort_rows(rows: &mut Rows<'_>) -> Result<(), OutOfMemory>
     ensures ok { OnOk result (rows.new ≡ record { width = rows.old.width; rows = sorted rows.old.rows }) }
+    ensures bag { OnOk result (SameBag rows.old.rows rows.new.rows) }
+    ensures in_order { OnOk result (IsInOrder rows.new.rows) }
     ensures err { OnErr result (rows.new ≡ rows.old) }
 {
     rows.sort();

@@ -83,13 +83,6 @@ impl<'d> Row<'d> {
         Ok(row)
     }
 
-    /// The row, followed by the values of `other`.
-    pub fn joined(&self, alloc: Global, other: &Row<'d>) -> Result<Row<'d>, OutOfMemory>
-        ensures { IfOk result (λ row. row ≡ self.now ++ other.now) }
-    {
-        self.followed_by(alloc, other.values())
-    }
-
     /// Puts `value` after the others. After want of memory the row is as it was.
     pub fn push(&mut self, value: Value<'d>) -> Result<(), OutOfMemory>
         ensures ok { OnOk result (self.new ≡ self.old ++ datum_of value.entry ∷ []) }

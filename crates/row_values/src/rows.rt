@@ -1,7 +1,8 @@
 ghost use Rattle.std.specs.Prelude.{◌≡◌, ◌<◌, ◌≤◌, ◌^◌, ◌+◌, ◌++◌, ◌∷◌, [], length, map, slice_index_or, IfOk, OnOk, OnErr};
 ghost use Rattle.std.specs.Vec.{vec_len};
 ghost use Rattle.std.specs.List.{All};
-ghost use Rattle.row_values.specs.Rows.{RowList, sorted};
+ghost use Rattle.aql_base.specs.Bags.{SameBag};
+ghost use Rattle.row_values.specs.Rows.{IsInOrder, RowList, sorted};
 
 use crate::Row;
 use span_token::OutOfMemory;
@@ -139,7 +140,9 @@ impl<'d> Rows<'d> {
 
     /// The rows, borrowed, in row order. Rows that are in order take one pass.
     pub fn sorted(&self, alloc: Global) -> Result<Vec<&Row<'d>>, OutOfMemory>
-        ensures { IfOk result (λ out. map (λ row. row.now) out.items ≡ sorted self.now.rows) }
+        ensures rows { IfOk result (λ out. map (λ row. row.now) out.items ≡ sorted self.now.rows) }
+        ensures bag { IfOk result (λ out. SameBag self.now.rows (map (λ row. row.now) out.items)) }
+        ensures in_order { IfOk result (λ out. IsInOrder (map (λ row. row.now) out.items)) }
     {
         let mut out = self.borrowed(alloc)?;
         if !self.rows.as_slice().is_sorted() {

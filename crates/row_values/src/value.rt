@@ -1,8 +1,10 @@
 ghost use Rattle.std.specs.Prelude.{◌≡◌, refl};
+ghost use Rattle.std.specs.Option.{option_map};
 ghost use Rattle.std.specs.Cmp.{on_equiv, on_per, on_po, on_total, partial_equiv_from_equiv, po};
 ghost use Rattle.std.specs.Ordering.{as_partial_cmp, eq_by_cmp, on};
 ghost use Rattle.std.proofs.lemmas.Cmp.{eq_by_cmp_equiv};
-ghost use Rattle.row_values.specs.Datums.{datum_cmp, datum_of, kind_of};
+ghost use Rattle.span_token.specs.Extents.{extent_of};
+ghost use Rattle.row_values.specs.Datums.{datum_cmp, datum_of, integer_of, is_null, kind_of, span_of};
 ghost use Rattle.row_values.specs.Hashing.{datum_input, datum_input-same};
 ghost use Rattle.row_values.specs.RowOrder.{datum_cmp_total};
 
@@ -27,6 +29,36 @@ pub enum Value<'d> {
 }
 
 impl<'d> Value<'d> {
+    /// Whether it is Null.
+    #[inline(always)]
+    pub fn is_null(self) -> bool
+        ensures { result ≡ is_null (datum_of self.entry) }
+    {
+        matches!(self, Value::Null)
+    }
+
+    /// The integer that it is; of another kind none.
+    #[inline(always)]
+    pub fn as_int(self) -> Option<i64>
+        ensures { result ≡ integer_of (datum_of self.entry) }
+    {
+        match self {
+            Value::Int(n) => Some(n),
+            _ => None,
+        }
+    }
+
+    /// The span that it is; of another kind none.
+    #[inline(always)]
+    pub fn as_span(self) -> Option<Span>
+        ensures { option_map extent_of result ≡ span_of (datum_of self.entry) }
+    {
+        match self {
+            Value::Span(span) => Some(span),
+            _ => None,
+        }
+    }
+
     /// The place of the value's kind in the order of values, from 0.
     fn kind(&self) -> u8
         ensures { result ≡ kind_of (datum_of self.now) }
@@ -79,7 +111,7 @@ impl<'d> Ord for Value<'d> {
             (Value::Int(a), Value::Int(b)) => a.cmp(b),
             (Value::Bool(a), Value::Bool(b)) => a.cmp(b),
             (Value::Text(a), Value::Text(b)) => a.cmp(b),
-            (Value::Span(a), Value::Span(b)) => a.begin.cmp(&b.begin).then(a.end.cmp(&b.end)),
+            (Value::Span(a), Value::Span(b)) => a.cmp(b),
             _ => self.kind().cmp(&other.kind()),
         }
     }

@@ -2,7 +2,7 @@ use Rattle.std.proofs.Common.{subst}
 use Rattle.aql_base.proofs.Sorting.{sorted_from_answer}
 use Rattle.row_values.specs.RowOrder.{row_cmp_total}
 use Rattle.row_values.specs.Rows.{IsInOrder}
-use Rattle.row_values.proofs.Sorted.{sorted-in_order, IsInOrder-sorted}
+use Rattle.row_values.specs.SortedRows.{sorted-in_order, IsInOrder-sorted}
 use Rattle.row_values.proofs.order.is_in_order.Goals as goal
 
 pub returns : goal.returns

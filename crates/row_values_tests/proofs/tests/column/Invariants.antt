@@ -1,5 +1,5 @@
 use Rattle.std.proofs.Common.{◌≡◌}
-use Rattle.row_values.proofs.tests.column.Given as goal
+use Rattle.row_values_tests.proofs.tests.column.Given as goal
 
 abbrev pub invariant-loop-value : goal.invariant-loop-value
 invariant-loop-value l = l.rows.width ≡ 1

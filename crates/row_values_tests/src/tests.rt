@@ -1,6 +1,10 @@
 ghost use Rattle.std.specs.Prelude.{◌≡◌, ◌+◌, ◌<◌, ◌≤◌, ◌^◌, length, IfOk};
 
-use super::*;
+use aql_base::same_bag;
+use row_values::{
+    Output, Row, Rows, Value, compare_rows, compare_values, has_distinct_names, is_in_order,
+    same_value, sort_rows,
+};
 use span_token::{OwnedList, OwnedText, Span};
 use std::alloc::Global;
 use std::cmp::Ordering;
@@ -48,6 +52,23 @@ fn values_are_in_order_by_kind_and_then_by_what_they_show(rt: HostRuntime) {
     }
 }
 
+#[test]
+fn a_value_tells_what_it_is(rt: HostRuntime) {
+    let at = Span { begin: 1, end: 3 };
+    let table = [
+        (Value::Null, true, None, None),
+        (Value::Int(-7), false, Some(-7), None),
+        (Value::Bool(true), false, None, None),
+        (Value::Text("7"), false, None, None),
+        (Value::Span(at), false, None, Some(at)),
+    ];
+    for (value, null, int, span) in table {
+        assert_eq!(rt; value.is_null(), null, "{value:?}");
+        assert_eq!(rt; value.as_int(), int, "{value:?}");
+        assert_eq!(rt; value.as_span(), span, "{value:?}");
+    }
+}
+
 /// The row of the given values.
 fn row<'d>(alloc: Global, values: &[Value<'d>]) -> Result<Row<'d>, Fail>
     ensures { IfOk result (λ row. length row ≡ length values.now) }
@@ -87,11 +108,6 @@ fn followed<'d>(alloc: Global, front: &[Value<'d>], back: &[Value<'d>]) -> Resul
     Ok(row(alloc, front)?.followed_by(alloc, back)?)
 }
 
-/// The same, made by joining two rows.
-fn joined<'d>(alloc: Global, front: &[Value<'d>], back: &[Value<'d>]) -> Result<Row<'d>, Fail> {
-    Ok(row(alloc, front)?.joined(alloc, &row(alloc, back)?)?)
-}
-
 /// The same, made by filling an empty row.
 fn filled<'d>(alloc: Global, front: &[Value<'d>], back: &[Value<'d>]) -> Result<Row<'d>, Fail> {
     let mut row = Row::empty(alloc);
@@ -127,7 +143,6 @@ fn a_row_is_made_from_a_vec_from_values_and_from_rows(rt: HostRuntime) -> Result
     for at in 0..6 {
         let (front, back) = five.split_at(at);
         assert_eq!(rt; followed(alloc, front, back)?.values(), five.as_slice());
-        assert_eq!(rt; joined(alloc, front, back)?.values(), five.as_slice());
         assert_eq!(rt; filled(alloc, front, back)?.values(), five.as_slice());
         for row in pushed(alloc, front, back)?.as_slice() {
             assert_eq!(rt; row.values(), five.as_slice());
@@ -168,8 +183,22 @@ fn a_sort_keeps_equal_rows_and_puts_null_first(rt: HostRuntime) -> Result<(), Fa
     sort_rows(&mut rows)?;
     assert!(rt; is_in_order(&rows));
     assert!(rt; rows.as_slice() == want.as_slice());
+    assert!(rt; same_bag(rows.as_slice(), column(alloc, &mixed)?.as_slice()));
+    assert!(rt; !same_bag(rows.as_slice(), column(alloc, &mixed[1..])?.as_slice()));
+    Ok(())
+}
+
+#[test]
+fn many_rows_are_sorted(rt: HostRuntime) -> Result<(), Fail> {
+    let alloc = rt.alloc();
+    let mut rows = Rows::new(alloc, 1);
+    for i in 0..4001i64 {
+        rows.push(Row::single(alloc, Value::Int(i * 1000 % 4001)))?;
+    }
     sort_rows(&mut rows)?;
-    assert!(rt; rows.as_slice() == want.as_slice());
+    for (i, row) in rows.as_slice().iter().enumerate() {
+        assert_eq!(rt; row.values(), &[Value::Int(i as i64)][..]);
+    }
     Ok(())
 }
 
@@ -211,13 +240,16 @@ fn names(alloc: Global, texts: &[&str]) -> Result<OwnedList<OwnedText>, Fail> {
 }
 
 #[test]
-fn columns_are_ordered_by_the_bytes_of_their_names(rt: HostRuntime) -> Result<(), Fail> {
+fn an_output_has_its_name_and_its_columns(rt: HostRuntime) -> Result<(), Fail> {
     let alloc = rt.alloc();
     let columns = names(alloc, &["b", "", "\u{e9}"])?;
     assert!(rt; has_distinct_names(columns.as_slice()));
-    let output = Output::new(alloc, OwnedText::copied(alloc, "V")?, columns)?;
+    let output = Output::new(OwnedText::copied(alloc, "V")?, columns)?;
     assert_eq!(rt; (output.name(), output.width()), ("V", 3));
-    assert!(rt; output.column_order() == [1, 0, 2].as_slice());
+    assert_eq!(rt;
+        (output.column(0), output.column(1), output.column(2)),
+        ("b", "", "\u{e9}")
+    );
     Ok(())
 }
 
