@@ -3,10 +3,10 @@
 //! A `Span` is a half-open range of a document's characters; a `Document` is borrowed text that tells
 //! spans from bytes and has its tokens, and functions of spans relate and extend them. Contracts say
 //! the exact spans and tokens: the tokens of a text are the one list of its longest runs of word
-//! characters and its other characters that aren't white space. A call that lacks memory answers
-//! `OutOfMemory`, a call with causes of its own a `Failure`; `OwnedText` and `OwnedList` are a `String`
-//! and a `Vec` that contracts see as their bytes and their elements alone. Stands on `unicode` for the
-//! properties of characters.
+//! characters and its other characters that aren't white space; a `SourceTokens` has those of a part of
+//! a document, each with its text. A call that lacks memory answers `OutOfMemory`, a call with causes of
+//! its own a `Failure`; `OwnedText` and `OwnedList` are a `String` and a `Vec` that contracts see as
+//! their bytes and their elements alone. Stands on `unicode` for the properties of characters.
 #![tactic(auto)]
 
 mod ascii;
@@ -24,8 +24,6 @@ mod relations;
 mod scan;
 mod source_tokens;
 mod span;
-#[cfg(test)]
-mod tests;
 mod tokens;
 
 pub use contexts::{left_context, left_context_tok, right_context, right_context_tok};

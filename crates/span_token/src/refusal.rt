@@ -1,3 +1,5 @@
+ghost use Rattle.span_token.specs.Refusals.{OfFault, Renames};
+
 use std::alloc::{AllocError, AllocFailed};
 use std::fmt;
 
@@ -30,6 +32,19 @@ impl<T: Drop> From<AllocFailed<T>> for OutOfMemory {
 pub enum Failure<F> {
     OutOfMemory,
     Fault(F),
+}
+
+impl<F> Failure<F> {
+    /// The same refusal, with the fault that `rename` makes of this one's.
+    pub fn renamed<G, R: FnOnce(F) -> G>(self, rename: R) -> Failure<G>
+        requires callable { OfFault (R.pre rename) self }
+        ensures renamed { Renames (R.post rename) self result }
+    {
+        match self {
+            Failure::OutOfMemory => Failure::OutOfMemory,
+            Failure::Fault(fault) => Failure::Fault(rename(fault)),
+        }
+    }
 }
 
 impl<F> From<OutOfMemory> for Failure<F> {

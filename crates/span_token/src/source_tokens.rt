@@ -95,6 +95,13 @@ impl<'a, 'd> SourceTokens<'a, 'd> {
         })
     }
 
+    /// The document that they are of.
+    pub fn doc(&self) -> &'a Document<'d>
+        ensures doc { result.now ≡ self.now.doc }
+    {
+        self.doc
+    }
+
     /// How many they are. They aren't empty, and stand apart in the order of the text.
     pub fn len(&self) -> usize
         ensures len { result ≡ length self.now.tokens }

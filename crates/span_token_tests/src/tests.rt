@@ -3,10 +3,10 @@ ghost use Rattle.std.specs.Prelude.{◌≤◌, ◌≡◌};
 ghost use Rattle.span_token.specs.Extents.{extent_of};
 ghost use Rattle.span_token.specs.Documents.{LiesIn};
 
-use crate::{
-    Document, Failure, OutOfMemory, OwnedList, OwnedText, Span, between, combine, contains,
-    follows, follows_tok, left_context, left_context_tok, overlaps, right_context,
-    right_context_tok, tokens_of_text,
+use span_token::{
+    Document, Failure, OutOfMemory, OwnedList, OwnedText, SourceTokens, Span, TEXT_LIMIT,
+    TokenRoom, between, combine, contains, follows, follows_tok, left_context, left_context_tok,
+    overlaps, right_context, right_context_tok, tokens_of_text,
 };
 use std::alloc::Global;
 use std::process::Abort;
@@ -38,7 +38,7 @@ fn barred(rt: &impl AllocGlobal, doc: &Document<'_>) -> Result<String, Fail> {
 
 /// A document that keeps its tokens and one that doesn't have these tokens.
 fn has_tokens<R: Abort + AllocGlobal>(rt: &R, text: &str, want: &str) -> Result<(), Fail> {
-    assert!(rt; text.len() <= 16777216);
+    assert!(rt; text.len() <= TEXT_LIMIT);
     let kept = barred(rt, &Document::new(rt.alloc(), text, None)?)?;
     assert_eq!(rt; kept.as_str(), want, "kept of {text:?}");
     let plain = barred(rt, &Document::plain(rt.alloc(), text, None)?)?;
@@ -102,6 +102,51 @@ fn tokens_in_a_span_lie_wholly_in_it(rt: HostRuntime) -> Result<(), Fail> {
         assert!(rt; begin <= end && end <= doc.len());
         assert_eq!(rt; doc.tokens_in(span(begin, end)), want, "in {begin}-{end}");
     }
+    Ok(())
+}
+
+/// The texts of a source's tokens, with bars between, and the text and span of their run.
+fn texts_and_run<R: Abort + AllocGlobal>(
+    rt: &R,
+    room: &mut TokenRoom,
+    doc: &Document<'_>,
+    source: Span,
+    want: (&str, &str),
+) -> Result<(), Fail>
+    requires { LiesIn (extent_of source) doc.now }
+{
+    let tokens = SourceTokens::of(room, doc, source)?;
+    let mut texts = String::new(rt.alloc());
+    for i in 0..tokens.len() {
+        if i > 0 {
+            texts.push('|')?;
+        }
+        texts.push_str(tokens.text(i))?;
+    }
+    assert_eq!(rt; texts.as_str(), want.0);
+    assert!(rt; tokens.len() > 0);
+    let last = tokens.len() - 1;
+    assert_eq!(rt; tokens.run_text(0, last), want.1);
+    assert_eq!(rt; tokens.run(0, last).begin, tokens.get(0).begin);
+    assert_eq!(rt; tokens.run(0, last).end, tokens.get(last).end);
+    Ok(())
+}
+
+#[test]
+fn the_tokens_of_a_source_have_their_texts_and_runs(rt: HostRuntime) -> Result<(), Fail> {
+    let mut room = TokenRoom::new(rt.alloc());
+    for (text, begin, end, texts, run) in [
+        ("Ann met Bo, 42.", 1, 11, "met|Bo|,", "met Bo,"),
+        ("Zoë traf Bö, 漢😀 é", 1, 15, "traf|Bö|,|漢|😀", "traf Bö, 漢😀"),
+        ("Zoë traf Bö", 0, 11, "Zoë|traf|Bö", "Zoë traf Bö"),
+    ] {
+        assert!(rt; text.len() <= TEXT_LIMIT);
+        let doc = Document::new(rt.alloc(), text, None)?;
+        assert!(rt; begin <= end && end <= doc.len());
+        texts_and_run(&rt, &mut room, &doc, span(begin, end), (texts, run))?;
+    }
+    let doc = Document::new(rt.alloc(), "né", None)?;
+    assert_eq!(rt; SourceTokens::all(&mut room, &doc)?.len(), 1);
     Ok(())
 }
 
@@ -310,7 +355,7 @@ fn places_hold_past_many_blocks(rt: HostRuntime) -> Result<(), Fail> {
     for _ in 0..100 {
         text.push_str("aé漢😀")?;
     }
-    assert!(rt; text.len() <= 16777216);
+    assert!(rt; text.len() <= TEXT_LIMIT);
     let doc = Document::new(rt.alloc(), text.as_str(), None)?;
     for round in 0..100u32 {
         let begin = 4 * round + 1;
@@ -363,7 +408,7 @@ fn a_document_is_sent_to_a_thread(rt: HostRuntime) -> Result<(), Fail> {
 fn documents<'d>(rt: &impl AllocGlobal, texts: &[&'d str]) -> Result<Vec<Document<'d>>, Fail> {
     let mut docs = Vec::new(rt.alloc());
     for text in texts {
-        if text.len() <= 16777216 {
+        if text.len() <= TEXT_LIMIT {
             docs.push(Document::new(rt.alloc(), *text, None)?)?;
         }
     }
@@ -419,6 +464,7 @@ fn a_failure_names_its_cause(rt: HostRuntime) -> Result<(), Fail> {
         return Err(Fail::from("a word"));
     };
     assert!(rt; failure == Failure::Fault(1));
+    assert!(rt; failure.renamed(|fault: u8| fault < 2) == Failure::Fault(true));
     let shown = format!(in rt.alloc(); "{}", OutOfMemory)?;
     assert_eq!(rt; shown.as_str(), "out of memory");
     Ok(())

@@ -1,0 +1,5 @@
+//! Tests of `span_token`, apart from it, so that it is proved once: they call its public items alone.
+#![tactic(auto)]
+
+#[cfg(test)]
+mod tests;
