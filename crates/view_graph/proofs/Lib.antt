@@ -1,5 +1,6 @@
 -- lists
 pub mod Splits
+pub mod Once
 -- names in trees with lists
 pub mod NamesViews
 -- what statements define, one after another
@@ -14,6 +15,12 @@ pub mod Walking
 -- the order, and the circle that is turned
 pub mod Ranking
 pub mod Turning
+-- ranks or a circle, and the one order
+pub mod Longest
+pub mod Sorting
 -- the relation of the program, and the answers
+pub mod Places
+pub mod Following
 pub mod Relations
 pub mod Resolving
+pub mod Deciding

@@ -9,7 +9,7 @@ use Rattle.view_graph.specs.declared.fault.NameFault.{NameFault}
 use Rattle.view_graph.specs.Names.{Named, view_named, dictionary_named, names_defined, names_looked_up, names_used_by, names_in_query, looked_up_by, IsDefined, AllDiffer}
 use Rattle.view_graph.specs.Faults.{LooksUpUndefined}
 use Rattle.view_graph.specs.Uses.{CreatesView, statement_at}
-use Rattle.view_graph.specs.Answers.{IsFault}
+use Rattle.view_graph.specs.Answers.{IsNameFault}
 use Rattle.view_graph.specs.Indexes.{IndexesNames}
 use Rattle.view_graph.specs.Lookups.{LooksUp, PlacesOf, PlacesUsed, MentionsUndefined, Unknown, IsUseGraph}
 use Rattle.view_graph.proofs.Defining.{flat_map-push}
@@ -113,7 +113,7 @@ module _ (program : List Statement) where
 
   -- the first statement that looks an unknown name up has the program's fault
   pub undefined_fault : (before after : List Statement) (s : Statement) (number : ℕ) (fault : NameFault) → program ≡ before ++ s ∷ after → number ≡ length before + 1 → AllDiffer (names_defined program)
-      → All (IsDefined program) (names_looked_up before) → MentionsUndefined program number (looked_up_by s) fault → IsFault program fault
+      → All (IsDefined program) (names_looked_up before) → MentionsUndefined program number (looked_up_by s) fault → IsNameFault program fault
   undefined_fault before after s number fault split number_is distinct defined found = by found.named found.split found.undefined found.is
     where
       unknown : (named : Named) → looked_up_by s ≡ found.earlier ++ named ∷ found.later → ¬ (IsDefined program named) → LooksUpUndefined program number named
@@ -128,9 +128,9 @@ module _ (program : List Statement) where
         first = All-append (IsDefined program) (names_looked_up before) found.earlier defined found.first;
       }
 
-      by : (named : Named) → looked_up_by s ≡ found.earlier ++ named ∷ found.later → ¬ (IsDefined program named) → Unknown number named fault → IsFault program fault
-      by (view_named name) is undefined fault_is = subst (λ (f : NameFault). IsFault program f) (sym fault_is) (distinct, unknown (view_named name) is undefined)
-      by (dictionary_named name) is undefined fault_is = subst (λ (f : NameFault). IsFault program f) (sym fault_is) (distinct, unknown (dictionary_named name) is undefined)
+      by : (named : Named) → looked_up_by s ≡ found.earlier ++ named ∷ found.later → ¬ (IsDefined program named) → Unknown number named fault → IsNameFault program fault
+      by (view_named name) is undefined fault_is = subst (λ (f : NameFault). IsNameFault program f) (sym fault_is) (distinct, unknown (view_named name) is undefined)
+      by (dictionary_named name) is undefined fault_is = subst (λ (f : NameFault). IsNameFault program f) (sym fault_is) (distinct, unknown (dictionary_named name) is undefined)
 
 -- the query of a view uses what it names
 pub used_by_view : (program : List Statement) (s : Statement) (name : Name) (query : Query) (places : List ℕ) (names : List Named) → s ≡ create name query → names ≡ names_in_query query

@@ -10,7 +10,7 @@ use Rattle.aql_syntax.specs.declared.tree.Query.TheVariants as query
 use Rattle.aql_syntax.specs.declared.tree.Select.{Select}
 use Rattle.aql_syntax.specs.Trees.{Term, as_terms, Source, as_sources, Query, as_queries}
 use Rattle.aql_syntax.specs.Views.{term_at, term_of, item_of, clauses_of, query_of, source_of}
-use Rattle.aql_syntax.proofs.Viewing.{call_view, select_view, union_view}
+use Rattle.aql_syntax.specs.Nodes.{call_view, select_view, union_view}
 use Rattle.view_graph.specs.Names.{Named, dictionary_argument, names_in_term, names_in_terms, names_in_item, names_in_clauses, names_in_source, names_in_sources, names_in_query, names_in_queries, names_in_selection}
 
 names_in_terms-as_terms : (ts : List Term) → names_in_terms (as_terms ts) ≡ flat_map names_in_term ts

@@ -13,13 +13,14 @@ use Rattle.aql_syntax.specs.Views.{statement_of}
 use Rattle.view_graph.specs.declared.fault.NameFault.{NameFault}
 use Rattle.view_graph.specs.declared.fault.NameFault.TheVariants.{DuplicateName}
 use Rattle.view_graph.specs.Names.{Named, view_named, dictionary_named, defined_by, names_defined}
-use Rattle.view_graph.specs.Answers.{IsFault, IfFault}
+use Rattle.span_token.specs.Refusals.{OfFault}
+use Rattle.view_graph.specs.Answers.{IsNameFault}
 use Rattle.view_graph.specs.Indexes.{Adds, AddsText, IndexesNames}
 use Rattle.view_graph.proofs.Defining.{index_view, index_dictionary, defined_twice}
 
-pub IfFault-weaker : (P Q : NameFault → Type 0) → ((fault : NameFault) → P fault → Q fault) → (failure : Failure NameFault) → IfFault P failure → IfFault Q failure
-IfFault-weaker P Q weaker OutOfMemory h = tt
-IfFault-weaker P Q weaker (Fault fault) h = weaker fault h
+pub OfFault-weaker : (P Q : NameFault → Type 0) → ((fault : NameFault) → P fault → Q fault) → (failure : Failure NameFault) → OfFault P failure → OfFault Q failure
+OfFault-weaker P Q weaker OutOfMemory h = tt
+OfFault-weaker P Q weaker (Fault fault) h = weaker fault h
 
 -- a statement that creates no view and no dictionary defines nothing
 pub nothing_defined : (s : declared.Statement) → ((name : Ident) (query : Query) → s ≡ variant.View name query → ⊥) → ((name : Ident) (entries : _) → s ≡ variant.Dictionary name entries → ⊥)
@@ -34,9 +35,9 @@ nothing_defined (variant.Output name alias) no_view no_dictionary = refl
 module _ (before : List Statement) (s : Statement) (name text : List ℕ) (same : text ≡ name) (place : ℕ) (at : length before ≡ place)
     (entry : List ℕ → Option (Option ℕ)) (there : List ℕ → Bool) (names : IndexesNames before entry there) where
   fault_at : (after : List Statement) (named : Named) → defined_by s ≡ named ∷ [] → Contains (names_defined before) named → (fault : NameFault) → fault ≡ DuplicateName (place + 1) text
-      → ((number : ℕ) → number ≡ length before + 1 → IsFault (before ++ s ∷ after) (DuplicateName number text)) → IsFault (before ++ s ∷ after) fault
+      → ((number : ℕ) → number ≡ length before + 1 → IsNameFault (before ++ s ∷ after) (DuplicateName number text)) → IsNameFault (before ++ s ∷ after) fault
   fault_at after named one again fault is shown =
-      subst (λ (fault : NameFault). IsFault (before ++ s ∷ after) fault) (sym is) (shown (place + 1) (ap (λ (n : ℕ). n + 1) (sym at)))
+      subst (λ (fault : NameFault). IsNameFault (before ++ s ∷ after) fault) (sym is) (shown (place + 1) (ap (λ (n : ℕ). n + 1) (sym at)))
 
   module _ (one : defined_by s ≡ view_named name ∷ []) (new : List ℕ → Option (Option ℕ)) where
     pub view_added : (fresh : Bool) → fresh ≡ true → Adds entry new text (Some place) fresh → IndexesNames (before ++ s ∷ []) new there
@@ -45,7 +46,7 @@ module _ (before : List Statement) (s : Statement) (name text : List ℕ) (same 
         index_view before s text (one ∙ ap (λ (n : List ℕ). view_named n ∷ []) (sym same)) entry new added.0
         (subst (λ (n : ℕ). (q : List ℕ) → new q ≡ update bytes_eq entry text (Some (Some n)) q) (sym at) added.1) there names
 
-    pub view_again : (fresh : Bool) → fresh ≡ false → Adds entry new text (Some place) fresh → (after : List Statement) (fault : NameFault) → fault ≡ DuplicateName (place + 1) text → IsFault (before ++ s ∷ after) fault
+    pub view_again : (fresh : Bool) → fresh ≡ false → Adds entry new text (Some place) fresh → (after : List Statement) (fault : NameFault) → fault ≡ DuplicateName (place + 1) text → IsNameFault (before ++ s ∷ after) fault
     view_again fresh is adds after fault fault_is =
         let was : IsSome (entry text) = subst (λ (b : Bool). Adds entry new text (Some place) b) is adds in
         fault_at after (view_named text) (one ∙ ap (λ (n : List ℕ). view_named n ∷ []) (sym same)) (names.views.known text was) fault fault_is
@@ -57,7 +58,7 @@ module _ (before : List Statement) (s : Statement) (name text : List ℕ) (same 
         let added : AddsText there new text true = subst (λ (b : Bool). AddsText there new text b) is adds in
         index_dictionary before s text (one ∙ ap (λ (n : List ℕ). dictionary_named n ∷ []) (sym same)) there new added.0 added.1 entry names
 
-    pub dictionary_again : (fresh : Bool) → fresh ≡ false → AddsText there new text fresh → (after : List Statement) (fault : NameFault) → fault ≡ DuplicateName (place + 1) text → IsFault (before ++ s ∷ after) fault
+    pub dictionary_again : (fresh : Bool) → fresh ≡ false → AddsText there new text fresh → (after : List Statement) (fault : NameFault) → fault ≡ DuplicateName (place + 1) text → IsNameFault (before ++ s ∷ after) fault
     dictionary_again fresh is adds after fault fault_is =
         let was : there text ≡ true = subst (λ (b : Bool). AddsText there new text b) is adds in
         fault_at after (dictionary_named text) (one ∙ ap (λ (n : List ℕ). dictionary_named n ∷ []) (sym same)) (names.dictionaries.known text was) fault fault_is

@@ -1,5 +1,5 @@
 -- From the walk to what `resolve` answers.
-use Rattle.std.proofs.Common.{◌≡◌, ◌<◌, ℕ, zero, suc, List, length, get_or, All, AllPairs, ⊎_elim, sym, subst, arith}
+use Rattle.std.proofs.Common.{◌≡◌, ◌<◌, ℕ, zero, suc, List, length, get_or, All, AllPairs, ⊎_elim, sym, subst, arith, ◌+◌, map}
 use Rattle.std.specs.List.{AllZip}
 use Rattle.std.proofs.lemmas.List.{get_or_default, take_all}
 use Rattle.aql_syntax.specs.Trees.{Statement}
@@ -9,18 +9,19 @@ use Rattle.view_graph.specs.declared.fault.NameFault.TheVariants.{Cycle}
 use Rattle.view_graph.specs.Names.{AllDiffer, names_defined, names_looked_up, IsDefined}
 use Rattle.view_graph.specs.Graphs.{IsClosed, IsCycle, IsByRank}
 use Rattle.view_graph.specs.Uses.{Uses, CreatesView, views_of}
-use Rattle.view_graph.specs.Answers.{HasNames, HasOutputs, IsResolved, IsFault}
+use Rattle.view_graph.specs.Answers.{HasNames, HasOutputs, FollowsUses, IsResolved, IsNameFault}
 use Rattle.view_graph.specs.Outputs.{IsOutputAgain}
 use Rattle.view_graph.specs.Search.{Edge, IsDone}
 use Rattle.view_graph.specs.Lookups.{IsUseGraph}
 use Rattle.view_graph.specs.Orders.{IsNumbering}
 use Rattle.view_graph.specs.Circles.{IsBegunAtLeast, AreViews}
+use Rattle.view_graph.proofs.Following.{follows}
 use Rattle.view_graph.proofs.Ranking.{numbered_by_rank}
 use Rattle.view_graph.proofs.Turning.{IsCycle-turned}
 use Rattle.view_graph.proofs.Relations.{one_rank, lesser_rank, cycle_along, by_rank_along, edge_uses, uses_edge, no_circle_done}
 
 -- the views of a circle are created by statements
-are_used : (program : List Statement) (views : List ℕ) → IsClosed (Uses program) views → AreViews program views
+pub are_used : (program : List Statement) (views : List ℕ) → IsClosed (Uses program) views → AreViews program views
 are_used program views circle k d below = by k below
   where
     at : (k : ℕ) → k < length views → (name : List ℕ) × CreatesView program (get_or views k 0) name → (name : List ℕ) × CreatesView program (get_or views k d) name
@@ -46,21 +47,27 @@ has_names program count uses all distinct graph = record {
   defined = subst (λ (statements : List Statement). All (IsDefined program) (names_looked_up statements)) (take_all count program (omega (arith, all))) graph.looked_up;
 }
 
+-- where no view uses itself through others, views by rank are the answer
+pub resolved_by : (program : List Statement) (places : List ℕ) → HasOutputs program → ((views : List ℕ) → ¬ (IsClosed (Uses program) views)) → IsByRank (Uses program) (views_of program) places → (order : List ℕ) → order ≡ map (λ place. place + 1) places
+    → IsResolved program order
+resolved_by program places outputs no_cycle ranks order numbers = record {
+  outputs = outputs;
+  no_cycle = no_cycle;
+  places = places;
+  by_rank = ranks;
+  numbers = numbers;
+  one_rank = one_rank (Uses program);
+  used_first = used_first program places ranks;
+  follows = subst (λ (ns : List ℕ). FollowsUses program ns) (sym numbers) (follows program places outputs no_cycle ranks (used_first program places ranks));
+}
+
 module _ (program : List Statement) (uses : List (List ℕ)) (graph : IsUseGraph program (length program) uses) (outputs : HasOutputs program) where
   -- all views have ranks
   pub resolved : (marks : List Mark) (order : List ℕ) → IsDone uses marks → IsNumbering program marks order → IsResolved program order
   resolved marks order all numbering =
       let h = numbered_by_rank program uses marks all graph.length_is order numbering in
       let ranks = by_rank_along (Edge uses) (Uses program) (edge_uses program uses graph) (uses_edge program uses graph) (views_of program) h.0 h.1 in
-      record {
-        outputs = outputs;
-        no_cycle = no_circle_done program uses graph marks all;
-        places = h.0;
-        by_rank = ranks;
-        numbers = h.2;
-        one_rank = one_rank (Uses program);
-        used_first = used_first program h.0 ranks;
-      }
+      resolved_by program h.0 outputs (no_circle_done program uses graph marks all) ranks order h.2
 
   module _ (places cycle : List ℕ) (circle : IsClosed (Edge uses) places) (distinct : AllDiffer places) (begun : IsBegunAtLeast places cycle) where
     turned : IsCycle (Uses program) cycle
@@ -70,9 +77,9 @@ module _ (program : List Statement) (uses : List (List ℕ)) (graph : IsUseGraph
     are_views = are_used program cycle turned.closed
 
     -- a circle is the fault
-    pub cycle_fault : (views : List (List ℕ)) → AllZip (CreatesView program) cycle views → IsFault program (Cycle views)
+    pub cycle_fault : (views : List (List ℕ)) → AllZip (CreatesView program) cycle views → IsNameFault program (Cycle views)
     cycle_fault views named = (outputs, record { places = cycle; cycle = turned; named = named })
 
 -- an output's name that stands twice is the fault
-pub output_fault : (program : List Statement) → HasNames program → (fault : NameFault) → IsOutputAgain program fault → IsFault program fault
-output_fault program names fault again = subst (λ (f : NameFault). IsFault program f) (sym again.is) (names, again.again)
+pub output_fault : (program : List Statement) → HasNames program → (fault : NameFault) → IsOutputAgain program fault → IsNameFault program fault
+output_fault program names fault again = subst (λ (f : NameFault). IsNameFault program f) (sym again.is) (names, again.again)

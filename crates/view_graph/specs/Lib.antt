@@ -1,3 +1,4 @@
+-- ---- words of public clauses
 -- names
 pub mod Names
 pub mod Faults
@@ -6,7 +7,8 @@ pub mod Graphs
 pub mod Uses
 -- what `resolve` answers
 pub mod Answers
--- not in any public clause: how the code keeps names and walks
+-- ---- words of private clauses
+-- how the code keeps names and walks
 pub mod Mentions
 pub mod Indexes
 pub mod Lookups

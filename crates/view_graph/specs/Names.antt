@@ -1,16 +1,13 @@
 -- Which names a statement defines and which it looks up, in the order of the text.
-use Rattle.std.specs.Prelude.{◌≡◌, ℕ, Bool, if◌then◌else◌, ◌||◌, List, [], ◌∷◌, ◌++◌, Option, Some, None, codes, flat_map, AllPairs, Contains, All}
-use Rattle.std.specs.Str.{bytes_eq}
+use Rattle.std.specs.Prelude.{◌≡◌, ℕ, if◌then◌else◌, List, [], ◌∷◌, ◌++◌, Option, Some, None, codes, flat_map, AllPairs, Contains, All}
+use Rattle.std.specs.Option.{option_to_list}
 use Rattle.aql_syntax.specs.Trees.{Term, str, call, Terms, no_terms, more_terms, Item, Cons, Clauses, Tail, Spec, dict, Query, select, extract, union, minus, Queries, no_queries, more_queries, Source, view, nested, Sources, no_sources, more_sources, Statement, dictionary, create, output}
+use Rattle.aql_syntax.specs.Naming.{is_dictionary_predicate, output_name}
 
 -- a name in its space: views and dictionaries have names apart from each other
 pub data Named : Type 0 where
   view_named : List ℕ → Named
   dictionary_named : List ℕ → Named
-
--- the predicates whose first argument names a dictionary
-abbrev pub is_dictionary_predicate : List ℕ → Bool
-is_dictionary_predicate name = bytes_eq name (codes "ContainsDict") || bytes_eq name (codes "MatchesDict")
 
 -- the dictionary that a call names: a string that is the first argument of such a predicate
 abbrev pub dictionary_argument : List ℕ → Terms → List Named
@@ -90,11 +87,9 @@ abbrev pub looked_up_by : Statement → List Named
 looked_up_by (output name alias) = view_named name.text ∷ []
 looked_up_by statement = names_used_by statement
 
--- the name of an output: its alias, or else the view's name
+-- the name of the output that a statement is, if it is one
 abbrev pub output_of : Statement → List (List ℕ)
-output_of (output name None) = name.text ∷ []
-output_of (output name (Some alias)) = alias ∷ []
-output_of statement = []
+output_of statement = option_to_list (output_name statement)
 
 -- the names that the statements define, after `Document`, which is there from the start
 abbrev pub names_defined : List Statement → List Named

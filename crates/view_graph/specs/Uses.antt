@@ -1,15 +1,28 @@
 -- Which view uses which. A place is a statement's index in the program, from 0: its number less one.
-use Rattle.std.specs.Prelude.{◌≡◌, ℕ, suc, List, [], ◌∷◌, slice_index_or, Contains}
+use Rattle.std.specs.Prelude.{◌≡◌, ℕ, suc, ◌-◌, List, [], ◌∷◌, slice_index_or, Contains, ⊤}
 use Rattle.aql_syntax.specs.Trees.{Statement, create, require}
-use Rattle.view_graph.specs.Names.{view_named, defined_by, names_used_by}
+use Rattle.view_graph.specs.Names.{view_named, dictionary_named, defined_by, names_used_by}
 
 -- the statement at a place; past the end `require`, which defines and uses nothing
 abbrev pub statement_at : List Statement → ℕ → Statement
 statement_at program place = slice_index_or program place require
 
+-- the statement with this number, from 1
+abbrev pub statement_numbered : List Statement → ℕ → Statement
+statement_numbered program number = statement_at program (number - 1)
+
+-- the statement creates a view
+abbrev pub IsView : Statement → Type 0
+IsView (create name query) = ⊤
+IsView statement = ⊥
+
 -- the statement at this place creates the view with this name
 abbrev pub CreatesView : List Statement → ℕ → List ℕ → Type 0
 CreatesView program place name = defined_by (statement_at program place) ≡ view_named name ∷ []
+
+-- the statement at this place creates the dictionary with this name
+abbrev pub CreatesDictionary : List Statement → ℕ → List ℕ → Type 0
+CreatesDictionary program place name = defined_by (statement_at program place) ≡ dictionary_named name ∷ []
 
 -- a source of the query of the view at `user`, or of a query nested in it, names the view at `used`
 pub record Uses (program : List Statement) (user used : ℕ) : Type 0 where

@@ -1,3 +1,5 @@
+//! What is wrong with a program's names.
+
 use span_token::{OwnedList, OwnedText};
 
 /// Why a program's names can't be resolved: its first fault. Statements count from 1.
@@ -5,7 +7,7 @@ use span_token::{OwnedList, OwnedText};
 /// Names are looked at in three rounds, each through the statements in order: what they define, what
 /// they look up, and how outputs are called. A cycle is a fault where none of these stands.
 ///
-/// Meaning: `IsFault`, `specs/Answers.antt`.
+/// Meaning: `IsNameFault`, `specs/Answers.antt`.
 #[derive(Debug, Drop)]
 pub enum NameFault {
     /// The statement defines a view or a dictionary whose name an earlier statement of its kind

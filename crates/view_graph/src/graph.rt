@@ -1,6 +1,7 @@
 ghost use Rattle.std.specs.Prelude.{◌≡◌, ◌<◌, ◌^◌, map, length, IfOk, IfErr};
 ghost use Rattle.aql_syntax.specs.Views.{statement_of};
-ghost use Rattle.view_graph.specs.Answers.{HasOutputs, IfFault, IsFault, IsResolved};
+ghost use Rattle.span_token.specs.Refusals.{OfFault};
+ghost use Rattle.view_graph.specs.Answers.{HasOutputs, IsNameDecided, IsNameFault, IsResolved};
 ghost use Rattle.view_graph.specs.Lookups.{IsUseGraph};
 
 use crate::NameFault;
@@ -73,7 +74,7 @@ fn views_in_order(
     requires graph { IsUseGraph (map statement_of statements.now) (length statements.now) uses.now }
     requires outputs { HasOutputs (map statement_of statements.now) }
     ensures ok { IfOk result (λ order. IsResolved (map statement_of statements.now) order.items) }
-    ensures fault { IfErr result (IfFault (IsFault (map statement_of statements.now))) }
+    ensures fault { IfErr result (OfFault (IsNameFault (map statement_of statements.now))) }
 {
     match rank_all(alloc, uses)? {
         Walk::Ranked(marks) => {
@@ -91,7 +92,7 @@ fn views_in_order(
 /// The order of the views, or the program's first fault.
 fn ordered(alloc: Global, statements: &[Statement]) -> Result<Vec<u32>, Failure<NameFault>>
     ensures ok { IfOk result (λ order. IsResolved (map statement_of statements.now) order.items) }
-    ensures fault { IfErr result (IfFault (IsFault (map statement_of statements.now))) }
+    ensures fault { IfErr result (OfFault (IsNameFault (map statement_of statements.now))) }
 {
     if statements.len() > u32::MAX as usize {
         return Err(Failure::OutOfMemory);
@@ -109,11 +110,12 @@ fn ordered(alloc: Global, statements: &[Statement]) -> Result<Vec<u32>, Failure<
 /// outputs are called. A cycle is the fault where none of these stands. The statements are given up on
 /// a refusal. A program of 2^32 statements or more is refused as want of memory.
 ///
-/// Meaning: `IsResolved` and `IsFault`, `specs/Answers.antt`.
+/// Meaning: `IsResolved` and `IsNameFault`, `specs/Answers.antt`.
 pub fn resolve(alloc: Global, statements: Vec<Statement>) -> Result<Graph, Failure<NameFault>>
     ensures same { IfOk result (λ graph. graph.0 ≡ statements.items) }
     ensures resolved { IfOk result (λ graph. IsResolved (map statement_of statements.items) graph.1) }
-    ensures fault { IfErr result (IfFault (IsFault (map statement_of statements.items))) }
+    ensures fault { IfErr result (OfFault (IsNameFault (map statement_of statements.items))) }
+    ensures decided { IsNameDecided (map statement_of statements.items) }
 {
     let order = ordered(alloc, &statements)?;
     Ok(Graph { statements, order })

@@ -5,7 +5,8 @@ ghost use Rattle.std.specs.Str.{bytes_eq};
 ghost use Rattle.std.specs.Map.{update};
 ghost use Rattle.aql_syntax.specs.Views.{statement_of};
 ghost use Rattle.aql_syntax.specs.Trees as tree;
-ghost use Rattle.view_graph.specs.Answers.{IfFault, IsFault};
+ghost use Rattle.span_token.specs.Refusals.{OfFault};
+ghost use Rattle.view_graph.specs.Answers.{IsNameFault};
 ghost use Rattle.view_graph.specs.Indexes.{entry_of, has, Adds, AddsText, IndexesNames};
 
 use crate::NameFault;
@@ -85,7 +86,7 @@ impl<'a> Names<'a> {
     ) -> Result<(), Failure<NameFault>>
         requires { place + 1 < 2 ^ 32 }
         ensures ok { (before : List tree.Statement) → length before ≡ place → IndexesNames before (entry_of self.old.views) (has self.old.dictionaries) → OnOk result (IndexesNames (before ++ statement_of statement.now ∷ []) (entry_of self.new.views) (has self.new.dictionaries)) }
-        ensures fault { (before after : List tree.Statement) → length before ≡ place → IndexesNames before (entry_of self.old.views) (has self.old.dictionaries) → IfErr result (IfFault (IsFault (before ++ statement_of statement.now ∷ after))) }
+        ensures fault { (before after : List tree.Statement) → length before ≡ place → IndexesNames before (entry_of self.old.views) (has self.old.dictionaries) → IfErr result (OfFault (IsNameFault (before ++ statement_of statement.now ∷ after))) }
     {
         match statement {
             Statement::View { name, .. } => {
@@ -116,7 +117,7 @@ pub(crate) fn define<'a>(
 ) -> Result<Names<'a>, Failure<NameFault>>
     requires { length statements.now < 2 ^ 32 }
     ensures ok { IfOk result (λ names. IndexesNames (map statement_of statements.now) (entry_of names.views) (has names.dictionaries)) }
-    ensures fault { IfErr result (IfFault (IsFault (map statement_of statements.now))) }
+    ensures fault { IfErr result (OfFault (IsNameFault (map statement_of statements.now))) }
 {
     let mut names = Names::at_first(alloc)?;
     for (place, statement) in statements.iter().enumerate() {

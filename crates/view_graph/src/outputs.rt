@@ -1,10 +1,10 @@
 //! The names of outputs, each given once.
 
-ghost use Rattle.std.specs.Prelude.{◌≡◌, ◌+◌, List, ◌∷◌, [], ◌++◌, ◌^◌, ◌<◌, map, length, MatchOption, IfOk, OnOk, IfErr};
+ghost use Rattle.std.specs.Prelude.{◌≡◌, ◌+◌, List, ◌∷◌, [], ◌++◌, ◌^◌, ◌<◌, map, length, IfOk, OnOk, IfErr};
 ghost use Rattle.aql_syntax.specs.Trees as tree;
 ghost use Rattle.aql_syntax.specs.Views.{statement_of};
-ghost use Rattle.view_graph.specs.Names.{output_of, outputs_of, AllDiffer};
-ghost use Rattle.view_graph.specs.Answers.{IfFault};
+ghost use Rattle.view_graph.specs.Names.{outputs_of, AllDiffer};
+ghost use Rattle.span_token.specs.Refusals.{OfFault};
 ghost use Rattle.view_graph.specs.Indexes.{has};
 ghost use Rattle.view_graph.specs.Outputs.{HasSeen, IsOutputAgain};
 
@@ -14,20 +14,6 @@ use aql_syntax::Statement;
 use indexmap::IndexSet;
 use span_token::{Failure, OutOfMemory, OwnedText};
 use std::alloc::Global;
-
-/// The name of the output that the statement is.
-fn output_name(statement: &Statement) -> Option<&str>
-    ensures { MatchOption result (output_of (statement_of statement.now) ≡ []) (λ name. output_of (statement_of statement.now) ≡ name.now ∷ []) }
-{
-    match statement {
-        Statement::Output {
-            alias: Some(alias),
-            ..
-        } => Some(alias.as_str()),
-        Statement::Output { name, alias: None } => Some(name.text.as_str()),
-        _ => None,
-    }
-}
 
 /// The fault of the statement with this number, an output whose name an earlier one has.
 fn output_again(alloc: Global, statement: u32, name: &str) -> Result<NameFault, OutOfMemory>
@@ -45,9 +31,9 @@ fn note<'a>(
     statement: &'a Statement,
 ) -> Result<(), Failure<NameFault>>
     ensures ok { (before : List tree.Statement) → HasSeen before (has seen.old) → OnOk result (HasSeen (before ++ statement_of statement.now ∷ []) (has seen.new)) }
-    ensures fault { (before after : List tree.Statement) → number ≡ length before + 1 → HasSeen before (has seen.old) → IfErr result (IfFault (IsOutputAgain (before ++ statement_of statement.now ∷ after))) }
+    ensures fault { (before after : List tree.Statement) → number ≡ length before + 1 → HasSeen before (has seen.old) → IfErr result (OfFault (IsOutputAgain (before ++ statement_of statement.now ∷ after))) }
 {
-    match output_name(statement) {
+    match statement.output_name() {
         None => Ok(()),
         Some(name) => {
             if add_name(seen, name)? {
@@ -66,7 +52,7 @@ pub(crate) fn distinct_outputs(
 ) -> Result<(), Failure<NameFault>>
     requires { length statements.now < 2 ^ 32 }
     ensures ok { OnOk result (AllDiffer (outputs_of (map statement_of statements.now))) }
-    ensures fault { IfErr result (IfFault (IsOutputAgain (map statement_of statements.now))) }
+    ensures fault { IfErr result (OfFault (IsOutputAgain (map statement_of statements.now))) }
 {
     let mut seen = IndexSet::new(alloc);
     for (place, statement) in statements.iter().enumerate() {

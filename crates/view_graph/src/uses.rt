@@ -5,7 +5,8 @@ ghost use Rattle.aql_syntax.specs.Trees as tree;
 ghost use Rattle.aql_syntax.specs.Views.{statement_of};
 ghost use Rattle.view_graph.specs.Mentions.{named_of};
 ghost use Rattle.view_graph.specs.Names.{looked_up_by};
-ghost use Rattle.view_graph.specs.Answers.{IfFault, IsFault};
+ghost use Rattle.span_token.specs.Refusals.{OfFault};
+ghost use Rattle.view_graph.specs.Answers.{IsNameFault};
 ghost use Rattle.view_graph.specs.Indexes.{entry_of, has, IndexesNames};
 ghost use Rattle.view_graph.specs.Lookups.{LooksUp, PlacesOf, PlacesUsed, MentionsUndefined, Unknown, IsUseGraph};
 
@@ -83,7 +84,7 @@ fn places(
     mentions: &[Mention<'_>],
 ) -> Result<OwnedList<u32>, Failure<NameFault>>
     ensures ok { (program : List tree.Statement) → IndexesNames program (entry_of names.now.views) (has names.now.dictionaries) → IfOk result (PlacesOf program (map named_of mentions.now)) }
-    ensures fault { (program : List tree.Statement) → IndexesNames program (entry_of names.now.views) (has names.now.dictionaries) → IfErr result (IfFault (MentionsUndefined program number (map named_of mentions.now))) }
+    ensures fault { (program : List tree.Statement) → IndexesNames program (entry_of names.now.views) (has names.now.dictionaries) → IfErr result (OfFault (MentionsUndefined program number (map named_of mentions.now))) }
 {
     let mut used = OwnedList::new(alloc);
     for mention in mentions {
@@ -107,7 +108,7 @@ fn used_by(
     statement: &Statement,
 ) -> Result<OwnedList<u32>, Failure<NameFault>>
     ensures ok { (program : List tree.Statement) → IndexesNames program (entry_of names.now.views) (has names.now.dictionaries) → IfOk result (PlacesUsed program (statement_of statement.now)) }
-    ensures fault { (program : List tree.Statement) → IndexesNames program (entry_of names.now.views) (has names.now.dictionaries) → IfErr result (IfFault (MentionsUndefined program number (looked_up_by (statement_of statement.now)))) }
+    ensures fault { (program : List tree.Statement) → IndexesNames program (entry_of names.now.views) (has names.now.dictionaries) → IfErr result (OfFault (MentionsUndefined program number (looked_up_by (statement_of statement.now)))) }
 {
     match statement {
         Statement::View { query, .. } => {
@@ -132,7 +133,7 @@ pub(crate) fn uses(
     requires short { length statements.now < 2 ^ 32 }
     requires named { IndexesNames (map statement_of statements.now) (entry_of names.now.views) (has names.now.dictionaries) }
     ensures ok { IfOk result (λ uses. IsUseGraph (map statement_of statements.now) (length statements.now) uses.items) }
-    ensures fault { IfErr result (IfFault (IsFault (map statement_of statements.now))) }
+    ensures fault { IfErr result (OfFault (IsNameFault (map statement_of statements.now))) }
 {
     let mut uses = Vec::new(alloc);
     for (place, statement) in statements.iter().enumerate() {

@@ -6,15 +6,8 @@ ghost use Rattle.aql_syntax.specs.Views as see;
 ghost use Rattle.view_graph.specs.Names as spec;
 
 use crate::names::mentions::Mentions;
-use aql_syntax::{Ast, Form, Item};
+use aql_syntax::{Ast, Form, Item, is_dictionary_predicate};
 use span_token::OutOfMemory;
-
-/// Whether the first argument of the function with this name is a dictionary.
-fn is_dictionary_predicate(name: &str) -> bool
-    ensures { result ≡ spec.is_dictionary_predicate name.now }
-{
-    name == "ContainsDict" || name == "MatchesDict"
-}
 
 /// The dictionary that the call of the function `name` names by its first argument.
 fn dictionary_argument<'a>(

@@ -3,7 +3,7 @@ use Rattle.std.proofs.lemmas.Result.{err_from_is_err_and}
 use Rattle.aql_syntax.specs.Trees.{Statement}
 use Rattle.aql_syntax.specs.declared.tree.Statement as declared
 use Rattle.aql_syntax.specs.Views.{statement_of}
-use Rattle.view_graph.specs.Answers.{IfFault}
+use Rattle.span_token.specs.Refusals.{OfFault}
 use Rattle.view_graph.specs.Indexes.{has}
 use Rattle.view_graph.specs.Outputs.{HasSeen, IsOutputAgain}
 use Rattle.view_graph.proofs.Splits.{map-take_more, map_split, length-map_take}
@@ -23,7 +23,7 @@ returns-in_err-note-clause-fault c =
     let x = c.index-statements-place in
     let before = map statement_of (take c.loop-place.place c.args.statements.now) in
     let after = map statement_of (drop (c.loop-place.place + 1) c.args.statements.now) in
-    rw (p.1, p.2) (subst (λ (program : List Statement). IfFault (IsOutputAgain program) c.in_err-note.field-0.0)
+    rw (p.1, p.2) (subst (λ (program : List Statement). OfFault (IsOutputAgain program) c.in_err-note.field-0.0)
     (ap (λ (s : declared.Statement). before ++ statement_of s ∷ after) x.is
     ∙ map_split statement_of c.args.statements.now c.loop-place.place x.result c.loop-place-test.true)
     (c.in_err-note.ensures.fault before after (ap (λ (n : ℕ). n + 1) (sym (length-map_take statement_of c.args.statements.now c.loop-place.place c.loop-place-test.true))) c.loop-place.invariant))

@@ -5,11 +5,11 @@ use Rattle.aql_syntax.specs.Trees.{Statement, require}
 use Rattle.aql_syntax.specs.declared.tree.Statement as declared
 use Rattle.aql_syntax.specs.Views.{statement_of}
 use Rattle.view_graph.specs.Names.{IsDefined, names_looked_up, looked_up_by}
-use Rattle.view_graph.specs.Answers.{IsFault}
+use Rattle.view_graph.specs.Answers.{IsNameFault}
 use Rattle.view_graph.specs.Lookups.{PlacesUsed, MentionsUndefined}
 use Rattle.view_graph.proofs.Splits.{map_split, length-map_take, get_or-map_within}
 use Rattle.view_graph.proofs.LookingUp.{graph_more, undefined_fault}
-use Rattle.view_graph.proofs.Refusing.{IfFault-weaker}
+use Rattle.view_graph.proofs.Refusing.{OfFault-weaker}
 use Rattle.view_graph.proofs.uses.uses.Goals as goal
 
 pub loop-place-preserved : goal.loop-place-preserved
@@ -31,7 +31,7 @@ returns-in_err-used-clause-fault c =
     let program = map statement_of c.args.statements.now in
     let before = map statement_of (take i c.args.statements.now) in
     let after = map statement_of (drop (i + 1) c.args.statements.now) in
-    rw (p.1, p.2) (IfFault-weaker (MentionsUndefined program (i + 1) (looked_up_by (statement_of x.result))) (IsFault program)
+    rw (p.1, p.2) (OfFault-weaker (MentionsUndefined program (i + 1) (looked_up_by (statement_of x.result))) (IsNameFault program)
     (λ fault found. undefined_fault program before after (statement_of x.result) (i + 1) fault
     (sym (ap (λ (s : declared.Statement). before ++ statement_of s ∷ after) x.is ∙ map_split statement_of c.args.statements.now i x.result c.loop-place-test.true))
     (ap (λ (n : ℕ). n + 1) (sym (length-map_take statement_of c.args.statements.now i c.loop-place-test.true)))
