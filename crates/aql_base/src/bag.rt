@@ -1,15 +1,18 @@
 ghost use Rattle.std.specs.Prelude.{◌≡◌, ◌↔◌, IsTrue, All};
-ghost use Rattle.aql_base.specs.Bags.{OccursEquallyOften, count_of};
+ghost use Rattle.std.specs.declared.cmp.Ordering.TheVariants.{Equal};
+ghost use Rattle.aql_base.specs.Bags.{OccursEquallyOften, SameBag, count_of};
 
 /// Whether each value occurs in both lists equally often, where values are one that the order of `T`
 /// doesn't tell apart.
 ///
 /// Takes no memory, and time that grows as the square of the lengths: for tests and for short lists.
 ///
-/// Meaning: `OccursEquallyOften`, `specs/Bags.antt`. Where the order tells all values apart, that is
-/// `SameBag`: `SameBag-from_counts`, `proofs/Counts.antt`.
+/// Where the order tells all values apart, one list is then the other in another order: `exact`.
+///
+/// Meaning: `OccursEquallyOften` and `SameBag`, `specs/Bags.antt`.
 pub fn same_bag<T: Ord>(a: &[T], b: &[T]) -> bool
-    ensures { IsTrue result ↔ OccursEquallyOften T.cmp a.now b.now }
+    ensures counts { IsTrue result ↔ OccursEquallyOften T.cmp a.now b.now }
+    ensures exact { ((x y : T) → T.cmp x y ≡ Equal → x ≡ y) → IsTrue result ↔ SameBag a.now b.now }
 {
     counted_alike(a, a, b) && counted_alike(b, a, b)
 }

@@ -67,7 +67,7 @@ datum_cmp_total = subst IsTotalOrder (λ i x y. is_by_kinds x y i)
 pub row_cmp_total : IsTotalOrder row_cmp
 row_cmp_total = lists_total datum_cmp_total
 
-not_equal : {G : Type 0} (o : Ordering) → is_eq o ≡ false → o ≡ Equal → G
+pub not_equal : {G : Type 0} (o : Ordering) → is_eq o ≡ false → o ≡ Equal → G
 not_equal o h e = absurd (true≢false (sym (ap is_eq e) ∙ h))
 
 -- what a test of an answer tells
@@ -76,17 +76,17 @@ equal_is Less e = absurd (true≢false (sym e))
 equal_is Equal e = refl
 equal_is Greater e = absurd (true≢false (sym e))
 
-then_first : (o p : Ordering) → ordering_then o p ≡ Equal → o ≡ Equal
+pub then_first : (o p : Ordering) → ordering_then o p ≡ Equal → o ≡ Equal
 then_first Less p e = e
 then_first Equal p e = refl
 then_first Greater p e = e
 
-then_second : (o p : Ordering) → ordering_then o p ≡ Equal → p ≡ Equal
+pub then_second : (o p : Ordering) → ordering_then o p ≡ Equal → p ≡ Equal
 then_second Less p e = not_equal Less refl e
 then_second Equal p e = e
 then_second Greater p e = not_equal Greater refl e
 
-nat_exact : (m n : ℕ) → nat_cmp m n ≡ Equal → m ≡ n
+pub nat_exact : (m n : ℕ) → nat_cmp m n ≡ Equal → m ≡ n
 nat_exact m n e = ranked m n Equal (sym e)
 
 bool_exact : (a b : Bool) → bool_cmp a b ≡ Equal → a ≡ b

@@ -191,10 +191,11 @@ fn a_sort_keeps_equal_rows_and_puts_null_first(rt: HostRuntime) -> Result<(), Fa
 #[test]
 fn many_rows_are_sorted(rt: HostRuntime) -> Result<(), Fail> {
     let alloc = rt.alloc();
-    let mut rows = Rows::new(alloc, 1);
+    let mut values = Vec::new(alloc);
     for i in 0..4001i64 {
-        rows.push(Row::single(alloc, Value::Int(i * 1000 % 4001)))?;
+        values.push(Value::Int(i.wrapping_mul(1000) % 4001))?;
     }
+    let mut rows = column(alloc, values.as_slice())?;
     sort_rows(&mut rows)?;
     for (i, row) in rows.as_slice().iter().enumerate() {
         assert_eq!(rt; row.values(), &[Value::Int(i as i64)][..]);
