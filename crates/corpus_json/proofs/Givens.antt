@@ -105,8 +105,19 @@ given-first left faults = record {
   consumed = Consumes-nil left;
   counted = refl;
   later = omega arith;
+  stands = λ _. refl;
+  once = omega arith;
   so_far = record { whole = refl; no_lf = All-nil HasNoLf };
 }
+
+-- after a failed read every answer says so
+failed_stays : (bytes line : List ℕ) (left : Option (List ℕ)) (before faults : ℕ) (now : Reading) (step : Step) → IsAnswer bytes line left before faults now step
+    → step ≡ Failed → now.last ≡ Some Failed
+failed_stays bytes line left before faults now Line answer is = absurd (cc)
+failed_stays bytes line left before faults now End answer is = absurd (cc)
+failed_stays bytes line left before faults now Long answer is = absurd (cc)
+failed_stays bytes line left before faults now Failed answer is = ap (λ (r : Reading). r.last) answer.3
+failed_stays bytes line left before faults now Limit answer is = absurd (cc)
 
 -- one more answer of the reader
 pub given-next : (left_first left_before left_now : Option (List ℕ)) (faults_first faults_before faults_now : ℕ) (before now : Reading) (lines : List (List ℕ)) (line : List ℕ) (step : Step)
@@ -122,14 +133,19 @@ given-next left_first left_before left_now faults_first faults_before faults_now
     → MatchOption last (IsAnswer (before.ready ++ next.more) line left_now faults_before faults_now now step) (λ last. (step ≡ last) × (next.more ≡ []) × (now ≡ before))
     → last ≡ before.last
     → HasGiven left_first left_now faults_first faults_now now (lines_after lines line step)) [
-      | None ↦ λ going answer is. record {
-        bytes = given.bytes ++ next.more;
-        consumed = consumed;
-        counted = counted;
-        later = omega (arith, given.later);
-        so_far = shows left_now faults_first faults_before faults_now given.later later given.bytes next.more lines before.ready going now counted line step answer;
-      }
+      | None ↦ λ going answer is.
+          let kept : faults_before ≡ faults_first = given.stands (λ failed. let other = is ∙ failed in absurd (cc)) in
+          record {
+            bytes = given.bytes ++ next.more;
+            consumed = consumed;
+            counted = counted;
+            later = omega (arith, given.later);
+            stands = λ other. next.stands (λ failed. other (failed_stays (before.ready ++ next.more) line left_now faults_before faults_now now step answer failed)) ∙ kept;
+            once = omega (arith, kept, next.once);
+            so_far = shows left_now faults_first faults_before faults_now given.later later given.bytes next.more lines before.ready going now counted line step answer;
+          }
       | Some last ↦ λ outcome same is.
+          let still : faults_now ≡ faults_before = next.still (λ none. let other = is ∙ none in absurd (cc)) in
           let nothing : Consumes left_before left_now [] = subst (Consumes left_before left_now) same.1 next.consumed in
           let stands = stays left_before left_now faults_first faults_before faults_now given.bytes lines line last told nothing later outcome in
           let So : List (List ℕ) → Option Step → Type 0 = λ after last. MatchOption last (IsGoing given.bytes after now.ready) (IsOutcome given.bytes after left_now faults_first faults_now) in
@@ -138,6 +154,8 @@ given-next left_first left_before left_now faults_first faults_before faults_now
             consumed = subst (Consumes left_first left_now) (ap (λ more. given.bytes ++ more) same.1 ∙ append-nil given.bytes) consumed;
             counted = ap (λ (r : Reading). r.taken) same.2 ∙ given.counted;
             later = omega (arith, given.later);
+            stands = λ other. still ∙ given.stands (λ failed. other (ap (λ (r : Reading). r.last) same.2 ∙ failed));
+            once = omega (arith, still, given.once);
             so_far = subst (λ (s : Step). So (lines_after lines line s) now.last) (sym same.0) (subst (So (lines_after lines line last)) (is ∙ ap (λ (r : Reading). r.last) (sym same.2)) stands);
           }
     ] given.so_far next.answer refl

@@ -1,5 +1,5 @@
 -- Whether an LF is ready, by the place of the last one.
-use Rattle.std.proofs.Common.{◌≡◌, ℕ, ◌+◌, ◌-◌, ◌<◌, ◌≤◌, inl, inr, List, length, take, drop, get_or, sym, ap, ◌∙◌, arith, slice_range, length-drop}
+use Rattle.std.proofs.Common.{◌≡◌, ℕ, ◌+◌, ◌-◌, ◌<◌, ◌≤◌, inl, inr, List, length, drop, get_or, sym, ap, ◌∙◌, arith, slice_range, length-drop}
 use Rattle.std.proofs.lemmas.Bool.{cases_lt}
 use Rattle.std.proofs.lemmas.List.{get_or-take, get_or-drop, get_or_default, length-take-le}
 use Rattle.std.proofs.lemmas.List.Elements.{Contains-from_at, at_from_Contains}

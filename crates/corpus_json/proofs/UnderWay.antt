@@ -37,6 +37,7 @@ answered left_before left_now faults_before faults_now before now line more step
       counted = counts;
       stands = stands;
       once = once;
+      still = λ some. absurd (some going);
       answer = subst (λ (last : Option Step). MatchOption last (IsAnswer (before.ready ++ more) line left_now faults_before faults_now now step) (λ last. (step ≡ last) × (more ≡ []) × (now ≡ before))) (sym going) answer;
     }
 

@@ -1,5 +1,5 @@
 -- What a line of the corpus is: blank, a document, or neither.
-use Rattle.std.specs.Prelude.{ℕ, List, Bool, not, codes, ◌==◌, ◌||◌, Option, None, Some, option_map, option_and_then, take_while, position, if◌then◌else◌, true, false}
+use Rattle.std.specs.Prelude.{ℕ, List, Bool, not, codes, ◌==◌, ◌||◌, Option, None, Some, option_map, option_and_then, take_while, if◌then◌else◌, true, false}
 use Rattle.std.specs.List.{list_all, filter_map}
 use Rattle.std.specs.Str.{is_utf8}
 use Rattle.serde_json.specs.Data.{Data}
@@ -66,7 +66,3 @@ good_lines lines = take_while (λ line. not (is_bad_line line)) lines
 -- the documents of the good lines, in order
 abbrev pub documents : List (List ℕ) → List Doc
 documents lines = filter_map (λ line. good_of (entry_of line)) (good_lines lines)
-
--- the place of the first bad line, from 0
-abbrev pub first_bad : List (List ℕ) → Option ℕ
-first_bad lines = position is_bad_line lines

@@ -1,5 +1,5 @@
--- What a run of a reader's calls gave so far, as an invariant of the loop that makes them.
-use Rattle.std.specs.Prelude.{◌≡◌, ℕ, ◌<◌, ◌≤◌, Bool, true, false, List, [], ◌∷◌, ◌++◌, length, Option, MatchOption, All}
+-- What a run of a reader's calls gave so far.
+use Rattle.std.specs.Prelude.{◌≡◌, ◌≢◌, ℕ, ◌+◌, ◌<◌, ◌≤◌, Bool, true, false, List, [], ◌∷◌, ◌++◌, length, Option, Some, MatchOption, All}
 use Rattle.std.specs.Io.KnownBytes.{Consumes, IsAtEnd}
 use Rattle.aql_io.specs.Causes.{Rose}
 use Rattle.corpus_json.specs.declared.step.Step.{Step}
@@ -28,12 +28,14 @@ IsOutcome bytes lines left faults_first faults_now Failed =
     (lines_of false bytes ≡ lines) × Rose faults_first faults_now × (length bytes < corpus_limit)
 IsOutcome bytes lines left faults_first faults_now Limit = (lines_of false bytes ≡ lines) × (length bytes ≡ corpus_limit)
 
--- since the first call these bytes were taken from the source and these lines given
+-- since the first call these bytes were taken from the source and these lines given; no read failed, or the last one did and the answer says so
 pub record HasGiven (left_first left_now : Option (List ℕ)) (faults_first faults_now : ℕ) (now : Reading) (lines : List (List ℕ)) : Type 0 where
   pub bytes : List ℕ
   pub consumed : Consumes left_first left_now bytes
   pub counted : now.taken ≡ length bytes
   pub later : faults_first ≤ faults_now
+  pub stands : now.last ≢ Some Failed → faults_now ≡ faults_first
+  pub once : faults_now ≤ faults_first + 1
   pub so_far : MatchOption now.last (IsGoing bytes lines now.ready) (IsOutcome bytes lines left_now faults_first faults_now)
 
 -- the lines given after one more answer
@@ -43,3 +45,10 @@ lines_after lines line End = lines
 lines_after lines line Long = lines
 lines_after lines line Failed = lines
 lines_after lines line Limit = lines
+
+-- whatever lines were given before, this answer goes on with the lines
+abbrev pub GoesOn : Option (List ℕ) → Option (List ℕ) → ℕ → ℕ → Reading → Reading → List ℕ → Step → Type 0
+GoesOn left_before left_now faults_before faults_now before now line step =
+    (left_first : Option (List ℕ)) (faults_first : ℕ) (lines : List (List ℕ))
+    → HasGiven left_first left_before faults_first faults_before before lines
+    → HasGiven left_first left_now faults_first faults_now now (lines_after lines line step)

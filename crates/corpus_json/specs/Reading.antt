@@ -46,13 +46,14 @@ IsAnswer bytes line left before faults now Failed = IsUnended bytes × Rose befo
 IsAnswer bytes line left before faults now Limit = IsUnended bytes × (now.taken ≡ corpus_limit) × (now ≡ settled now.taken Limit)
 
 -- one call of a reader: `more` is what it took from the source; no read failed where it doesn't say so, and no second one where it does;
--- a reading that stands still takes nothing and answers the same
+-- a reading that stands still takes nothing, reads nothing and answers the same
 pub record NextLine (left_before left_now : Option (List ℕ)) (faults_before faults_now : ℕ) (before now : Reading) (line : List ℕ) (step : Step) : Type 0 where
   pub more : List ℕ
   pub consumed : Consumes left_before left_now more
   pub counted : now.taken ≡ before.taken + length more
   pub stands : step ≢ Failed → faults_now ≡ faults_before
   pub once : faults_now ≤ faults_before + 1
+  pub still : before.last ≢ None → faults_now ≡ faults_before
   pub answer : MatchOption before.last
       (IsAnswer (before.ready ++ more) line left_now faults_before faults_now now step)
       (λ last. (step ≡ last) × (more ≡ []) × (now ≡ before))

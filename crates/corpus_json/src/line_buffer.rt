@@ -1,6 +1,7 @@
-ghost use Rattle.std.specs.Prelude.{IsTrue, ◌↔◌, ◌≡◌, ◌≤◌, ℕ, [], None, Contains, Some, Ok, IfOk, OnErr, IfSome, is_some, length, vec_len, take, min, MatchResult, MatchOption, ◌-◌};
+ghost use Rattle.std.specs.Prelude.{IsTrue, ◌↔◌, ◌≡◌, ◌≤◌, ℕ, [], None, List, Option, Contains, Some, Ok, IfOk, OnErr, IfSome, is_some, length, vec_len, take, min, MatchResult, MatchOption, ◌-◌};
 ghost use Rattle.std.specs.Io.KnownBytes.{Consumes, Keeps, IsAtEnd};
 ghost use Rattle.aql_io.specs.Causes.{HasCause};
+ghost use Rattle.corpus_json.specs.Given.{GoesOn, HasGiven};
 ghost use Rattle.corpus_json.specs.Limits.{line_limit, corpus_limit};
 ghost use Rattle.corpus_json.specs.Lines.{HasNoLf, FirstLfAt};
 ghost use Rattle.corpus_json.specs.Moves.{MovesPiece};
@@ -47,7 +48,8 @@ impl Model for LineBuffer {
 impl LineBuffer {
     /// A buffer that took nothing yet.
     pub fn new(alloc: Global) -> Result<LineBuffer, OutOfMemory>
-        ensures { IfOk result (λ buffer. buffer ≡ record { ready = []; taken = 0; last = None }) }
+        ensures new { IfOk result (λ buffer. buffer ≡ record { ready = []; taken = 0; last = None }) }
+        ensures given { IfOk result (λ buffer. (left : Option (List ℕ)) (faults : ℕ) → HasGiven left left faults faults buffer []) }
     {
         let bytes = vec![in alloc; 0; ROOM]?;
         Ok(LineBuffer {
@@ -98,13 +100,19 @@ impl LineBuffer {
     /// than `Line`, what `line` holds is left open; after want of memory no clause says where the
     /// reader stands.
     ///
-    /// Meaning: `NextLine`, `specs/Reading.antt`, over the lines of `specs/Lines.antt`.
+    /// From a new buffer on, the lines that calls gave one after another are the lines of the bytes that
+    /// they took, up to the answer that stays.
+    ///
+    /// Meaning: `NextLine`, `specs/Reading.antt`, over the lines of `specs/Lines.antt`; of calls one
+    /// after another `GoesOn`, `specs/Given.antt`.
     pub fn next_line<S: Source>(
         &mut self,
         source: &mut S,
         line: &mut Vec<u8>,
     ) -> Result<Step, OutOfMemory>
         ensures answer { IfOk result (NextLine (S.left source.old) (S.left source.new)
+            (S.faults source.old) (S.faults source.new) self.old self.new line.new.items) }
+        ensures given { IfOk result (GoesOn (S.left source.old) (S.left source.new)
             (S.faults source.old) (S.faults source.new) self.old self.new line.new.items) }
         ensures err { OnErr result (Took (S.left source.old) (S.left source.new)) }
         ensures told { is_some (S.left source.new) ≡ is_some (S.left source.old) }

@@ -1,4 +1,5 @@
 ghost use Rattle.std.specs.Prelude.{◌≡◌, ◌≤◌, [], None, Ok, IfOk, IfSome, OnErr, is_some};
+ghost use Rattle.corpus_json.specs.Given.{GoesOn};
 ghost use Rattle.corpus_json.specs.Reading.{NextLine, Took};
 
 use crate::{LineBuffer, Step};
@@ -63,6 +64,9 @@ impl<S: Source> LineReader<S> {
         ensures answer { IfOk result (λ next. NextLine (S.left self.old.source) (S.left self.new.source)
             (S.faults self.old.source) (S.faults self.new.source) self.old.reading self.new.reading
             (line_in next) (step_of next)) }
+        ensures given { IfOk result (λ next. GoesOn (S.left self.old.source) (S.left self.new.source)
+            (S.faults self.old.source) (S.faults self.new.source) self.old.reading self.new.reading
+            (line_in next) (step_of next)) }
         ensures err { OnErr result (Took (S.left self.old.source) (S.left self.new.source)) }
         ensures told { is_some (S.left self.new.source) ≡ is_some (S.left self.old.source) }
         ensures later { S.faults self.old.source ≤ S.faults self.new.source }
@@ -84,6 +88,8 @@ impl<S: Source> LineReader<S> {
     /// `LineBuffer::next_line` does.
     pub fn next_into(&mut self, line: &mut Vec<u8>) -> Result<Step, OutOfMemory>
         ensures answer { IfOk result (NextLine (S.left self.old.source) (S.left self.new.source)
+            (S.faults self.old.source) (S.faults self.new.source) self.old.reading self.new.reading line.new.items) }
+        ensures given { IfOk result (GoesOn (S.left self.old.source) (S.left self.new.source)
             (S.faults self.old.source) (S.faults self.new.source) self.old.reading self.new.reading line.new.items) }
         ensures err { OnErr result (Took (S.left self.old.source) (S.left self.new.source)) }
         ensures told { is_some (S.left self.new.source) ≡ is_some (S.left self.old.source) }

@@ -1,6 +1,7 @@
 -- Each answer of a call, from what its pieces and reads did.
-use Rattle.std.proofs.Common.{◌≡◌, None, sym, ap, ◌∙◌}
+use Rattle.std.proofs.Common.{◌≡◌, None, sym, ap, ◌∙◌, arith}
 use Rattle.corpus_json.specs.Reading.{Reading}
+use Rattle.corpus_json.proofs.Givens.{given-next}
 use Rattle.corpus_json.proofs.UnderWay.{gives_piece, goes_on, brings, gives_last, empty_at_true, some_at_false}
 use Rattle.corpus_json.proofs.line_buffer.LineBuffer.next_line.Goals as goal
 
@@ -28,6 +29,24 @@ returns-in-Some-fill-clause-answer g c =
     (empty_at_true c.take_piece.new.line.items _ c.is_empty.result (c.take_piece.new.line.ok).0 c.is_empty.ensures)
     (some_at_false c.take_piece.new.line.items _ c.is_empty.result (c.take_piece.new.line.ok).0 c.is_empty.ensures)
     c.in-Some-fill.ensures.read)
+
+pub returns-in-Some-2-clause-given : goal.returns-in-Some-2-clause-given
+returns-in-Some-2-clause-given g c left_first faults_first lines given =
+    let left = g.S.Source.left in
+    let faults = g.S.Source.faults in
+    given-next left_first (left c.args.source.now) (left c.pieces.source) faults_first (faults c.args.source.now) (faults c.pieces.source) c.args.self.now
+    c.take_piece.new.self lines c.take_piece.new.line.items c.in-Some-2.step
+    c.pieces.invariant.told (omega (arith, c.pieces.invariant.way.stands)) given (returns-in-Some-2-clause-answer g c)
+
+pub returns-in-Some-fill-clause-given : goal.returns-in-Some-fill-clause-given
+returns-in-Some-fill-clause-given g c left_first faults_first lines given =
+    let left = g.S.Source.left in
+    let faults = g.S.Source.faults in
+    given-next left_first (left c.args.source.now) (left c.fill.new.source) faults_first (faults c.args.source.now) (faults c.fill.new.source) c.args.self.now
+    c.fill.new.self lines c.take_piece.new.line.items c.last_step.result
+    (c.fill.ensures.told ∙ c.pieces.invariant.told)
+    (omega (arith, c.pieces.invariant.way.stands, c.in-Some-fill.ensures.read.later))
+    given (returns-in-Some-fill-clause-answer g c)
 
 pub pieces-preserved : goal.pieces-preserved
 pieces-preserved g c =
