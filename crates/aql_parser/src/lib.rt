@@ -14,8 +14,6 @@ mod measuring;
 mod parsing;
 mod queries;
 mod statements;
-#[cfg(test)]
-mod tests;
 
 pub use measuring::{MAX_NESTING, Sizes, measure};
 pub use parsing::{SyntaxFault, parse};

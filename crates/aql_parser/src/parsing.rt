@@ -1,10 +1,13 @@
 //! Whole programs.
 
-ghost use Rattle.std.specs.Prelude.{◌≡◌, ◌<◌, ◌^◌, ◌+◌, ◌&&◌, List, length, map, IfOk, IfErr, MatchResult};
+ghost use Rattle.std.specs.Prelude.{◌≡◌, ◌<◌, ◌^◌, ◌+◌, ◌&&◌, ℕ, List, All, length, map, IfOk, IfErr, MatchResult};
 ghost use Rattle.aql_lexer.specs.Kinds.{kinds_of, token_of};
+ghost use Rattle.aql_lexer.specs.Reading.{IsReading};
 ghost use Rattle.aql_syntax.specs.Trees.{Statement as Tree};
 ghost use Rattle.aql_syntax.specs.Views.{statement_of};
+ghost use Rattle.aql_syntax.specs.Printing.{CanBePrinted};
 ghost use Rattle.aql_syntax.specs.Programs.{AreTokensOf, placed_in};
+ghost use Rattle.aql_syntax.specs.Shapes.{IsFormed};
 ghost use Rattle.aql_parser.specs.Nesting.{NestsWithin, IsWithin, nesting_limit};
 ghost use Rattle.aql_parser.specs.Faults.{IsFaultOf, IsDecided};
 ghost use Rattle.aql_parser.specs.Runs.{IsTreeOf, IsKept, IsNamed, is_module, may_follow};
@@ -80,8 +83,12 @@ fn named(refused: Refused, statement: u32, line: u32) -> Failure<SyntaxFault>
 /// `SyntaxFault` comes exactly where some statement has no tree, and names the first one. The only
 /// other refusal is want of memory.
 ///
+/// The trees have the shape that the grammar asks for, and `print` takes each of them where the tokens
+/// are those that `lex` gives of a text.
+///
 /// Meaning: `AreTokensOf` and `placed_in`, `aql_syntax`'s `specs/Programs.antt`; `IsFaultOf` and
-/// `IsDecided`, `specs/Faults.antt`; the grammar, `aql_syntax`'s `specs/Grammar`.
+/// `IsDecided`, `specs/Faults.antt`; the grammar, `aql_syntax`'s `specs/Grammar`; `IsFormed`, its
+/// `specs/Shapes.antt`.
 pub fn parse(alloc: Global, toks: &[Tok]) -> Result<Vec<Statement>, Failure<SyntaxFault>>
     requires few { length toks.now < 2 ^ 32 }
     requires nested { NestsWithin nesting_limit (kinds_of toks.now) }
@@ -93,6 +100,8 @@ pub fn parse(alloc: Global, toks: &[Tok]) -> Result<Vec<Statement>, Failure<Synt
         (λ failure. failure ≡ Failure.OutOfMemory) }
     ensures fault { IfErr result (IsFaultOf (map token_of toks.now)) }
     ensures decided { IsDecided (map token_of toks.now) }
+    ensures formed { IfOk result (λ trees. All IsFormed (map statement_of trees.items)) }
+    ensures printable { (text : List ℕ) → IsReading text (map token_of toks.now) → IfOk result (λ trees. All (λ tree. CanBePrinted (statement_of tree)) trees.items) }
 {
     let mut trees = Vec::new(alloc);
     let mut rest = toks;

@@ -1,7 +1,8 @@
 pub mod Viewing
 pub mod Writing
 pub mod PrintingViews
+pub mod Standing
 pub mod Prints
 pub mod PrintLaws
-pub mod HasTokens
 pub mod SameTerms
+pub mod Shaping

@@ -12,7 +12,8 @@ use Rattle.aql_syntax.specs.Grammar.Extractions.{IsRange, IsBound, IsOutput, IsN
 use Rattle.aql_syntax.specs.Grammar.Queries.{AreConds, IsPolicy, IsCons, IsLimit, AreKeys, AreClauses, IsTail, AreItemsBefore, IsExtracted, IsQuery, AreSides, AreOtherSides, AreLaterSides, IsSource, AreSources, AreLaterSources}
 use Rattle.aql_syntax.specs.Grammar.Statements.{IsText, IsStatement}
 use Rattle.aql_syntax.specs.Trees.{Name, Number, Term, int, str, regex, column, bare, call, star, Terms, no_terms, more_terms, Item, Cons, Clauses, Tail, Range, one, two, Group, Flag, Spec, pattern, dict, blocks, Query, select, extract, union, minus, Queries, no_queries, more_queries, Source, view, nested, Sources, no_sources, more_sources, Statement, module_, require, export, dictionary, create, output}
-use Rattle.aql_syntax.specs.Printing.{CanBePrinted, IsPrinted, word, sign, comma, printed_name, union_all, printed_column, printed_optional, printed_each, printed_separated, printed_term, printed_args, printed_output, printed_item, printed_item_before, printed_range, printed_bound, printed_number, printed_numbered, printed_begin, printed_groups, printed_flag, printed_separation, printed_on, printed_spec, printed_policy, printed_cons, printed_limit, printed_clause, printed_conds, printed_keys, printed_clauses, printed_tail, printed_nested, printed_query, printed_sides, printed_source, printed_sources, printed_created, printed_columns, printed_alias, printed_text, printed_statement}
+use Rattle.aql_syntax.specs.Printing.{CanBePrinted, IsPrinted}
+use Rattle.aql_syntax.specs.Printed.{word, sign, comma, printed_name, union_all, printed_column, printed_optional, printed_each, printed_separated, printed_term, printed_args, printed_output, printed_item, printed_item_before, printed_range, printed_bound, printed_number, printed_numbered, printed_begin, printed_groups, printed_flag, printed_separation, printed_on, printed_spec, printed_policy, printed_cons, printed_limit, printed_clause, printed_conds, printed_keys, printed_clauses, printed_tail, printed_nested, printed_query, printed_sides, printed_source, printed_sources, printed_created, printed_columns, printed_alias, printed_text, printed_statement}
 use Rattle.aql_syntax.proofs.Prints.{Prints, prints_nothing, prints_nowhere, prints_token, prints_then, prints_keyword, prints_name, prints_dictionary, prints_either, prints_optional, prints_each, prints_separated, prints_clause, printed_later}
 
 prints_symbol : (s : String) → Prints (Symbol s) (Symbol s) (sign s ∷ [])

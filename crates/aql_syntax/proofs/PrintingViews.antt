@@ -12,7 +12,7 @@ use Rattle.aql_syntax.specs.declared.tree.Query.TheVariants as query
 use Rattle.aql_syntax.specs.declared.tree.Select.{Select}
 use Rattle.aql_syntax.specs.Trees.{Term, as_terms, Source, as_sources, Query, as_queries}
 use Rattle.aql_syntax.specs.Views.{term_at, term_of, item_of, clauses_of, query_of, source_of}
-use Rattle.aql_syntax.specs.Printing.{word, sign, comma, union_all, printed_before, printed_from, printed_separated, printed_term, printed_args, printed_call, printed_item, printed_clauses, printed_source, printed_sources, printed_nested, printed_sides, printed_select, printed_union, printed_query}
+use Rattle.aql_syntax.specs.Printed.{word, sign, comma, union_all, printed_before, printed_from, printed_separated, printed_term, printed_args, printed_call, printed_item, printed_clauses, printed_source, printed_sources, printed_nested, printed_sides, printed_select, printed_union, printed_query}
 use Rattle.aql_syntax.specs.Nodes.{call_view, select_view, union_view}
 
 -- arguments are printed as a list is

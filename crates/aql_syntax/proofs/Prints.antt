@@ -11,7 +11,9 @@ use Rattle.aql_lexer.specs.Kinds as k
 use Rattle.aql_syntax.specs.Spellings.{free, plain, same_word, is_word, is_reserved, can_be_word, can_be_name, SpellsName, SpellsDictionary}
 use Rattle.aql_syntax.specs.Parts.{Part, ◌▸◌, Nothing, Nowhere, ◌or◌, Token, Keyword, IsName, IsDictionaryName, Optional, Each, Separated, Clause}
 use Rattle.aql_syntax.specs.Trees.{Name}
-use Rattle.aql_syntax.specs.Printing.{CanStand, word, printed_name, printed_dictionary, printed_before, printed_optional, printed_each, printed_from, printed_separated, printed_clause}
+use Rattle.aql_syntax.proofs.Standing.{word_stands, stands_word, name_stands, stands_name}
+use Rattle.aql_syntax.specs.Printing.{CanStand}
+use Rattle.aql_syntax.specs.Printed.{word, printed_name, printed_dictionary, printed_before, printed_optional, printed_each, printed_from, printed_separated, printed_clause}
 
 pub record Printed (P P' : Part) (printed rest : List Kind) : Type 0 where
   pub after : All CanStand rest
@@ -68,7 +70,7 @@ prints_keyword w stands = record {
       let tail : All CanStand (k.word h.0 ∷ rest) = rw h.1 at all in
       record {
         after = All-tail CanStand (k.word h.0) rest tail;
-        standing = just (word w) stands;
+        standing = just (word w) (word_stands (codes w) stands);
         freely = λ out. (codes w, refl, same_word_refl (codes w));
         plainly = λ out. (codes w, refl, refl);
       };
@@ -101,18 +103,26 @@ spelled_by : (text : List ℕ) (b : Bool) → can_be_word text ≡ b → (can_be
 unfolding printed_name
 spelled_by text true e h =
     let parts = can_be_word_parts text e in
-    rw e (record { freely = (refl, parts.1); plainly = (refl, parts.1); stands = parts.0 })
+    rw e (record { freely = (refl, parts.1); plainly = (refl, parts.1); stands = word_stands text parts.0 })
 spelled_by text false e (inl word) = absurd (false≢true (sym e ∙ word))
-spelled_by text false e (inr name) = rw e (record { freely = (refl, tt); plainly = (refl, e); stands = name })
+spelled_by text false e (inr name) = rw e (record { freely = (refl, tt); plainly = (refl, e); stands = name_stands text name })
 
 -- a kind that stands and spells a name shows that the name can stand
 nameable : (text : List ℕ) (kind : Kind) → SpellsName free text kind → CanStand kind → (can_be_word text ≡ true) ⊎ (can_be_name text ≡ true)
-nameable text (k.word w) h stands = inl (rw h.0 at (can_be_word_from w stands h.1))
-nameable text (k.name n) h stands = inr (rw h.0 at stands)
+nameable text (k.word w) h stands = inl (rw h.0 at (can_be_word_from w (stands_word w stands) h.1))
+nameable text (k.name n) h stands = inr (rw h.0 at (stands_name n stands))
 nameable text (k.int n) h stands = absurd h
 nameable text (k.str s) h stands = absurd h
 nameable text (k.regex r) h stands = absurd h
 nameable text (k.symbol c) h stands = absurd h
+
+-- where a kind that stands spells a name, the name is a word or can stand in quotes
+neither : (text : List ℕ) (kind : Kind) → SpellsName free text kind → CanStand kind → can_be_word text ≡ false → can_be_name text ≡ false → ⊥
+neither text kind h stands e f = none (nameable text kind h stands)
+  where
+    none : (can_be_word text ≡ true) ⊎ (can_be_name text ≡ true) → ⊥
+    none (inl word) = false≢true (sym e ∙ word)
+    none (inr name) = false≢true (sym f ∙ name)
 
 module _ (name : Name) where
   pub prints_name : Prints (IsName free name) (IsName plain name) (printed_name name.text ∷ [])
@@ -135,19 +145,28 @@ record NamesDictionary (text : List ℕ) (kind : Kind) : Type 0 where
   plainly : SpellsDictionary plain text kind
   stands : CanStand kind
 
-dictionary_by : (text : List ℕ) (b c : Bool) → can_be_word text ≡ b → can_be_name text ≡ c → NamesDictionary text (printed_dictionary text)
+-- a kind that stands and spells a dictionary's name, which is neither a word nor a name, is a string
+is_string : (text : List ℕ) (kind : Kind) → SpellsDictionary free text kind → CanStand kind → can_be_word text ≡ false → can_be_name text ≡ false → CanStand (k.str text)
+is_string text (k.str string) h stands e f = subst (λ (t : List ℕ). CanStand (k.str t)) h.0 stands
+is_string text (k.word w) h stands e f = absurd (neither text (k.word w) h stands e f)
+is_string text (k.name n) h stands e f = absurd (neither text (k.name n) h stands e f)
+is_string text (k.int n) h stands e f = absurd h
+is_string text (k.regex r) h stands e f = absurd h
+is_string text (k.symbol c) h stands e f = absurd h
+
+dictionary_by : (text : List ℕ) (kind : Kind) → SpellsDictionary free text kind → CanStand kind → (b c : Bool) → can_be_word text ≡ b → can_be_name text ≡ c → NamesDictionary text (printed_dictionary text)
 unfolding printed_dictionary
-dictionary_by text true c e f =
+dictionary_by text kind h stands true c e f =
     let parts = can_be_word_parts text e in
-    rw e (record { freely = (refl, parts.1); plainly = (refl, parts.1); stands = parts.0 })
-dictionary_by text false true e f = rw (e, f) (record { freely = (refl, tt); plainly = (refl, e); stands = f })
-dictionary_by text false false e f = rw (e, f) (record { freely = (refl, tt); plainly = (refl, (e, f)); stands = tt })
+    rw e (record { freely = (refl, parts.1); plainly = (refl, parts.1); stands = word_stands text parts.0 })
+dictionary_by text kind h stands false true e f = rw (e, f) (record { freely = (refl, tt); plainly = (refl, e); stands = name_stands text f })
+dictionary_by text kind h stands false false e f = rw (e, f) (record { freely = (refl, tt); plainly = (refl, (e, f)); stands = is_string text kind h stands e f })
 
 pub prints_dictionary : (name : Name) → Prints (IsDictionaryName free name) (IsDictionaryName plain name) (printed_dictionary name.text ∷ [])
 prints_dictionary name = record {
   prints = λ ks rest h all.
       let tail : All CanStand (h.0 ∷ rest) = rw h.1 at all in
-      let spelled = dictionary_by name.text (can_be_word name.text) (can_be_name name.text) refl refl in
+      let spelled = dictionary_by name.text h.0 h.2 (All-head CanStand h.0 rest tail) (can_be_word name.text) (can_be_name name.text) refl refl in
       record {
         after = All-tail CanStand h.0 rest tail;
         standing = just _ spelled.stands;
@@ -169,7 +188,7 @@ pub prints_either : (w v : String) → is_word (codes v) ≡ true → Prints (Ke
 prints_either w v stands = record {
   prints = λ ks rest h all. record {
     after = either_goes_on w v ks rest h all;
-    standing = just (word v) stands;
+    standing = just (word v) (word_stands (codes v) stands);
     freely = λ out. inr (codes v, refl, same_word_refl (codes v));
     plainly = λ out. (codes v, refl, refl);
   };

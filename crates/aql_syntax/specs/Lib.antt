@@ -17,3 +17,4 @@ pub mod Shapes
 pub mod ShapeLaws
 -- print
 pub mod Printing
+pub mod Printed

@@ -1,11 +1,11 @@
 -- How the words of a tree are spelled in tokens: freely, as a program may write them, or plainly,
 -- with keywords in lower case and quotes only where they must be.
-use Rattle.std.specs.Prelude.{◌≡◌, ℕ, Bool, true, false, ◌&&◌, ◌||◌, not, ◌==◌, nat_eq, List, [], ◌∷◌, codes, ⊤}
+use Rattle.std.specs.Prelude.{◌≡◌, ℕ, Bool, true, false, ◌&&◌, not, List, [], ◌∷◌, codes, ⊤}
 use Rattle.std.specs.List.{list_any, list_all}
-use Rattle.std.specs.Char.{is_ascii_alphabetic, is_ascii_digit}
-use Rattle.std.specs.Str.{str_eq_ignore_ascii_case, byte}
+use Rattle.std.specs.Str.{str_eq_ignore_ascii_case}
 use Rattle.aql_lexer.specs.Kinds.{Kind}
 use Rattle.aql_lexer.specs.Kinds as k
+use Rattle.aql_lexer.specs.Tokens.{begins_word, goes_on_word, is_in_name}
 
 -- as a program may write a tree, or as `print` writes it
 pub data Spelling : Type 0 where
@@ -29,12 +29,6 @@ unfoldable pub is_reserved : List ℕ → Bool
 is_reserved word = list_any (λ reserved. same_word word reserved) reserved_words
 
 -- an ASCII letter or `_`, and then ASCII letters, digits and `_`
-abbrev pub begins_word : ℕ → Bool
-begins_word c = is_ascii_alphabetic c || (c == byte "_")
-
-abbrev pub goes_on_word : ℕ → Bool
-goes_on_word c = begins_word c || is_ascii_digit c
-
 unfoldable pub is_word : List ℕ → Bool
 is_word [] = false
 is_word (c ∷ cs) = begins_word c && list_all goes_on_word cs
@@ -43,14 +37,10 @@ is_word (c ∷ cs) = begins_word c && list_all goes_on_word cs
 unfoldable pub can_be_word : List ℕ → Bool
 can_be_word text = is_word text && not (is_reserved text)
 
--- neither a quote nor a line feed
-abbrev pub stands_in_quotes : ℕ → Bool
-stands_in_quotes c = not (c == 34) && not (c == 10)
-
 -- a name that can stand in quotes: one character or more
 unfoldable pub can_be_name : List ℕ → Bool
 can_be_name [] = false
-can_be_name (c ∷ cs) = list_all stands_in_quotes (c ∷ cs)
+can_be_name (c ∷ cs) = list_all is_in_name (c ∷ cs)
 
 -- a keyword: in any case, or in lower case
 abbrev pub SpellsKeyword : Spelling → List ℕ → List ℕ → Type 0

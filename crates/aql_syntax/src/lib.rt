@@ -9,8 +9,6 @@ mod names;
 mod naming;
 mod printing;
 mod sameness;
-#[cfg(test)]
-mod tests;
 mod tree;
 
 pub use names::{is_reserved, same_word};

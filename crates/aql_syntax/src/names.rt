@@ -2,6 +2,7 @@
 
 ghost use Rattle.std.specs.Prelude.{◌≡◌};
 ghost use Rattle.std.specs.List.{list_all};
+ghost use Rattle.aql_lexer.specs.Tokens as lexed;
 ghost use Rattle.aql_syntax.specs.Spellings as spec;
 
 /// The words that are no names, in any case.
@@ -48,19 +49,19 @@ pub fn is_reserved(word: &str) -> bool
 }
 
 fn begins_word(byte: u8) -> bool
-    ensures { result ≡ spec.begins_word byte }
+    ensures { result ≡ lexed.begins_word byte }
 {
     byte.is_ascii_alphabetic() || byte == b'_'
 }
 
 fn goes_on_word(byte: u8) -> bool
-    ensures { result ≡ spec.goes_on_word byte }
+    ensures { result ≡ lexed.goes_on_word byte }
 {
-    begins_word(byte) || byte.is_ascii_digit()
+    byte.is_ascii_alphanumeric() || byte == b'_'
 }
 
 fn all_go_on_word(bytes: &[u8]) -> bool
-    ensures { result ≡ list_all spec.goes_on_word bytes.now }
+    ensures { result ≡ list_all lexed.goes_on_word bytes.now }
 {
     bytes.iter().all(|byte| goes_on_word(*byte))
 }
@@ -84,13 +85,13 @@ pub(crate) fn can_be_word(text: &str) -> bool
 }
 
 fn stands_in_quotes(byte: u8) -> bool
-    ensures { result ≡ spec.stands_in_quotes byte }
+    ensures { result ≡ lexed.is_in_name byte }
 {
-    byte != b'"' && byte != b'\n'
+    !(byte == b'"' || byte == b'\n')
 }
 
 fn all_stand_in_quotes(bytes: &[u8]) -> bool
-    ensures { result ≡ list_all spec.stands_in_quotes bytes.now }
+    ensures { result ≡ list_all lexed.is_in_name bytes.now }
 {
     bytes.iter().all(|byte| stands_in_quotes(*byte))
 }

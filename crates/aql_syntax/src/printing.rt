@@ -3,7 +3,7 @@
 ghost use Rattle.std.specs.Prelude.{◌≡◌, [], ◌∷◌, ◌++◌, map, option_map, OnOk, IfOk};
 ghost use Rattle.aql_lexer.specs.Kinds.{kind_of};
 ghost use Rattle.aql_syntax.specs.Views as see;
-ghost use Rattle.aql_syntax.specs.Printing as spec;
+ghost use Rattle.aql_syntax.specs.Printed as spec;
 ghost use Rattle.aql_syntax.specs.Printing.{CanBePrinted, IsPrinted};
 ghost use Rattle.aql_syntax.specs.Trees as tree;
 

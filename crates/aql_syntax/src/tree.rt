@@ -30,7 +30,7 @@ pub struct Ident {
 
 /// What a view means: a selection, an extraction, or queries put together.
 ///
-/// A union has two sides or more.
+/// A union that has tokens has two sides or more (`IsFormed`, `specs/Shapes.antt`).
 #[derive(Debug, Drop)]
 #[cycle(query)]
 pub enum Query {

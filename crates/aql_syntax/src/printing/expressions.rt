@@ -3,7 +3,7 @@
 ghost use Rattle.std.specs.Prelude.{◌≡◌, [], ◌∷◌, ◌++◌, map, option_map, OnOk};
 ghost use Rattle.aql_lexer.specs.Kinds.{word};
 ghost use Rattle.aql_syntax.specs.Views as view;
-ghost use Rattle.aql_syntax.specs.Printing as spec;
+ghost use Rattle.aql_syntax.specs.Printed as spec;
 ghost use Rattle.aql_syntax.specs.Trees.{star};
 
 use crate::printing::writer::Writer;

@@ -4,7 +4,7 @@ ghost use Rattle.std.specs.Prelude.{◌≡◌, [], ◌∷◌, ◌++◌, map, opt
 ghost use Rattle.aql_syntax.specs.Grammar.Extractions.{flag_text, unit_of};
 ghost use Rattle.aql_syntax.specs.Trees.{two, pattern, dict, blocks};
 ghost use Rattle.aql_syntax.specs.Views as view;
-ghost use Rattle.aql_syntax.specs.Printing as spec;
+ghost use Rattle.aql_syntax.specs.Printed as spec;
 
 use crate::printing::expressions::{column, output};
 use crate::printing::writer::Writer;

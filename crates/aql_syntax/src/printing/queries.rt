@@ -2,7 +2,7 @@
 
 ghost use Rattle.std.specs.Prelude.{◌≡◌, [], ◌∷◌, ◌++◌, map, option_map, OnOk};
 ghost use Rattle.aql_syntax.specs.Views as see;
-ghost use Rattle.aql_syntax.specs.Printing as spec;
+ghost use Rattle.aql_syntax.specs.Printed as spec;
 ghost use Rattle.aql_syntax.specs.Trees.{view};
 
 use crate::printing::expressions::{conds, items, items_before, keys, term};

@@ -2,7 +2,7 @@
 
 ghost use Rattle.std.specs.Prelude.{◌≡◌, [], ◌∷◌, ◌++◌, map, OnOk, IfOk};
 ghost use Rattle.aql_lexer.specs.Kinds.{kind_of, word, name, int, str, regex, symbol};
-ghost use Rattle.aql_syntax.specs.Printing as spec;
+ghost use Rattle.aql_syntax.specs.Printed as spec;
 
 use crate::names::{can_be_name, can_be_word};
 use crate::tree::Ident;
@@ -97,7 +97,7 @@ impl Writer {
     }
 
     /// A name, in quotes only where it must be.
-    #[tactic(auto, unfolding(crate::specs::Printing::printed_name))]
+    #[tactic(auto, unfolding(crate::specs::Printed::printed_name))]
     pub fn name(&mut self, name: &Ident) -> Result<(), OutOfMemory>
         ensures { OnOk result (self.new ≡ self.old ++ spec.printed_name name.now.text ∷ []) }
     {
@@ -109,7 +109,7 @@ impl Writer {
     }
 
     /// A dictionary's name in an extraction: a string where it can be no name.
-    #[tactic(auto, unfolding(crate::specs::Printing::printed_dictionary))]
+    #[tactic(auto, unfolding(crate::specs::Printed::printed_dictionary))]
     pub fn dictionary(&mut self, name: &Ident) -> Result<(), OutOfMemory>
         ensures { OnOk result (self.new ≡ self.old ++ spec.printed_dictionary name.now.text ∷ []) }
     {

@@ -2,8 +2,11 @@ use Rattle.std.proofs.Common.{◌≡◌, ◌∙◌, ◌+◌, ◌-◌, [], ◌∷
 use Rattle.std.proofs.lemmas.List.{take_rest, length-map, map-append}
 use Rattle.aql_lexer.specs.Kinds.{token_of}
 use Rattle.aql_syntax.specs.Views.{statement_of}
+use Rattle.aql_lexer.specs.Kinds.{kinds_of}
+use Rattle.aql_syntax.specs.ShapeLaws.{formed}
 use Rattle.aql_parser.specs.Nesting.{nesting_limit}
 use Rattle.aql_parser.proofs.ProgramRules.{decided, few_parsed, run_nested, fault_is, next_parsed, all_parsed, only_these, only_memory}
+use Rattle.aql_parser.proofs.Standing.{printable}
 use Rattle.aql_parser.proofs.parsing.parse.Goals as goal
 
 pub whole-requires-clause-nested : goal.whole-requires-clause-nested
@@ -70,3 +73,13 @@ returns-clause-only c = λ others h.
 
 pub returns-clause-decided : goal.returns-clause-decided
 returns-clause-decided c = decided (map token_of c.args.toks.now)
+
+pub returns-clause-formed : goal.returns-clause-formed
+returns-clause-formed c =
+    formed (kinds_of c.args.toks.now) (map statement_of c.loop-rest.trees.items)
+    (all_parsed c.args.toks.now c.loop-rest.rest.now (map statement_of c.loop-rest.trees.items) c.loop-rest.invariant c.in_default.len_below).tokens
+
+pub returns-clause-printable : goal.returns-clause-printable
+returns-clause-printable c = λ text h.
+    printable text c.args.toks.now c.loop-rest.trees.items h
+    (all_parsed c.args.toks.now c.loop-rest.rest.now (map statement_of c.loop-rest.trees.items) c.loop-rest.invariant c.in_default.len_below).tokens

@@ -1,8 +1,8 @@
 use Rattle.std.proofs.Common.{rules, tests}
 use Rattle.std.proofs.lemmas.Iterator.{YieldsList-from_slice}
 use Rattle.std.proofs.lemmas.Iterator.Search.{all_from_yields_List}
-use Rattle.aql_syntax.specs.Spellings.{stands_in_quotes}
+use Rattle.aql_lexer.specs.Tokens.{is_in_name}
 use Rattle.aql_syntax.proofs.names.all_stand_in_quotes.Goals as goal
 
 pub returns : goal.returns
-returns c = all_from_yields_List stands_in_quotes _ _ _ c.all.ensures.ran (YieldsList-from_slice _ c.iter.ensures.rest) (λ x b q k. search (rules, tests))
+returns c = all_from_yields_List is_in_name _ _ _ c.all.ensures.ran (YieldsList-from_slice _ c.iter.ensures.rest) (λ x b q k. search (rules, tests))

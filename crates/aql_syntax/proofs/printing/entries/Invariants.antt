@@ -1,5 +1,5 @@
 use Rattle.std.proofs.Common.{◌≡◌, ◌++◌, drop}
-use Rattle.aql_syntax.specs.Printing.{comma, printed_from, printed_text}
+use Rattle.aql_syntax.specs.Printed.{comma, printed_from, printed_text}
 use Rattle.aql_syntax.proofs.printing.entries.Given as goal
 
 abbrev pub invariant-loop-i : goal.invariant-loop-i

@@ -1,6 +1,6 @@
 use Rattle.std.proofs.Common.{◌≡◌, ◌++◌, map, drop}
 use Rattle.aql_syntax.specs.Views.{item_of}
-use Rattle.aql_syntax.specs.Printing.{comma, printed_from, printed_item}
+use Rattle.aql_syntax.specs.Printed.{comma, printed_from, printed_item}
 use Rattle.aql_syntax.proofs.printing.expressions.items.Given as goal
 
 abbrev pub invariant-loop-i : goal.invariant-loop-i

@@ -1,6 +1,6 @@
 use Rattle.std.proofs.Common.{◌≡◌, ◌++◌, map, drop}
 use Rattle.aql_syntax.specs.Views.{term_of}
-use Rattle.aql_syntax.specs.Printing.{comma, printed_from, printed_term}
+use Rattle.aql_syntax.specs.Printed.{comma, printed_from, printed_term}
 use Rattle.aql_syntax.proofs.printing.expressions.keys.Given as goal
 
 abbrev pub invariant-loop-i : goal.invariant-loop-i

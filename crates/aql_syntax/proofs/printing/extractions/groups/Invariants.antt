@@ -1,6 +1,6 @@
 use Rattle.std.proofs.Common.{◌≡◌, ◌++◌, map, drop}
 use Rattle.aql_syntax.specs.Views.{group_of}
-use Rattle.aql_syntax.specs.Printing.{and, printed_from, printed_numbered}
+use Rattle.aql_syntax.specs.Printed.{and, printed_from, printed_numbered}
 use Rattle.aql_syntax.proofs.printing.extractions.groups.Given as goal
 
 abbrev pub invariant-loop-i : goal.invariant-loop-i

@@ -1,6 +1,6 @@
 use Rattle.std.proofs.Common.{◌≡◌, ◌++◌, map, drop}
 use Rattle.aql_syntax.specs.Views.{query_of, source_of}
-use Rattle.aql_syntax.specs.Printing.{comma, union_all, printed_from, printed_nested, printed_source}
+use Rattle.aql_syntax.specs.Printed.{comma, union_all, printed_from, printed_nested, printed_source}
 use Rattle.aql_syntax.proofs.printing.queries.+query.Given as goal
 
 abbrev pub invariant-union-loop-i : goal.invariant-union-loop-i
