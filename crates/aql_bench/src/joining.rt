@@ -4,7 +4,7 @@ ghost use Rattle.row_values.specs.Datums.{span};
 ghost use Rattle.span_token.specs.Documents.{LiesIn, characters};
 ghost use Rattle.span_token.specs.Extents.{extent_of};
 ghost use Rattle.span_token.specs.Tokens.{tokens_of};
-ghost use Rattle.span_joins.specs.Joins.{spans_in};
+ghost use Rattle.row_values.specs.Rows.{ColumnLiesIn};
 
 use crate::bench::Bench;
 use aql_base::Steps;
@@ -42,17 +42,16 @@ pub(crate) struct Sides<'t> {
 }
 
 impl<'t> Model for Sides<'t> {
-    ghost use Rattle.std.specs.Prelude.{◌≡◌, All};
-    ghost use Rattle.row_values.specs.Rows.{RowList};
-    ghost use Rattle.span_token.specs.Documents.{Doc, LiesIn};
-    ghost use Rattle.span_joins.specs.Joins.{spans_in};
+    ghost use Rattle.std.specs.Prelude.{◌≡◌};
+    ghost use Rattle.row_values.specs.Rows.{ColumnLiesIn, RowList};
+    ghost use Rattle.span_token.specs.Documents.{Doc};
 
     ghost Value = { Doc × RowList × RowList };
 
     ghost view = { λ sides. (sides.doc, sides.left, sides.right) };
 
     ghost invariant = { λ sides. (sides.left.width ≡ 1) × (sides.right.width ≡ 1)
-        × All (λ e. LiesIn e sides.doc) (spans_in 0 sides.left.rows) × All (λ e. LiesIn e sides.doc) (spans_in 0 sides.right.rows) };
+        × ColumnLiesIn sides.doc 0 sides.left.rows × ColumnLiesIn sides.doc 0 sides.right.rows };
 }
 
 impl<'t> Sides<'t> {
@@ -149,7 +148,7 @@ fn rows_within(
     spans: &[Span],
 ) -> Result<Rows<'static>, OutOfMemory>
     ensures width { IfOk result (λ rows. rows.width ≡ 1) }
-    ensures within { IfOk result (λ rows. All (λ e. LiesIn e doc.now) (spans_in 0 rows.rows)) }
+    ensures within { IfOk result (λ rows. ColumnLiesIn doc.now 0 rows.rows) }
 {
     let mut rows = Rows::new(alloc, 1);
     for each in spans {

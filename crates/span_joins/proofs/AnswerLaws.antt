@@ -13,9 +13,10 @@ use Rattle.span_token.specs.Tokens.{tokens_of}
 use Rattle.span_token.specs.Relations.{do_overlap, does_contain, does_follow, does_follow_tok, gap_of, tokens_between}
 use Rattle.span_joins.specs.declared.rule.Rule.{Rule}
 use Rattle.span_joins.specs.declared.rule.Rule.TheVariants.{Gap, Tokens, Contains, OverlapsFromLeft, OverlapsFromRight}
+use Rattle.span_joins.specs.declared.rule.Front.{Front}
 use Rattle.span_joins.specs.declared.rule.Answer.{Answer}
 use Rattle.span_joins.specs.declared.rule.Answer.TheVariants.{Before, Pair, Neither, Beyond}
-use Rattle.span_joins.specs.Answers.{by_gap, by_count, by_begin, place_of, number_of, other_order_of, answer_of, rank_of, is_exact, is_pair}
+use Rattle.span_joins.specs.Answers.{by_gap, by_count, by_begin, begin_empty_first, number_of, other_order_of, answer_of, first_number, is_exact, is_pair}
 
 -- less isn't enough where more isn't, and more is too much where less is
 still_low : (z : ℤ) (n m : ℕ) → m ≤ n → int_le z (pos n) ≡ false → int_le z (pos m) ≡ false
@@ -182,27 +183,27 @@ is_beyond before beyond pair e f = ap₂ (λ b c. by_begin b c pair) e f
 abbrev one_if : Bool → ℕ
 one_if b = cond b 1 0
 
--- places go by begins, and an empty span stands before others of its begin
+-- these numbers go by begins, and an empty span stands before others of its begin
 bit : (b : Bool) → one_if b ≤ 1
 bit true = omega arith
 bit false = omega arith
 
-place_begins : (a b : Extent) → place_of a ≤ place_of b → a.begin ≤ b.begin
-place_begins a b h = omega (arith, h, bit (nat_lt a.begin a.end), bit (nat_lt b.begin b.end))
+numbers_begin : (a b : Extent) → begin_empty_first a ≤ begin_empty_first b → a.begin ≤ b.begin
+numbers_begin a b h = omega (arith, h, bit (nat_lt a.begin a.end), bit (nat_lt b.begin b.end))
 
-place_within : (b : Extent) (n : ℕ) → b.begin ≤ b.end → b.end ≤ n → place_of b ≤ n + n
-place_within b n h k = by (nat_lt b.begin b.end) refl
+number_within : (b : Extent) (n : ℕ) → b.begin ≤ b.end → b.end ≤ n → begin_empty_first b ≤ n + n
+number_within b n h k = by (nat_lt b.begin b.end) refl
   where
     by : (t : Bool) → nat_lt b.begin b.end ≡ t → b.begin + b.begin + cond (nat_lt b.begin b.end) 1 0 ≤ n + n
     by true e = omega (arith, ltb-true b.begin b.end e, ap one_if e)
     by false e = omega (arith, ap one_if e)
 
 -- a span that is too near stays so for first spans of a greater rank, and so do those that stand no later
-pub before_stays : (rule : Rule) (a b a' b' : Extent) → rank_of rule a ≤ rank_of rule a' → number_of (other_order_of rule) b' ≤ number_of (other_order_of rule) b → answer_of rule a b ≡ Before → answer_of rule a' b' ≡ Before
-before_stays (Gap low high) a b a' b' h k e = count_before (λ from to. to - from) fewer_characters low high a b a' b' h k e
-before_stays (Tokens doc low high) a b a' b' h k e = count_before (tokens_between (tokens_of (characters doc.now))) (fewer_tokens (tokens_of (characters doc.now))) low high a b a' b' h k e
-before_stays Contains a b a' b' h k e =
-    is_before (nat_lt b'.begin a'.begin) _ _ (lt-ltb b'.begin a'.begin (omega (arith, place_begins b' b k, h, ltb-true b.begin a.begin (begin_before _ _ _ e))))
+pub before_stays : (rule : Rule) (a b a' b' : Extent) → first_number rule a ≤ first_number rule a' → number_of (other_order_of rule) b' ≤ number_of (other_order_of rule) b → answer_of rule a b ≡ Before → answer_of rule a' b' ≡ Before
+before_stays (Gap low high front) a b a' b' h k e = count_before (λ from to. to - from) fewer_characters low high a b a' b' h k e
+before_stays (Tokens doc low high front) a b a' b' h k e = count_before (tokens_between (tokens_of (characters doc.now))) (fewer_tokens (tokens_of (characters doc.now))) low high a b a' b' h k e
+before_stays (Contains front) a b a' b' h k e =
+    is_before (nat_lt b'.begin a'.begin) _ _ (lt-ltb b'.begin a'.begin (omega (arith, numbers_begin b' b k, h, ltb-true b.begin a.begin (begin_before _ _ _ e))))
 before_stays OverlapsFromLeft a b a' b' h k e =
     is_before (nat_lt b'.begin a'.begin) _ _ (lt-ltb b'.begin a'.begin (omega (arith, ltb-true b.begin a.begin (begin_before _ _ _ e))))
 before_stays OverlapsFromRight a b a' b' h k e =
@@ -210,13 +211,13 @@ before_stays OverlapsFromRight a b a' b' h k e =
 
 -- and those that stand no earlier than one too far are too far
 pub beyond_stays : (rule : Rule) (a b b' : Extent) → number_of (other_order_of rule) b ≤ number_of (other_order_of rule) b' → answer_of rule a b ≡ Beyond → answer_of rule a b' ≡ Beyond
-beyond_stays (Gap low high) a b b' h e = count_beyond (λ from to. to - from) fewer_characters low high a b b' h e
-beyond_stays (Tokens doc low high) a b b' h e = count_beyond (tokens_between (tokens_of (characters doc.now))) (fewer_tokens (tokens_of (characters doc.now))) low high a b b' h e
-beyond_stays Contains a b b' h e =
+beyond_stays (Gap low high front) a b b' h e = count_beyond (λ from to. to - from) fewer_characters low high a b b' h e
+beyond_stays (Tokens doc low high front) a b b' h e = count_beyond (tokens_between (tokens_of (characters doc.now))) (fewer_tokens (tokens_of (characters doc.now))) low high a b b' h e
+beyond_stays (Contains front) a b b' h e =
     let parts = begin_beyond _ _ _ e in
-    is_beyond (nat_lt b'.begin a.begin) (nat_lt (a.end + a.end) (place_of b')) _
-    (le-ltb b'.begin a.begin (omega (arith, place_begins b b' h, ltb-false b.begin a.begin parts.0)))
-    (lt-ltb (a.end + a.end) (place_of b') (omega (arith, h, ltb-true (a.end + a.end) (place_of b) parts.1)))
+    is_beyond (nat_lt b'.begin a.begin) (nat_lt (a.end + a.end) (begin_empty_first b')) _
+    (le-ltb b'.begin a.begin (omega (arith, numbers_begin b b' h, ltb-false b.begin a.begin parts.0)))
+    (lt-ltb (a.end + a.end) (begin_empty_first b') (omega (arith, h, ltb-true (a.end + a.end) (begin_empty_first b) parts.1)))
 beyond_stays OverlapsFromLeft a b b' h e =
     let parts = begin_beyond _ _ _ e in
     let both = and_parts (nat_lt a.begin b.begin) (nat_le a.end b.begin) parts.1 in
@@ -246,23 +247,23 @@ pub before_begins_no_later : (a b : Extent) → answer_of OverlapsFromRight a b 
 before_begins_no_later a b e = leb-true b.begin a.begin (begin_before _ _ _ e)
 
 pub never_neither : (rule : Rule) (a b : Extent) → is_exact rule ≡ true → answer_of rule a b ≡ Neither → ⊥
-never_neither (Gap low high) a b x e = count_exact (λ from to. to - from) fewer_characters low high a b e
-never_neither (Tokens doc low high) a b x e = count_exact (tokens_between (tokens_of (characters doc.now))) (fewer_tokens (tokens_of (characters doc.now))) low high a b e
-never_neither Contains a b x e = absurd (true≢false (sym x))
+never_neither (Gap low high front) a b x e = count_exact (λ from to. to - from) fewer_characters low high a b e
+never_neither (Tokens doc low high front) a b x e = count_exact (tokens_between (tokens_of (characters doc.now))) (fewer_tokens (tokens_of (characters doc.now))) low high a b e
+never_neither (Contains front) a b x e = absurd (true≢false (sym x))
 never_neither OverlapsFromLeft a b x e = absurd (true≢false (sym x))
 never_neither OverlapsFromRight a b x e = absurd (true≢false (sym x))
 
 -- the pairs of each rule
-pub pair-gap : (low high : ℤ) (a b : Extent) → is_pair (answer_of (Gap low high) a b) ≡ does_follow a b low high
-pair-gap low high a b = count_pair (λ from to. to - from) fewer_characters low high a b
+pub pair-gap : (low high : ℤ) (front : Front) (a b : Extent) → is_pair (answer_of (Gap low high front) a b) ≡ does_follow a b low high
+pair-gap low high front a b = count_pair (λ from to. to - from) fewer_characters low high a b
 
 pub pair-tokens : (tokens : List Extent) (low high : ℤ) (a b : Extent) → is_pair (by_count (tokens_between tokens) low high a b) ≡ does_follow_tok tokens a b low high
 pair-tokens tokens low high a b = count_pair (tokens_between tokens) (fewer_tokens tokens) low high a b
 
 -- the answer by tokens, from the span that lies between
-pub tokens_answered : (doc : Bor Doc) (low high : ℤ) (a b gap : Extent) (n : ℕ) (r : Answer) → a.end ≤ b.begin → gap ≡ gap_of a b
-    → n ≡ tokens_between (tokens_of (characters doc.now)) gap.begin gap.end → r ≡ by_gap low high n → r ≡ answer_of (Tokens doc low high) a b
-tokens_answered doc low high a b gap n r h e f g =
+pub tokens_answered : (doc : Bor Doc) (low high : ℤ) (front : Front) (a b gap : Extent) (n : ℕ) (r : Answer) → a.end ≤ b.begin → gap ≡ gap_of a b
+    → n ≡ tokens_between (tokens_of (characters doc.now)) gap.begin gap.end → r ≡ by_gap low high n → r ≡ answer_of (Tokens doc low high front) a b
+tokens_answered doc low high front a b gap n r h e f g =
     let tokens = tokens_of (characters doc.now) in
     let to : max a.end b.begin ≡ b.begin = omega arith in
     let count : n ≡ tokens_between tokens a.end b.begin = f ∙ ap (λ (s : Extent). tokens_between tokens s.begin s.end) e ∙ ap (λ x. tokens_between tokens a.end x) to in
@@ -276,10 +277,10 @@ never_beyond false true false h = refl
 never_beyond false false true h = refl
 never_beyond false false false h = refl
 
-pub pair-contains : (a b : Extent) → b.begin ≤ b.end → is_pair (answer_of Contains a b) ≡ does_contain a b
-pair-contains a b h =
-    never_beyond (nat_lt b.begin a.begin) (nat_lt (a.end + a.end) (place_of b)) (does_contain a b)
-    (λ x e. le-ltb (a.end + a.end) (place_of b) (place_within b a.end h (leb-true b.end a.end (and_parts (nat_le a.begin b.begin) (nat_le b.end a.end) e).1)))
+pub pair-contains : (front : Front) (a b : Extent) → b.begin ≤ b.end → is_pair (answer_of (Contains front) a b) ≡ does_contain a b
+pair-contains front a b h =
+    never_beyond (nat_lt b.begin a.begin) (nat_lt (a.end + a.end) (begin_empty_first b)) (does_contain a b)
+    (λ x e. le-ltb (a.end + a.end) (begin_empty_first b) (number_within b a.end h (leb-true b.end a.end (and_parts (nat_le a.begin b.begin) (nat_le b.end a.end) e).1)))
     ∙ by (nat_lt b.begin a.begin) (nat_le a.begin b.begin) (nat_le b.end a.end) (λ e. lt-leb a.begin b.begin (ltb-true b.begin a.begin e))
   where
     by : (x y z : Bool) → (x ≡ true → y ≡ false) → (not x && (y && z)) ≡ (y && z)

@@ -2,6 +2,8 @@
 pub mod AnswerLaws
 -- rows in the order of their spans
 pub mod OrderLaws
+-- the steps of a test
+pub mod StepLaws
 -- the pairs of rows
 pub mod SweepLaws
 -- the join as it is defined
@@ -10,7 +12,3 @@ pub mod JoinLaws
 pub mod PairLaws
 -- the tests of spans
 pub mod Predicates
--- joins as bags
-pub mod JoinBags
--- the tables of the tests
-pub mod TableLaws

@@ -11,7 +11,7 @@ use Rattle.span_token.specs.declared.span.Span.{Span}
 use Rattle.row_values.specs.Datums.{Datum}
 use Rattle.span_joins.specs.declared.side.Key.{Key}
 use Rattle.span_joins.specs.declared.rule.By.{By}
-use Rattle.span_joins.specs.Joins.{place, DoRise}
+use Rattle.span_joins.specs.Joins.{rank, DoRise}
 use Rattle.span_joins.specs.Answers.{number_of}
 use Rattle.span_joins.specs.Sweeps.{Entry, entry, entry_of, no_entry, AreInOrder, IsProper}
 
@@ -25,7 +25,7 @@ module _ {X Y : Type 0} (n : Y → ℕ) (f : X → Y) where
 
 -- rows that rise by the spans in a column are in order where they stand
 pub in_order-rows : (by : By) (column : ℕ) (rows : List (List Datum)) → DoRise (number_of by) column rows → AreInOrder by (map (entry column) rows)
-in_order-rows by column rows h = rise_mapped (λ e. place (number_of by) e.span) (entry column) rows h
+in_order-rows by column rows h = rise_mapped (λ e. rank (number_of by) e.span) (entry column) rows h
 
 pub none_of : (o : Option Span) → ((s : Span) → o ≡ Some s → ⊥) → option_map extent_of o ≡ None
 none_of None h = refl
@@ -50,11 +50,11 @@ module _ (entries : List Entry) (i : ℕ) where
   past h = take_all (i + 1) entries (omega arith) ∙ sym (take_all i entries h)
 
   pub in_order-next : (by : By) → AreInOrder by (take i entries)
-      → (i < length entries → 0 < i → place (number_of by) (get_or entries (i - 1) no_entry).span ≤ place (number_of by) (get_or entries i no_entry).span) → AreInOrder by (take (i + 1) entries)
+      → (i < length entries → 0 < i → rank (number_of by) (get_or entries (i - 1) no_entry).span ≤ rank (number_of by) (get_or entries i no_entry).span) → AreInOrder by (take (i + 1) entries)
   in_order-next by h last = cases (nat_lt i (length entries)) refl
     where
       n : Entry → ℕ
-      n x = place (number_of by) x.span
+      n x = rank (number_of by) x.span
 
       cases : (b : Bool) → nat_lt i (length entries) ≡ b → AreInOrder by (take (i + 1) entries)
       cases false e = subst (λ xs. IsNonDecreasingBy n xs) (sym (past (ltb-false i (length entries) e))) h

@@ -10,9 +10,10 @@ use Rattle.span_joins.specs.declared.rule.Rule.{Rule}
 use Rattle.span_joins.specs.declared.rule.Rule.TheVariants.{OverlapsFromLeft, OverlapsFromRight}
 use Rattle.span_joins.specs.declared.rule.Answer.{Answer}
 use Rattle.span_joins.specs.declared.rule.Answer.TheVariants.{Before, Pair, Neither, Beyond}
-use Rattle.span_joins.specs.Joins.{place}
-use Rattle.span_joins.specs.Answers.{is_pair, is_exact, number_of, other_order_of, rank_of}
-use Rattle.span_joins.specs.Sweeps.{Entry, no_entry, answer_at, row_if, row_of, pair_at, pairs_with, pairs_from, all_pairs, AreBefore, AreInOrder}
+use Rattle.span_joins.specs.Joins.{rank}
+use Rattle.span_joins.specs.Answers.{is_pair, is_exact, number_of, other_order_of, first_number}
+use Rattle.span_joins.specs.JoinLaws.{row_if}
+use Rattle.span_joins.specs.Sweeps.{Entry, no_entry, answer_at, row_of, pair_at, pairs_with, pairs_from, all_pairs, AreBefore, AreInOrder}
 use Rattle.span_joins.proofs.AnswerLaws.{before_stays, beyond_stays, never_neither, begins_before, begins_no_later, before_begins, before_begins_no_later}
 
 module _ {X Y : Type 0} (f : X → List Y) where
@@ -49,14 +50,14 @@ module _ {X Y : Type 0} (f : X → List Y) where
   within (x ∷ xs) (suc j) = omega (arith, length-append (f x) (flat_map f (take j xs)), length-append (f x) (flat_map f xs), within xs j)
 
 -- rows in front of one that is too near are too near, for later first rows too
-near_stays : (rule : Rule) (a a' : Extent) (o o' : Option Extent) → rank_of rule a ≤ rank_of rule a' → place (number_of (other_order_of rule)) o' ≤ place (number_of (other_order_of rule)) o
+near_stays : (rule : Rule) (a a' : Extent) (o o' : Option Extent) → first_number rule a ≤ first_number rule a' → rank (number_of (other_order_of rule)) o' ≤ rank (number_of (other_order_of rule)) o
     → answer_at rule a o ≡ Before → answer_at rule a' o' ≡ Before
 near_stays rule a a' o None h k e = refl
 near_stays rule a a' None (Some b') h k e = absurd (omega arith)
 near_stays rule a a' (Some b) (Some b') h k e = before_stays rule a b a' b' h (omega arith) e
 
 -- and rows behind one that is too far are too far
-far_stays : (rule : Rule) (a : Extent) (o o' : Option Extent) → place (number_of (other_order_of rule)) o ≤ place (number_of (other_order_of rule)) o' → answer_at rule a o ≡ Beyond → answer_at rule a o' ≡ Beyond
+far_stays : (rule : Rule) (a : Extent) (o o' : Option Extent) → rank (number_of (other_order_of rule)) o ≤ rank (number_of (other_order_of rule)) o' → answer_at rule a o ≡ Beyond → answer_at rule a o' ≡ Beyond
 far_stays rule a None o' k e = absurd cc
 far_stays rule a (Some b) None k e = absurd (omega arith)
 far_stays rule a (Some b) (Some b') k e = beyond_stays rule a b b' (omega arith) e
@@ -110,7 +111,7 @@ module _ (rule : Rule) (a : Extent) (first : List Datum) where
           each = λ k d l.
               let there = rise k j d (omega arith) below in
               let same : get_or others j d ≡ other = get_or_default others j d other below ∙ sym is in
-              near_stays rule a a other.span (get_or others k d).span (omega arith) (subst (λ (o : Entry). place (number_of (other_order_of rule)) (get_or others k d).span ≤ place (number_of (other_order_of rule)) o.span) same there) (sym e);
+              near_stays rule a a other.span (get_or others k d).span (omega arith) (subst (λ (o : Entry). rank (number_of (other_order_of rule)) (get_or others k d).span ≤ rank (number_of (other_order_of rule)) o.span) same there) (sym e);
         }
 
         -- one that is too far, and so are those behind it
@@ -120,13 +121,13 @@ module _ (rule : Rule) (a : Extent) (first : List Datum) where
             let there = rise j k d low high in
             let same : get_or others j d ≡ other = get_or_default others j d other below ∙ sym is in
             pair_is (get_or others k d) Beyond (far_stays rule a other.span (get_or others k d).span
-            (subst (λ (o : Entry). place (number_of (other_order_of rule)) o.span ≤ place (number_of (other_order_of rule)) (get_or others k d).span) same there) (sym e)))
+            (subst (λ (o : Entry). rank (number_of (other_order_of rule)) o.span ≤ rank (number_of (other_order_of rule)) (get_or others k d).span) same there) (sym e)))
 
 pub none_too_near : (rule : Rule) (a : Extent) (others : List Entry) → AreBefore rule a others 0
 none_too_near rule a others = record { in_list = omega arith; each = λ k d l. absurd (omega arith) }
 
 -- what is too near for one row is too near for the later ones
-pub AreBefore-later : (rule : Rule) (a a' : Extent) (others : List Entry) (n : ℕ) → rank_of rule a ≤ rank_of rule a' → AreBefore rule a others n → AreBefore rule a' others n
+pub AreBefore-later : (rule : Rule) (a a' : Extent) (others : List Entry) (n : ℕ) → first_number rule a ≤ first_number rule a' → AreBefore rule a others n → AreBefore rule a' others n
 AreBefore-later rule a a' others n h before = record {
   in_list = before.in_list;
   each = λ k d l. near_stays rule a a' (get_or others k d).span (get_or others k d).span h (omega arith) (before.each k d l);
@@ -154,32 +155,32 @@ module _ (rule : Rule) (firsts others : List Entry) where
     all_pairs_room = room_for (λ (f : Entry). pairs_from rule f.span f.values others) firsts i first below is
 
 -- what begins before a left span, and what begins no later than a right one, was met before
-from_left : (a : Extent) (o : Option Extent) → place (λ e. e.begin) o < a.begin + 1 → answer_at OverlapsFromLeft a o ≡ Before
+from_left : (a : Extent) (o : Option Extent) → rank (λ e. e.begin) o < a.begin + 1 → answer_at OverlapsFromLeft a o ≡ Before
 from_left a None h = refl
 from_left a (Some b) h = begins_before a b (omega arith)
 
-from_right : (a : Extent) (o : Option Extent) → place (λ e. e.begin) o ≤ a.begin + 1 → answer_at OverlapsFromRight a o ≡ Before
+from_right : (a : Extent) (o : Option Extent) → rank (λ e. e.begin) o ≤ a.begin + 1 → answer_at OverlapsFromRight a o ≡ Before
 from_right a None h = refl
 from_right a (Some b) h = begins_no_later a b (omega arith)
 
 module _ (a : Extent) (others : List Entry) (n : ℕ) (inside : n ≤ length others) where
-  pub from_left-before : ((k : ℕ) → k < n → place (λ e. e.begin) (get_or others k no_entry).span < a.begin + 1) → AreBefore OverlapsFromLeft a others n
+  pub from_left-before : ((k : ℕ) → k < n → rank (λ e. e.begin) (get_or others k no_entry).span < a.begin + 1) → AreBefore OverlapsFromLeft a others n
   from_left-before h = record {
     in_list = inside;
     each = λ k d low. subst (λ (e : Entry). answer_at OverlapsFromLeft a e.span ≡ Before) (get_or_default others k no_entry d (omega arith)) (from_left a (get_or others k no_entry).span (h k low));
   }
 
-  pub from_right-before : ((k : ℕ) → k < n → place (λ e. e.begin) (get_or others k no_entry).span ≤ a.begin + 1) → AreBefore OverlapsFromRight a others n
+  pub from_right-before : ((k : ℕ) → k < n → rank (λ e. e.begin) (get_or others k no_entry).span ≤ a.begin + 1) → AreBefore OverlapsFromRight a others n
   from_right-before h = record {
     in_list = inside;
     each = λ k d low. subst (λ (e : Entry). answer_at OverlapsFromRight a e.span ≡ Before) (get_or_default others k no_entry d (omega arith)) (from_right a (get_or others k no_entry).span (h k low));
   }
 
 -- what begins no earlier than a left span, and what begins after a right one, isn't too near
-pub from_left-never : (a : Extent) (o : Option Extent) → a.begin + 1 ≤ place (λ e. e.begin) o → answer_at OverlapsFromLeft a o ≡ Before → ⊥
+pub from_left-never : (a : Extent) (o : Option Extent) → a.begin + 1 ≤ rank (λ e. e.begin) o → answer_at OverlapsFromLeft a o ≡ Before → ⊥
 from_left-never a None h e = absurd (omega arith)
 from_left-never a (Some b) h e = absurd (omega (arith, before_begins a b e))
 
-pub from_right-never : (a : Extent) (o : Option Extent) → a.begin + 1 < place (λ e. e.begin) o → answer_at OverlapsFromRight a o ≡ Before → ⊥
+pub from_right-never : (a : Extent) (o : Option Extent) → a.begin + 1 < rank (λ e. e.begin) o → answer_at OverlapsFromRight a o ≡ Before → ⊥
 from_right-never a None h e = absurd (omega arith)
 from_right-never a (Some b) h e = absurd (omega (arith, before_begins_no_later a b e))

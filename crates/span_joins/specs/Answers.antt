@@ -6,8 +6,10 @@ use Rattle.span_token.specs.Tokens.{tokens_of}
 use Rattle.span_token.specs.Relations.{do_overlap, does_contain, does_follow, does_follow_tok, tokens_between}
 use Rattle.span_joins.specs.declared.rule.Rule.{Rule}
 use Rattle.span_joins.specs.declared.rule.Rule.TheVariants.{Gap, Tokens, Contains, OverlapsFromLeft, OverlapsFromRight}
+use Rattle.span_joins.specs.declared.rule.Front.{Front}
+use Rattle.span_joins.specs.declared.rule.Front.TheVariants.{First, Other}
 use Rattle.span_joins.specs.declared.rule.By.{By}
-use Rattle.span_joins.specs.declared.rule.By.TheVariants.{Begin, Place, End}
+use Rattle.span_joins.specs.declared.rule.By.TheVariants.{Begin, BeginEmptyFirst, End}
 use Rattle.span_joins.specs.declared.way.Way.{Way}
 use Rattle.span_joins.specs.declared.way.Way.TheVariants.{Swept, Met}
 use Rattle.span_joins.specs.declared.rule.Answer.{Answer}
@@ -25,66 +27,70 @@ by_count count low high a b = cond (nat_le a.end b.begin) (by_gap low high (coun
 abbrev pub by_begin : Bool → Bool → Bool → Answer
 by_begin before beyond pair = cond before Before (cond beyond Beyond (cond pair Pair Neither))
 
--- by the begin, and of spans of one begin an empty one first
-abbrev pub place_of : Extent → ℕ
-place_of e = e.begin + e.begin + cond (nat_lt e.begin e.end) 1 0
+-- a span's number by its begin, and of spans of one begin an empty one first
+abbrev pub begin_empty_first : Extent → ℕ
+begin_empty_first e = e.begin + e.begin + cond (nat_lt e.begin e.end) 1 0
 
 -- the answer of a rule
 abbrev pub answer_of : Rule → Extent → Extent → Answer
-answer_of (Gap low high) a b = by_count (λ from to. to - from) low high a b
-answer_of (Tokens doc low high) a b = by_count (tokens_between (tokens_of (characters doc.now))) low high a b
-answer_of Contains a b = by_begin (nat_lt b.begin a.begin) (nat_lt (a.end + a.end) (place_of b)) (does_contain a b)
+answer_of (Gap low high front) a b = by_count (λ from to. to - from) low high a b
+answer_of (Tokens doc low high front) a b = by_count (tokens_between (tokens_of (characters doc.now))) low high a b
+answer_of (Contains front) a b = by_begin (nat_lt b.begin a.begin) (nat_lt (a.end + a.end) (begin_empty_first b)) (does_contain a b)
 answer_of OverlapsFromLeft a b =
     by_begin (nat_lt b.begin a.begin) (nat_lt a.begin b.begin && nat_le a.end b.begin) (do_overlap a b)
 answer_of OverlapsFromRight a b = by_begin (nat_le b.begin a.begin) (nat_le a.end b.begin) (do_overlap a b)
 
 -- the order of the first spans of a sweep
 abbrev pub order_of : Rule → By
-order_of (Gap low high) = End
-order_of (Tokens doc low high) = End
-order_of Contains = Begin
+order_of (Gap low high front) = End
+order_of (Tokens doc low high front) = End
+order_of (Contains front) = Begin
 order_of OverlapsFromLeft = Begin
 order_of OverlapsFromRight = Begin
 
 -- the order of the others
 abbrev pub other_order_of : Rule → By
-other_order_of (Gap low high) = Begin
-other_order_of (Tokens doc low high) = Begin
-other_order_of Contains = Place
+other_order_of (Gap low high front) = Begin
+other_order_of (Tokens doc low high front) = Begin
+other_order_of (Contains front) = BeginEmptyFirst
 other_order_of OverlapsFromLeft = Begin
 other_order_of OverlapsFromRight = Begin
 
 -- the number of a span that an order goes by
 abbrev pub number_of : By → Extent → ℕ
 number_of Begin e = e.begin
-number_of Place e = place_of e
+number_of BeginEmptyFirst e = begin_empty_first e
 number_of End e = e.end
 
--- what the first spans of a sweep rise by
-abbrev pub rank_of : Rule → Extent → ℕ
-rank_of rule a = number_of (order_of rule) a
+-- the number that the first spans of a sweep rise by
+abbrev pub first_number : Rule → Extent → ℕ
+first_number rule a = number_of (order_of rule) a
 
 -- each span that is neither too near nor too far makes a pair
 abbrev pub is_exact : Rule → Bool
-is_exact (Gap low high) = true
-is_exact (Tokens doc low high) = true
-is_exact Contains = false
+is_exact (Gap low high front) = true
+is_exact (Tokens doc low high front) = true
+is_exact (Contains front) = false
 is_exact OverlapsFromLeft = false
 is_exact OverlapsFromRight = false
 
--- the first span comes from the right rows
+abbrev pub is_other : Front → Bool
+is_other First = false
+is_other Other = true
+
+-- the row of the first span stands behind the other in a pair
 abbrev pub is_turned : Rule → Bool
-is_turned (Gap low high) = false
-is_turned (Tokens doc low high) = false
-is_turned Contains = false
+is_turned (Gap low high front) = is_other front
+is_turned (Tokens doc low high front) = is_other front
+is_turned (Contains front) = is_other front
 is_turned OverlapsFromLeft = false
 is_turned OverlapsFromRight = true
 
 -- a span that a rule may look at
 abbrev pub IsWithin : Rule → Extent → Type 0
-IsWithin (Gap low high) a = Unit {0}
-IsWithin (Tokens doc low high) a = LiesIn a doc.now
-IsWithin Contains a = Unit {0}
+IsWithin (Gap low high front) a = Unit {0}
+IsWithin (Tokens doc low high front) a = LiesIn a doc.now
+IsWithin (Contains front) a = Unit {0}
 IsWithin OverlapsFromLeft a = Unit {0}
 IsWithin OverlapsFromRight a = Unit {0}
 
@@ -96,9 +102,9 @@ is_pair Beyond = false
 
 -- the test that a rule makes
 abbrev pub test_of : Rule → Extent → Extent → Bool
-test_of (Gap low high) a b = does_follow a b low high
-test_of (Tokens doc low high) a b = does_follow_tok (tokens_of (characters doc.now)) a b low high
-test_of Contains a b = does_contain a b
+test_of (Gap low high front) a b = does_follow a b low high
+test_of (Tokens doc low high front) a b = does_follow_tok (tokens_of (characters doc.now)) a b low high
+test_of (Contains front) a b = does_contain a b
 test_of OverlapsFromLeft a b = not (nat_lt b.begin a.begin) && do_overlap a b
 test_of OverlapsFromRight a b = not (nat_le b.begin a.begin) && do_overlap a b
 
@@ -107,25 +113,25 @@ abbrev pub test_by : Way → Extent → Extent → Bool
 test_by (Swept rule) = test_of rule
 test_by Met = do_overlap
 
--- the order of its left rows
+-- the order of its first rows
 abbrev pub order_by : Way → By
 order_by (Swept rule) = order_of rule
 order_by Met = Begin
 
--- and of its right rows
-abbrev pub right_order_by : Way → By
-right_order_by (Swept rule) = other_order_of rule
-right_order_by Met = Begin
+-- and of the others
+abbrev pub other_order_by : Way → By
+other_order_by (Swept rule) = other_order_of rule
+other_order_by Met = Begin
 
 -- its tests are bounded
 abbrev pub is_bounded : Way → Bool
 is_bounded (Swept rule) = is_exact rule
 is_bounded Met = false
 
--- the first rows of a sweep are the left ones
-abbrev pub IsStraight : Way → Type 0
-IsStraight (Swept rule) = is_turned rule ≡ false
-IsStraight Met = Unit {0}
+-- a first row stands behind the other in a pair
+abbrev pub is_back : Way → Bool
+is_back (Swept rule) = is_turned rule
+is_back Met = false
 
 -- a span that it may look at
 abbrev pub MayMeet : Way → Extent → Type 0

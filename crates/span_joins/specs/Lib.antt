@@ -1,7 +1,7 @@
 -- what a join gives
 pub mod Joins
+-- laws of joins: equal bags, sides that change places, a filter over a product
+pub mod JoinLaws
 -- Not in any public clause: how a sweep answers, and what it gives
 pub mod Answers
 pub mod Sweeps
--- Not in any public clause: what the tables of the tests stand for
-pub mod Tables

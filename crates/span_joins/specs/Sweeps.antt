@@ -5,8 +5,10 @@ use Rattle.std.specs.List.{flat_map}
 use Rattle.std.specs.List.Sorted.{IsNonDecreasingBy}
 use Rattle.span_token.specs.Extents.{Extent, extent_of}
 use Rattle.row_values.specs.Datums.{Datum}
-use Rattle.span_joins.specs.Joins.{span_in, holds, place}
-use Rattle.span_joins.specs.Answers.{answer_of, is_pair, is_turned, number_of, IsWithin, MayMeet}
+use Rattle.row_values.specs.Rows.{span_in}
+use Rattle.span_joins.specs.Joins.{holds, joined_where, rank}
+use Rattle.span_joins.specs.JoinLaws.{row_if}
+use Rattle.span_joins.specs.Answers.{answer_of, is_back, is_pair, is_turned, number_of, test_by, IsWithin, MayMeet}
 use Rattle.span_joins.specs.declared.side.Key.{Key}
 use Rattle.span_joins.specs.declared.side.Side.{Side}
 use Rattle.span_joins.specs.declared.side.Side.TheVariants.{InPlace, Sorted}
@@ -42,12 +44,12 @@ entry_at side i = slice_index_or (entries_of side) i no_entry
 
 -- rows in the order of their spans, those without a span first
 abbrev pub AreInOrder : By → List Entry → Type 0
-AreInOrder by entries = IsNonDecreasingBy (λ entry. place (number_of by) entry.span) entries
+AreInOrder by entries = IsNonDecreasingBy (λ entry. rank (number_of by) entry.span) entries
 
--- where the row in front of row i stands in an order
-abbrev pub IsLast : By → List Entry → ℕ → ℕ → Type 0
-IsLast by entries i last =
-    (i ≡ 0 → last ≡ 0) × (0 < i → i ≤ length entries → last ≡ place (number_of by) (slice_index_or entries (i - 1) no_entry).span)
+-- the rank in an order of the row in front of row i
+abbrev pub IsRankBefore : By → List Entry → ℕ → ℕ → Type 0
+IsRankBefore by entries i last =
+    (i ≡ 0 → last ≡ 0) × (0 < i → i ≤ length entries → last ≡ rank (number_of by) (slice_index_or entries (i - 1) no_entry).span)
 
 -- a span ends at or after its begin
 abbrev pub IsProper : Option Extent → Type 0
@@ -64,13 +66,12 @@ abbrev pub answer_at : Rule → Extent → Option Extent → Answer
 answer_at rule a (Some b) = answer_of rule a b
 answer_at rule a None = Before
 
--- the row where there is a pair
-abbrev pub row_if : Bool → List Datum → List (List Datum)
-row_if is row = cond is (row ∷ []) []
+-- one row followed by the other
+abbrev pub row_by : Bool → List Datum → List Datum → List Datum
+row_by turned first other = cond turned (other ++ first) (first ++ other)
 
--- the left row followed by the right one
 abbrev pub row_of : Rule → List Datum → List Datum → List Datum
-row_of rule first other = cond (is_turned rule) (other ++ first) (first ++ other)
+row_of rule first other = row_by (is_turned rule) first other
 
 -- the pair of a first span and its row with another row, where they are one
 abbrev pub pair_at : Rule → Extent → List Datum → Entry → List (List Datum)
@@ -99,12 +100,17 @@ abbrev pub HaveWidth : ℕ → List Datum → List Entry → Type 0
 HaveWidth width first others = All (λ other. length first + length other.values ≡ width) others
 
 -- the pair of two rows, where the test holds of their spans
-abbrev pub pair_of : (Extent → Extent → Bool) → Entry → Entry → List (List Datum)
-pair_of test left right = row_if (holds test left.span right.span) (left.values ++ right.values)
+abbrev pub pair_of : (Extent → Extent → Bool) → Bool → Entry → Entry → List (List Datum)
+pair_of test turned first other = row_if (holds test first.span other.span) (row_by turned first.values other.values)
 
 -- the pairs of two sides
-abbrev pub pairs_of : (Extent → Extent → Bool) → List Entry → List Entry → List (List Datum)
-pairs_of test lefts rights = flat_map (λ left. flat_map (pair_of test left) rights) lefts
+abbrev pub pairs_of : (Extent → Extent → Bool) → Bool → List Entry → List Entry → List (List Datum)
+pairs_of test turned firsts others = flat_map (λ first. flat_map (pair_of test turned first) others) firsts
+
+-- the join that a way gives of first rows and others
+abbrev pub joined_by : Way → List (List Datum) → ℕ → List (List Datum) → ℕ → List (List Datum)
+joined_by way firsts fc others oc =
+    cond (is_back way) (joined_where (λ a b. test_by way b a) others oc firsts fc) (joined_where (test_by way) firsts fc others oc)
 
 -- a span that a way to join may look at, where there is one
 abbrev pub MayMeetAny : Way → Option Extent → Type 0

@@ -1,13 +1,13 @@
 ghost use Rattle.std.specs.Prelude.{ℕ, ◌≡◌, ◌+◌, ◌-◌, ◌++◌, ◌<◌, ◌≤◌, [], true, false, Some, IfOk, OnOk, length, All};
 ghost use Rattle.span_token.specs.Extents.{Extent};
 ghost use Rattle.aql_base.specs.Bags.{SameBag};
-ghost use Rattle.span_joins.specs.Joins.{place};
+ghost use Rattle.span_joins.specs.Joins.{rank};
 ghost use Rattle.span_joins.specs.Answers.{number_of, other_order_of};
 ghost use Rattle.span_joins.specs.declared.rule.By.TheVariants.{Begin};
 ghost use Rattle.span_joins.specs.declared.rule.Answer.TheVariants.{Before};
 ghost use Rattle.span_joins.specs.declared.meet.Turn.TheVariants.{Left, LeftAlone, Right};
 ghost use Rattle.span_joins.specs.declared.rule.Rule.TheVariants.{OverlapsFromLeft, OverlapsFromRight};
-ghost use Rattle.span_joins.specs.Sweeps.{AreBefore, AreInOrder, answer_at, HaveWidth, IsLast, IsProper, IsWithinAny, all_pairs, entries_of, entry_at, pairs_from};
+ghost use Rattle.span_joins.specs.Sweeps.{AreBefore, AreInOrder, answer_at, HaveWidth, IsRankBefore, IsProper, IsWithinAny, all_pairs, entries_of, entry_at, pairs_from};
 
 use crate::rule::{Answer, By, Rule, test_at};
 use crate::side::Side;
@@ -109,13 +109,13 @@ fn next_turn<L: Ledger>(
     requires right_in_list { j ≤ length (entries_of rights) }
     requires some { i + j < length (entries_of lefts) + length (entries_of rights) }
     ensures left { result ≡ Left → i < length (entries_of lefts.entry) }
-    ensures left_no_later { result ≡ Left → j < length (entries_of rights.entry) → place (number_of Begin) (entry_at lefts.entry i).span ≤ place (number_of Begin) (entry_at rights.entry j).span }
+    ensures left_no_later { result ≡ Left → j < length (entries_of rights.entry) → rank (number_of Begin) (entry_at lefts.entry i).span ≤ rank (number_of Begin) (entry_at rights.entry j).span }
     ensures alone { result ≡ LeftAlone → i < length (entries_of lefts.entry) }
-    ensures alone_no_later { result ≡ LeftAlone → j < length (entries_of rights.entry) → place (number_of Begin) (entry_at lefts.entry i).span ≤ place (number_of Begin) (entry_at rights.entry j).span }
+    ensures alone_no_later { result ≡ LeftAlone → j < length (entries_of rights.entry) → rank (number_of Begin) (entry_at lefts.entry i).span ≤ rank (number_of Begin) (entry_at rights.entry j).span }
     ensures alone_pairs { result ≡ LeftAlone → AreInOrder Begin (entries_of rights.entry) → ((a : Extent) → (entry_at lefts.entry i).span ≡ Some a → AreBefore OverlapsFromLeft a (entries_of rights.entry) j)
         → pairs_from OverlapsFromLeft (entry_at lefts.entry i).span (entry_at lefts.entry i).values (entries_of rights.entry) ≡ [] }
     ensures right { result ≡ Right → j < length (entries_of rights.entry) }
-    ensures right_later { result ≡ Right → i < length (entries_of lefts.entry) → place (number_of Begin) (entry_at rights.entry j).span < place (number_of Begin) (entry_at lefts.entry i).span }
+    ensures right_later { result ≡ Right → i < length (entries_of lefts.entry) → rank (number_of Begin) (entry_at rights.entry j).span < rank (number_of Begin) (entry_at lefts.entry i).span }
     ensures grows { steps.old ≤ steps.new }
 {
     if j == rights.len() {
@@ -135,7 +135,7 @@ fn next_turn<L: Ledger>(
 }
 
 /// Puts the pairs of row `i` of a side with the others from `j` on after the rows of `out`. The result is
-/// false where the row begins before the one in front of it, whose place is `last`, or where another begins
+/// false where the row begins before the one in front of it, whose rank is `last`, or where another begins
 /// too early to stand where it does: were it passed over, each later row would come upon it again.
 #[inline(always)]
 fn push_next<'d, L: Ledger>(
@@ -151,19 +151,19 @@ fn push_next<'d, L: Ledger>(
 ) -> Result<bool, OutOfMemory>
     requires in_range { i < length (entries_of firsts) }
     requires in_list { j ≤ length (entries_of others) }
-    requires last { IsLast Begin (entries_of firsts) i last.old }
+    requires last { IsRankBefore Begin (entries_of firsts) i last.old }
     requires widths { All (λ first. HaveWidth out.old.width first.values (entries_of others)) (entries_of firsts) }
     requires first_within { IsWithinAny rule (entry_at firsts i).span }
     requires others_within { All (λ other. IsWithinAny rule other.span) (entries_of others) }
 
     ensures pairs { AreInOrder (other_order_of rule.entry) (entries_of others.entry) → ((a : Extent) → (entry_at firsts.entry i).span ≡ Some a → AreBefore rule.entry a (entries_of others.entry) j)
         → IfOk result (λ rises. rises ≡ true → out.new.rows ≡ out.old.rows ++ pairs_from rule.entry (entry_at firsts.entry i).span (entry_at firsts.entry i).values (entries_of others.entry)) }
-    ensures yes { IfOk result (λ rises. rises ≡ true → 0 < i → place (number_of Begin) (entry_at firsts.entry (i - 1)).span ≤ place (number_of Begin) (entry_at firsts.entry i).span) }
+    ensures yes { IfOk result (λ rises. rises ≡ true → 0 < i → rank (number_of Begin) (entry_at firsts.entry (i - 1)).span ≤ rank (number_of Begin) (entry_at firsts.entry i).span) }
     ensures proper { IfOk result (λ rises. rises ≡ true → IsProper (entry_at firsts.entry i).span) }
     ensures always { AreInOrder Begin (entries_of firsts.entry) → ((a : Extent) (k : ℕ) → (entry_at firsts.entry i).span ≡ Some a → j ≤ k → k < length (entries_of others.entry) → answer_at rule.entry a (entry_at others.entry k).span ≡ Before → ⊥)
         → IfOk result (λ rises. rises ≡ true) }
 
-    ensures last { IsLast Begin (entries_of firsts.entry) (i + 1) last.new }
+    ensures last { IsRankBefore Begin (entries_of firsts.entry) (i + 1) last.new }
     ensures width { out.new.width ≡ out.old.width }
     ensures counted { steps.old + length out.new.rows ≤ steps.new + length out.old.rows }
     ensures grows { steps.old ≤ steps.new }

@@ -1,12 +1,11 @@
-ghost use Rattle.std.specs.Prelude.{◌≡◌, ◌+◌, ◌≤◌};
+ghost use Rattle.std.specs.Prelude.{◌≡◌, ◌+◌, ◌≤◌, None};
 ghost use Rattle.span_token.specs.Extents.{extent_of};
 ghost use Rattle.span_token.specs.Documents.{LiesIn, characters};
 ghost use Rattle.span_token.specs.Tokens.{tokens_of};
 ghost use Rattle.span_token.specs.Relations.{tokens_between};
-ghost use Rattle.std.specs.Option.{option_map};
-ghost use Rattle.span_joins.specs.declared.rule.Answer.TheVariants.{Pair};
+ghost use Rattle.std.specs.Option.{option_map, IsSome};
 ghost use Rattle.span_joins.specs.Sweeps.{IsWithinAny, answer_at};
-ghost use Rattle.span_joins.specs.Answers.{answer_of, by_gap as gap_answer, by_begin as begin_answer, order_of, other_order_of, place_of as place_number, IsWithin};
+ghost use Rattle.span_joins.specs.Answers.{answer_of, by_gap as gap_answer, by_begin as begin_answer, order_of, other_order_of, begin_empty_first, is_other, is_turned, IsWithin};
 
 use aql_base::Steps;
 use span_token::{Document, Span, between, contains, overlaps};
@@ -16,15 +15,24 @@ use std::sync::ledger::Ledger;
 #[derive(Clone, Copy)]
 pub(crate) enum Rule<'a, 'b> {
     /// The other follows with a number of characters between that is within the bounds.
-    Gap(i64, i64),
+    Gap(i64, i64, Front),
     /// The other follows with a number of tokens between that is within the bounds.
-    Tokens(&'a Document<'b>, i64, i64),
+    Tokens(&'a Document<'b>, i64, i64, Front),
     /// The first contains the other.
-    Contains,
+    Contains(Front),
     /// The two overlap, and the right one doesn't begin before the left one, which is the first.
     OverlapsFromLeft,
     /// The two overlap, and the left one begins after the right one, which is the first.
     OverlapsFromRight,
+}
+
+/// Which row stands in front in a pair.
+#[derive(Clone, Copy)]
+pub(crate) enum Front {
+    /// The one of the first span.
+    First,
+    /// The other.
+    Other,
 }
 
 /// What rows are in the order of.
@@ -33,7 +41,7 @@ pub(crate) enum By {
     /// The begins of their spans.
     Begin,
     /// The begins of their spans, and of spans of one begin an empty one first.
-    Place,
+    BeginEmptyFirst,
     /// The ends of their spans.
     End,
 }
@@ -45,7 +53,7 @@ impl Rule<'_, '_> {
         ensures { result ≡ order_of self.entry }
     {
         match self {
-            Rule::Gap(_, _) | Rule::Tokens(_, _, _) => By::End,
+            Rule::Gap(_, _, _) | Rule::Tokens(_, _, _, _) => By::End,
             _ => By::Begin,
         }
     }
@@ -56,8 +64,20 @@ impl Rule<'_, '_> {
         ensures { result ≡ other_order_of self.entry }
     {
         match self {
-            Rule::Contains => By::Place,
+            Rule::Contains(_) => By::BeginEmptyFirst,
             _ => By::Begin,
+        }
+    }
+
+    /// Which row stands in front.
+    #[inline(always)]
+    pub(crate) fn front(self) -> Front
+        ensures { is_other result ≡ is_turned self.entry }
+    {
+        match self {
+            Rule::Gap(_, _, front) | Rule::Tokens(_, _, _, front) | Rule::Contains(front) => front,
+            Rule::OverlapsFromLeft => Front::First,
+            Rule::OverlapsFromRight => Front::Other,
         }
     }
 }
@@ -98,8 +118,8 @@ pub(crate) fn test_at<L: Ledger>(
     requires first_within { IsWithin rule (extent_of first) }
     requires other_within { IsWithinAny rule (option_map extent_of other) }
     ensures answer { result ≡ answer_at rule.entry (extent_of first) (option_map extent_of other) }
-    ensures pair { result ≡ Pair → steps.new ≡ steps.old + 1 }
-    ensures at_most { steps.new ≤ steps.old + 1 }
+    ensures tested { IsSome other → steps.new ≡ steps.old + 1 }
+    ensures none { other ≡ None → steps.new ≡ steps.old }
     ensures grows { steps.old ≤ steps.new }
 {
     match other {
@@ -118,23 +138,23 @@ fn answered(rule: Rule<'_, '_>, first: Span, other: Span) -> Answer
     let in_order = first.end <= other.begin;
     let gap = between(first, other);
     match rule {
-        Rule::Gap(min, max) => {
+        Rule::Gap(min, max, _) => {
             if in_order {
                 by_gap(min, max, gap.end - gap.begin)
             } else {
                 Answer::Before
             }
         }
-        Rule::Tokens(doc, min, max) => {
+        Rule::Tokens(doc, min, max, _) => {
             if in_order {
                 by_gap(min, max, tokens_within(doc, gap))
             } else {
                 Answer::Before
             }
         }
-        Rule::Contains => by_begin(
+        Rule::Contains(_) => by_begin(
             other.begin < first.begin,
-            2 * u64::from(first.end) < place_of(other),
+            2 * u64::from(first.end) < begin_empty_first(other),
             contains(first, other),
         ),
         Rule::OverlapsFromLeft => by_begin(
@@ -152,8 +172,8 @@ fn answered(rule: Rule<'_, '_>, first: Span, other: Span) -> Answer
 
 /// Where a span stands by its begin, and of spans of one begin an empty one first.
 #[inline(always)]
-pub(crate) fn place_of(span: Span) -> u64
-    ensures { result ≡ place_number (extent_of span) }
+pub(crate) fn begin_empty_first(span: Span) -> u64
+    ensures { result ≡ begin_empty_first (extent_of span) }
 {
     2 * u64::from(span.begin) + u64::from(span.begin < span.end)
 }

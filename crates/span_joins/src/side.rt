@@ -3,11 +3,12 @@ ghost use Rattle.std.specs.List.Sorted.{IsPermutation};
 ghost use Rattle.std.specs.Option.{option_map};
 ghost use Rattle.span_token.specs.Extents.{extent_of};
 ghost use Rattle.span_joins.specs.Answers.{number_of};
-ghost use Rattle.span_joins.specs.Joins.{place as place_of, span_in as row_span};
-ghost use Rattle.span_joins.specs.Sweeps.{AreInOrder, IsLast, IsProper, entries_of, entry_of, entry_at};
+ghost use Rattle.row_values.specs.Rows.{span_in};
+ghost use Rattle.span_joins.specs.Joins.{rank as rank_by};
+ghost use Rattle.span_joins.specs.Sweeps.{AreInOrder, IsRankBefore, IsProper, entries_of, entry_of, entry_at};
 
-use crate::rule::{By, place_of as place_number};
-use row_values::{Row, Value};
+use crate::rule::{By, begin_empty_first};
+use row_values::Row;
 use span_token::{OutOfMemory, Span};
 use std::alloc::Global;
 
@@ -64,21 +65,21 @@ impl<'r, 'd> Side<'r, 'd> {
         }
     }
 
-    /// Whether row `i` doesn't stand before the row in front of it in an order, whose place is `last`; then
-    /// `last` is the place of row `i`. Past the end nothing stands before another.
+    /// Whether row `i` doesn't stand before the row in front of it in an order, whose rank is `last`; then
+    /// `last` is the rank of row `i`. Past the end nothing stands before another.
     #[inline(always)]
     pub(crate) fn rises_at(self, by: By, i: usize, last: &mut u64) -> bool
-        requires last { IsLast by (entries_of self) i last.old }
-        ensures yes { result ≡ true → i < length (entries_of self.entry) → 0 < i → place_of (number_of by) (entry_at self.entry (i - 1)).span ≤ place_of (number_of by) (entry_at self.entry i).span }
-        ensures no { result ≡ false → (i < length (entries_of self.entry)) × (0 < i) × (place_of (number_of by) (entry_at self.entry i).span < place_of (number_of by) (entry_at self.entry (i - 1)).span) }
-        ensures last { IsLast by (entries_of self.entry) (i + 1) last.new }
+        requires last { IsRankBefore by (entries_of self) i last.old }
+        ensures yes { result ≡ true → i < length (entries_of self.entry) → 0 < i → rank_by (number_of by) (entry_at self.entry (i - 1)).span ≤ rank_by (number_of by) (entry_at self.entry i).span }
+        ensures no { result ≡ false → (i < length (entries_of self.entry)) × (0 < i) × (rank_by (number_of by) (entry_at self.entry i).span < rank_by (number_of by) (entry_at self.entry (i - 1)).span) }
+        ensures last { IsRankBefore by (entries_of self.entry) (i + 1) last.new }
         ensures proper { i < length (entries_of self.entry) → IsProper (entry_at self.entry i).span }
     {
         if i >= self.len() {
             return true;
         }
         let before = *last;
-        *last = place(by, self.span(i));
+        *last = rank(by, self.span(i));
         before <= *last
     }
 
@@ -89,7 +90,7 @@ impl<'r, 'd> Side<'r, 'd> {
         ensures proper { IfOk result (λ keys. All (λ entry. IsProper entry.span) (map entry_of keys.items)) }
     {
         let mut keys = self.keys(alloc)?;
-        keys.sort_unstable_by_key(|key| place(by, key.span));
+        keys.sort_unstable_by_key(|key| rank(by, key.span));
         Ok(keys)
     }
 
@@ -118,14 +119,14 @@ fn row_at<'r, 'd>(rows: &'r [Row<'d>], i: usize) -> &'r Row<'d>
 
 /// Where a span stands in an order; what has no span comes first.
 #[inline(always)]
-fn place(by: By, span: Option<Span>) -> u64
-    ensures { result ≡ place_of (number_of by) (option_map extent_of span) }
+fn rank(by: By, span: Option<Span>) -> u64
+    ensures { result ≡ rank_by (number_of by) (option_map extent_of span) }
 {
     match span {
         None => 0,
         Some(span) => match by {
             By::Begin => u64::from(span.begin) + 1,
-            By::Place => place_number(span) + 1,
+            By::BeginEmptyFirst => begin_empty_first(span) + 1,
             By::End => u64::from(span.end) + 1,
         },
     }
@@ -134,10 +135,7 @@ fn place(by: By, span: Option<Span>) -> u64
 /// The span in a column of a row, where there is one.
 #[inline(always)]
 fn span_in(row: &Row<'_>, column: u32) -> Option<Span>
-    ensures { option_map extent_of result ≡ row_span column row.now }
+    ensures { option_map extent_of result ≡ span_in column row.now }
 {
-    match row.values().get(column as usize) {
-        Some(Value::Span(span)) => Some(*span),
-        _ => None,
-    }
+    row.values().get(column as usize)?.as_span()
 }

@@ -3,9 +3,9 @@ ghost use Rattle.std.specs.Option.{option_map};
 ghost use Rattle.span_token.specs.Extents.{extent_of};
 ghost use Rattle.span_joins.specs.Answers.{IsWithin, is_exact, order_of, other_order_of};
 ghost use Rattle.span_joins.specs.declared.rule.Answer.TheVariants.{Before};
-ghost use Rattle.span_joins.specs.Sweeps.{AreBefore, AreInOrder, HaveWidth, IsLast, IsProper, IsWithinAny, all_pairs, answer_at, entries_of, entry_at, pairs_with, row_of};
+ghost use Rattle.span_joins.specs.Sweeps.{AreBefore, AreInOrder, HaveWidth, IsRankBefore, IsProper, IsWithinAny, all_pairs, answer_at, entries_of, entry_at, pairs_with, row_of};
 
-use crate::rule::{Answer, By, Rule, test_at};
+use crate::rule::{Answer, By, Front, Rule, test_at};
 use crate::side::Side;
 use aql_base::Steps;
 use row_values::{Row, Rows};
@@ -57,10 +57,10 @@ pub(crate) fn sweep<'d, L: Ledger>(
     Ok(rises_from(others, rule.other_order(), firsts.len(), last_other))
 }
 
-/// Whether the rows from number `from` on go on in an order; `last` is the place of the
+/// Whether the rows from number `from` on go on in an order; `last` is the rank of the
 /// row in front of them.
 fn rises_from(side: Side<'_, '_>, by: By, from: usize, mut last: u64) -> bool
-    requires last { IsLast by (entries_of side) from last }
+    requires last { IsRankBefore by (entries_of side) from last }
     requires rises { AreInOrder by (take from (entries_of side)) }
     requires proper { All (λ entry. IsProper entry.span) (take from (entries_of side)) }
     ensures yes { result ≡ true → AreInOrder by (entries_of side.entry) }
@@ -119,7 +119,7 @@ pub(crate) fn push_pairs<'d, L: Ledger>(
     Ok(next)
 }
 
-/// Puts the left row followed by the right one after the rows of `out`.
+/// Puts the pair of two rows after the rows of `out`.
 #[inline(always)]
 fn push_pair<'d>(
     alloc: Global,
@@ -132,8 +132,9 @@ fn push_pair<'d>(
     ensures ok { OnOk result (out.new ≡ record { width = out.old.width; rows = out.old.rows ++ row_of rule.entry first.now other.now ∷ [] }) }
     ensures err { OnErr result (out.new ≡ out.old) }
 {
-    match rule {
-        Rule::OverlapsFromRight => out.push_joined(alloc, other, first),
-        _ => out.push_joined(alloc, first, other),
-    }
+    let (front, back) = match rule.front() {
+        Front::First => (first, other),
+        Front::Other => (other, first),
+    };
+    out.push_joined(alloc, front, back)
 }

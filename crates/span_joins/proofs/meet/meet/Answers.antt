@@ -7,7 +7,7 @@ use Rattle.row_values.specs.Datums.{Datum}
 use Rattle.span_joins.specs.declared.rule.By.TheVariants.{Begin}
 use Rattle.span_joins.specs.declared.rule.Rule.TheVariants.{OverlapsFromLeft, OverlapsFromRight}
 use Rattle.span_joins.specs.declared.rule.Answer.TheVariants.{Before}
-use Rattle.span_joins.specs.Joins.{place}
+use Rattle.span_joins.specs.Joins.{rank}
 use Rattle.span_joins.specs.Answers.{number_of}
 use Rattle.span_joins.specs.Sweeps.{Entry, entries_of, entry_at, no_entry, all_pairs, answer_at, AreBefore, AreInOrder}
 use Rattle.span_joins.proofs.OrderLaws.{in_order-next, proper-next}
@@ -34,25 +34,25 @@ add_right old a b p rows more h e =
 
 -- the left rows that were taken begin no later than the right ones that weren't, and the other way round
 no_later : (lefts rights : List Entry) (i j : ℕ) → i < length lefts → AreInOrder Begin lefts → AreInOrder Begin rights
-    → (j < length rights → place (number_of Begin) (get_or lefts i no_entry).span ≤ place (number_of Begin) (get_or rights j no_entry).span)
-    → (k m : ℕ) → k < i + 1 → j ≤ m → m < length rights → place (number_of Begin) (get_or lefts k no_entry).span ≤ place (number_of Begin) (get_or rights m no_entry).span
+    → (j < length rights → rank (number_of Begin) (get_or lefts i no_entry).span ≤ rank (number_of Begin) (get_or rights j no_entry).span)
+    → (k m : ℕ) → k < i + 1 → j ≤ m → m < length rights → rank (number_of Begin) (get_or lefts k no_entry).span ≤ rank (number_of Begin) (get_or rights m no_entry).span
 no_later lefts rights i j below up rise h k m low high inside = omega (arith, up k i no_entry (omega arith) below, h (omega arith), rise j m no_entry high inside)
 
 later : (lefts rights : List Entry) (i j : ℕ) → j < length rights → AreInOrder Begin lefts → AreInOrder Begin rights
-    → (i < length lefts → place (number_of Begin) (get_or rights j no_entry).span < place (number_of Begin) (get_or lefts i no_entry).span)
-    → (k m : ℕ) → k < j + 1 → i ≤ m → m < length lefts → place (number_of Begin) (get_or rights k no_entry).span < place (number_of Begin) (get_or lefts m no_entry).span
+    → (i < length lefts → rank (number_of Begin) (get_or rights j no_entry).span < rank (number_of Begin) (get_or lefts i no_entry).span)
+    → (k m : ℕ) → k < j + 1 → i ≤ m → m < length lefts → rank (number_of Begin) (get_or rights k no_entry).span < rank (number_of Begin) (get_or lefts m no_entry).span
 later lefts rights i j below up rise h k m low high inside = omega (arith, rise k j no_entry (omega arith) below, h (omega arith), up i m no_entry high inside)
 
 -- so the right ones are too near for the next left row, and the left ones for the next right row
 rights_near : (lefts rights : List Entry) (i j : ℕ) → j ≤ length rights
-    → ((k : ℕ) → k < j → place (number_of Begin) (get_or rights k no_entry).span < place (number_of Begin) (get_or lefts i no_entry).span)
+    → ((k : ℕ) → k < j → rank (number_of Begin) (get_or rights k no_entry).span < rank (number_of Begin) (get_or lefts i no_entry).span)
     → (a : Extent) → (get_or lefts i no_entry).span ≡ Some a → AreBefore OverlapsFromLeft a rights j
-rights_near lefts rights i j inside h a at = from_left-before a rights j inside (λ k low. subst (λ o. place (number_of Begin) (get_or rights k no_entry).span < place (number_of Begin) o) at (h k low))
+rights_near lefts rights i j inside h a at = from_left-before a rights j inside (λ k low. subst (λ o. rank (number_of Begin) (get_or rights k no_entry).span < rank (number_of Begin) o) at (h k low))
 
 lefts_near : (lefts rights : List Entry) (i j : ℕ) → i ≤ length lefts
-    → ((k : ℕ) → k < i → place (number_of Begin) (get_or lefts k no_entry).span ≤ place (number_of Begin) (get_or rights j no_entry).span)
+    → ((k : ℕ) → k < i → rank (number_of Begin) (get_or lefts k no_entry).span ≤ rank (number_of Begin) (get_or rights j no_entry).span)
     → (a : Extent) → (get_or rights j no_entry).span ≡ Some a → AreBefore OverlapsFromRight a lefts i
-lefts_near lefts rights i j inside h a at = from_right-before a lefts i inside (λ k low. subst (λ o. place (number_of Begin) (get_or lefts k no_entry).span ≤ place (number_of Begin) o) at (h k low))
+lefts_near lefts rights i j inside h a at = from_right-before a lefts i inside (λ k low. subst (λ o. rank (number_of Begin) (get_or lefts k no_entry).span ≤ rank (number_of Begin) o) at (h k low))
 
 pub loop-i-init : goal.loop-i-init
 loop-i-init g c = record {
@@ -165,10 +165,10 @@ loop-i-preserved g c =
 
 -- no right row from j on begins before left row i
 none_before : (lefts rights : List Entry) (i j : ℕ) → AreInOrder Begin rights
-    → (j < length rights → place (number_of Begin) (get_or lefts i no_entry).span ≤ place (number_of Begin) (get_or rights j no_entry).span)
+    → (j < length rights → rank (number_of Begin) (get_or lefts i no_entry).span ≤ rank (number_of Begin) (get_or rights j no_entry).span)
     → (a : Extent) (k : ℕ) → (get_or lefts i no_entry).span ≡ Some a → j ≤ k → k < length rights → answer_at OverlapsFromLeft a (get_or rights k no_entry).span ≡ Before → ⊥
 none_before lefts rights i j rise h a k at low high e =
-    from_left-never a (get_or rights k no_entry).span (omega (arith, h (omega arith), rise j k no_entry low high, ap (place (number_of Begin)) at)) e
+    from_left-never a (get_or rights k no_entry).span (omega (arith, h (omega arith), rise j k no_entry low high, ap (rank (number_of Begin)) at)) e
 
 pub returns-then-not-branch-clause-in_order : goal.returns-then-not-branch-clause-in_order
 returns-then-not-branch-clause-in_order g c up rise =

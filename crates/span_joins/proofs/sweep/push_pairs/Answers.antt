@@ -6,6 +6,7 @@ use Rattle.row_values.specs.Rows.{RowList}
 use Rattle.span_joins.specs.declared.rule.Answer.TheVariants.{Before, Neither}
 use Rattle.span_joins.specs.Sweeps.{Entry, entries_of, entry_at, no_entry, pairs_with, row_of, answer_at}
 use Rattle.span_joins.proofs.SweepLaws.{pairs_none, AreBefore-next, pairs_beyond, pairs_same, pairs_more, pairs_room, pairs_within, never_neither_at}
+use Rattle.span_joins.proofs.StepLaws.{at_most_one, one_for_a_pair}
 use Rattle.span_joins.proofs.sweep.push_pairs.Goals as goal
 use Rattle.span_joins.proofs.sweep.push_pairs.Goals.{in-Before, in-Pair+in_ok-push_pair-in-Pair, in-Neither}
 
@@ -33,7 +34,7 @@ returns-in_err-push_pair-in-Pair-clause-bound g c exact =
     let other = entry_at c.args.others j in
     let inside : j < length others = omega (arith, below, c.len-j-end.ensures) in
     let room = pairs_room c.args.rule (extent_of c.args.first) c.args.row.now others j other inside (get_or_default others j no_entry other inside) (c.in-Pair.ensures.answer ∙ ap (answer_at c.args.rule (extent_of c.args.first)) c.span.ensures.span) in
-    omega (arith, room, c.loop-j.invariant.spent exact, c.loop-j.invariant.in_list, c.test_at.ensures.at_most)
+    omega (arith, room, c.loop-j.invariant.spent exact, c.loop-j.invariant.in_list, at_most_one c.span.result _ _ c.test_at.ensures.tested c.test_at.ensures.none)
 
 pub returns-in-Beyond-clause-pairs : goal.returns-in-Beyond-clause-pairs
 returns-in-Beyond-clause-pairs g c rise known =
@@ -47,11 +48,11 @@ returns-in-Beyond-clause-pairs g c rise known =
 
 pub returns-in-Beyond-clause-spent : goal.returns-in-Beyond-clause-spent
 returns-in-Beyond-clause-spent g c exact =
-    omega (arith, c.loop-j.invariant.spent exact, pairs_within c.args.rule (extent_of c.args.first) c.args.row.now (entries_of c.args.others) c.loop-j.j, c.test_at.ensures.at_most)
+    omega (arith, c.loop-j.invariant.spent exact, pairs_within c.args.rule (extent_of c.args.first) c.args.row.now (entries_of c.args.others) c.loop-j.j, at_most_one c.span.result _ _ c.test_at.ensures.tested c.test_at.ensures.none)
 
 pub returns-in-Beyond-clause-bound : goal.returns-in-Beyond-clause-bound
 returns-in-Beyond-clause-bound g c exact =
-    omega (arith, c.loop-j.invariant.spent exact, pairs_within c.args.rule (extent_of c.args.first) c.args.row.now (entries_of c.args.others) c.loop-j.j, c.loop-j.invariant.in_list, c.test_at.ensures.at_most)
+    omega (arith, c.loop-j.invariant.spent exact, pairs_within c.args.rule (extent_of c.args.first) c.args.row.now (entries_of c.args.others) c.loop-j.j, c.loop-j.invariant.in_list, at_most_one c.span.result _ _ c.test_at.ensures.tested c.test_at.ensures.none)
 
 pub loop-j-preserved : goal.loop-j-preserved
 loop-j-preserved g c =
@@ -77,7 +78,7 @@ loop-j-preserved g c =
             reached = omega (arith, w.next-is);
             in_list = omega (arith, w.next-is, below);
             width = ap (λ (r : RowList). r.width) w.out-is ∙ so_far.width;
-            spent = λ exact. omega (arith, so_far.spent exact, so_far.reached, c.test_at.ensures.at_most, ap length same, w.next-is);
+            spent = λ exact. omega (arith, so_far.spent exact, so_far.reached, at_most_one c.span.result _ _ c.test_at.ensures.tested c.test_at.ensures.none, ap length same, w.next-is);
             counted = omega (arith, so_far.counted, c.test_at.ensures.grows, ap (λ (r : RowList). length r.rows) w.out-is);
             grows = omega (arith, c.test_at.ensures.grows, so_far.grows);
           }
@@ -98,8 +99,8 @@ loop-j-preserved g c =
             reached = omega (arith, w.next-is, so_far.reached);
             in_list = omega (arith, w.next-is, so_far.in_list);
             width = ap (λ (r : RowList). r.width) w.out-is ∙ ap (λ (r : RowList). r.width) pushed ∙ so_far.width;
-            spent = λ exact. omega (arith, so_far.spent exact, c.test_at.ensures.at_most, ap length more, w.next-is, one);
-            counted = omega (arith, so_far.counted, w.in-Pair.ensures.pair refl, ap length rows, length_push c.loop-j.out.rows (row_of rule first w.row.result.now));
+            spent = λ exact. omega (arith, so_far.spent exact, at_most_one c.span.result _ _ c.test_at.ensures.tested c.test_at.ensures.none, ap length more, w.next-is, one);
+            counted = omega (arith, so_far.counted, one_for_a_pair rule a c.span.result _ _ c.test_at.ensures.tested w.in-Pair.ensures.answer, ap length rows, length_push c.loop-j.out.rows (row_of rule first w.row.result.now));
             grows = omega (arith, c.test_at.ensures.grows, so_far.grows);
           }
       | in-Neither w ↦

@@ -4,9 +4,9 @@ use Rattle.span_token.specs.Extents.{Extent, extent_of}
 use Rattle.row_values.specs.Datums.{Datum}
 use Rattle.row_values.specs.Rows.{RowList}
 use Rattle.span_joins.specs.declared.rule.By.{By}
-use Rattle.span_joins.specs.Joins.{place}
+use Rattle.span_joins.specs.Joins.{rank}
 use Rattle.span_joins.specs.Answers.{number_of, order_of, other_order_of}
-use Rattle.span_joins.specs.Sweeps.{Entry, entries_of, entry_at, no_entry, pairs_with, pairs_from, all_pairs, AreBefore, AreInOrder, IsLast}
+use Rattle.span_joins.specs.Sweeps.{Entry, entries_of, entry_at, no_entry, pairs_with, pairs_from, all_pairs, AreBefore, AreInOrder, IsRankBefore}
 use Rattle.span_joins.proofs.OrderLaws.{none_of, in_order-next, proper-next}
 use Rattle.span_joins.proofs.SweepLaws.{none_too_near, all_pairs_none, AreBefore-later, all_pairs_more, all_pairs_room, all_pairs_within}
 use Rattle.span_joins.proofs.sweep.sweep.Goals as goal
@@ -17,8 +17,8 @@ later : (by : By) (firsts : List Entry) → AreInOrder by firsts → (i k : ℕ)
 later by firsts up i k d a b low high at is_b =
     let there = up i k d low high in
     let same : (get_or firsts i d).span ≡ Some a = ap (λ (e : Entry). e.span) (get_or_default firsts i d no_entry (omega arith)) ∙ at in
-    let one = ap (place (number_of by)) same in
-    let two = ap (place (number_of by)) is_b in
+    let one = ap (rank (number_of by)) same in
+    let two = ap (rank (number_of by)) is_b in
     omega (arith, there, one, two)
 
 pub loop-i-init : goal.loop-i-init
@@ -70,8 +70,8 @@ loop-i-preserved g c =
     let more = all_pairs_more rule firsts others i first below is in
     let firsts_seen = in_order-next firsts i (order_of rule) so_far.firsts_seen (λ low. rw (← c.order.ensures) (c.rises_at-rises.ensures.yes c.if-not-rises.false low)) in
     let others_seen = in_order-next others i (other_order_of rule) so_far.others_seen (λ low. rw (← c.other_order.ensures) (c.rises_at.ensures.yes c.if-not-rises_at.false low)) in
-    let last_other : IsLast (other_order_of rule) others (i + 1) c.rises_at.new.last = rw (← c.other_order.ensures) c.rises_at.ensures.last in
-    let last_first : IsLast (order_of rule) firsts (i + 1) c.rises_at-rises.new.last = rw (← c.order.ensures) c.rises_at-rises.ensures.last in
+    let last_other : IsRankBefore (other_order_of rule) others (i + 1) c.rises_at.new.last = rw (← c.other_order.ensures) c.rises_at.ensures.last in
+    let last_first : IsRankBefore (order_of rule) firsts (i + 1) c.rises_at-rises.new.last = rw (← c.order.ensures) c.rises_at-rises.ensures.last in
     let proper = proper-next others i so_far.proper c.rises_at.ensures.proper in
     elim c.match-span.branch [
       | in-Some+in_ok-from w ↦

@@ -1,13 +1,13 @@
 use Rattle.std.proofs.Common.{◌≡◌, ◌+◌, ◌<◌, ◌≤◌, ◌++◌, ℕ, Some, IsTrue, length, take, get_or, All}
 use Rattle.span_token.specs.Extents.{Extent}
 use Rattle.span_joins.specs.Answers.{is_exact, order_of, other_order_of}
-use Rattle.span_joins.specs.Sweeps.{Entry, entries_of, all_pairs, AreBefore, AreInOrder, IsLast, IsProper}
+use Rattle.span_joins.specs.Sweeps.{Entry, entries_of, all_pairs, AreBefore, AreInOrder, IsRankBefore, IsProper}
 use Rattle.span_joins.proofs.sweep.sweep.Given as goal
 
 abbrev pub invariant-loop-i : goal.invariant-loop-i
 invariant-loop-i g l = record {
-  last_first : IsLast (order_of l.rule) (entries_of l.firsts) l.i l.last_first;
-  last_other : IsLast (other_order_of l.rule) (entries_of l.others) l.i l.last_other;
+  last_first : IsRankBefore (order_of l.rule) (entries_of l.firsts) l.i l.last_first;
+  last_other : IsRankBefore (other_order_of l.rule) (entries_of l.others) l.i l.last_other;
   before : AreInOrder (order_of l.rule) (entries_of l.firsts) → AreInOrder (other_order_of l.rule) (entries_of l.others)
       → (k : ℕ) (d : Entry) (a : Extent) → l.i ≤ k → k < length (entries_of l.firsts) → (get_or (entries_of l.firsts) k d).span ≡ Some a → AreBefore l.rule a (entries_of l.others) l.from;
   pairs : AreInOrder (order_of l.rule) (entries_of l.firsts) → AreInOrder (other_order_of l.rule) (entries_of l.others)

@@ -1,9 +1,0 @@
-use Rattle.std.proofs.Common.{arith}
-use Rattle.std.proofs.lemmas.Result.{IfOk-weaker}
-use Rattle.span_joins.proofs.TableLaws.{one_rises, two_rise}
-use Rattle.span_joins.proofs.tests.equal_lefts.Goals as goal
-
-pub returns-clause-tests : goal.returns-clause-tests
-returns-clause-tests g c =
-    IfOk-weaker c.followed.result _ _ (λ out few two. omega (arith, few, two))
-    (c.followed.ensures.tests (two_rise (λ e. e.end) (0, 1) (0, 1) (omega arith)) (one_rises (λ e. e.begin) (1, 2)))

@@ -1,4 +1,0 @@
-use Rattle.span_joins.proofs.tests.gaps_in_characters.Given as goal
-
-abbrev pub ghosts-by_characters : goal.ghosts-by_characters
-ghosts-by_characters g a = record { name = a.blank.name; parts = a.blank.parts }

@@ -1,4 +1,0 @@
-use Rattle.span_joins.proofs.tests.gaps_in_tokens.Given as goal
-
-abbrev pub ghosts-by_tokens : goal.ghosts-by_tokens
-ghosts-by_tokens g a = record { name = a.blank.name; parts = a.blank.parts }
