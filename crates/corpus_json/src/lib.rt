@@ -11,12 +11,8 @@ mod input;
 mod limits;
 mod line_buffer;
 mod line_reader;
-#[cfg(test)]
-mod line_tests;
 mod read;
 mod step;
-#[cfg(test)]
-mod tests;
 mod write;
 
 pub use input::{Input, NotDocument};

@@ -1,5 +1,5 @@
-use crate::{LineBuffer, LineReader, Next, Step};
 use aql_io::{MemSource, Source, SureSource};
+use corpus_json::{LineBuffer, LineReader, Next, Step};
 use span_token::OutOfMemory;
 use std::alloc::Global;
 use std::test::Fail;

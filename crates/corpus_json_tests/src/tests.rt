@@ -2,7 +2,7 @@ ghost use Rattle.std.specs.Prelude.{◌≡◌, ◌≢◌, ◌≤◌, All, IfOk, 
 ghost use Rattle.row_values.specs.Datums.{datum_of};
 ghost use Rattle.corpus_json.specs.Outputs.{IsOfDocument, RowsLieIn};
 
-use super::*;
+use corpus_json::{Input, Layout, NotDocument, append_document, read_document, write_document};
 use row_values::{Output, Row, Rows, Value};
 use span_token::{Document, Failure, OutOfMemory, OwnedList, OwnedText, Span};
 use std::alloc::Global;
