@@ -8,6 +8,6 @@ pub mod Counts
 pub mod Chains
 pub mod Products
 pub mod TokenRunLemmas
-pub mod OffsetLemmas
+pub mod CutLemmas
 pub mod TokenRunLaws
 pub mod RunRowsUnique

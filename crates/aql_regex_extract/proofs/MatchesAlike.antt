@@ -1,5 +1,6 @@
 -- What an expression finds is what the text of its pattern means.
-use Rattle.std.proofs.Common.{◌≡◌, ℕ, zero, suc, ◌*◌, ◌+◌, ◌<◌, ◌++◌, List, [], ◌∷◌, map, get_or, true, Option, Some, None, IsSomeAnd, is_some, option_and_then, refl, sym, ap, ap₂, ◌∙◌}
+use Rattle.std.proofs.Common.{◌≡◌, ℕ, zero, suc, ◌*◌, ◌+◌, ◌<◌, ◌++◌, List, [], ◌∷◌, map, length, get_or, true, Option, Some, None, IsSomeAnd, is_some, option_and_then, refl, sym, ap, ap₂, ◌∙◌}
+use Rattle.std.proofs.lemmas.List.{length-map}
 use Rattle.std.specs.List.{flat_map}
 use Rattle.regex.specs.Patterns.{Re, Match, SameCaptures, find_str, find_all_str}
 use Rattle.regex.specs.Writes.{both}
@@ -59,20 +60,13 @@ pub has_match-of_pattern : (re : Re) (pattern hay : List ℕ) → Finds re patte
     is_some (find_str re hay 0) ≡ has_match pattern hay
 has_match-of_pattern re pattern hay finds bytes = found-by re (tree_of pattern) hay finds bytes
 
-list-seen : (d : Doc) (source : Extent) (groups : List ℕ) (ms : List Match) →
-    map (row_of d source groups) ms ≡ map (λ (s : Seen). row_by d source groups (seen_group s)) (map spans ms)
-list-seen d source groups [] = refl
-list-seen d source groups (m ∷ ms) = ap₂ ◌∷◌ (row_of-seen d source groups m) (list-seen d source groups ms)
+count-by : (re : Re) (o : Option Re) (hay : List ℕ) → IsSomeAnd o (SameCaptures re) → ((k : ℕ) → get_or hay k 0 < 256) →
+    length (find_all_str re hay) ≡ length (matches_by o hay)
+count-by re None hay finds bytes = absurd finds
+count-by re (Some tree) hay finds bytes =
+    sym (length-map (find_all_str re hay) spans) ∙ ap length (find_all_alike finds hay bytes true) ∙ length-map (find_all_str tree hay) spans
 
-list-by : (re : Re) (o : Option Re) (hay : List ℕ) (d : Doc) (source : Extent) (groups : List ℕ) → IsSomeAnd o (SameCaptures re) → ((k : ℕ) → get_or hay k 0 < 256) →
-    map (row_of d source groups) (find_all_str re hay) ≡ map (row_of d source groups) (matches_by o hay)
-list-by re None hay d source groups finds bytes = absurd finds
-list-by re (Some tree) hay d source groups finds bytes =
-    list-seen d source groups (find_all_str re hay)
-    ∙ ap (map (λ (s : Seen). row_by d source groups (seen_group s))) (find_all_alike finds hay bytes true)
-    ∙ sym (list-seen d source groups (find_all_str tree hay))
-
--- the same with a list for each row
-pub list-of_pattern : (re : Re) (pattern hay : List ℕ) (d : Doc) (source : Extent) (groups : List ℕ) → Finds re pattern → ((k : ℕ) → get_or hay k 0 < 256) →
-    map (row_of d source groups) (find_all_str re hay) ≡ map (row_of d source groups) (matches_of pattern hay)
-list-of_pattern re pattern hay d source groups finds bytes = list-by re (tree_of pattern) hay d source groups finds bytes
+-- an expression finds as many matches as the pattern does
+pub count-of_pattern : (re : Re) (pattern hay : List ℕ) → Finds re pattern → ((k : ℕ) → get_or hay k 0 < 256) →
+    length (find_all_str re hay) ≡ length (matches_of pattern hay)
+count-of_pattern re pattern hay finds bytes = count-by re (tree_of pattern) hay finds bytes

@@ -13,7 +13,7 @@ pub flat_rows-whole : (pattern : List ℕ) (d : Doc) (source : Extent) →
 flat_rows-whole pattern d source =
     flat_map_single (λ (m : Match). placed d source (Some (span m))) (matches_of pattern (text_in d source))
 
-joined : (f : Match → List (Option Extent)) (ms : List Match) → flat_map f ms ≡ flat_map (λ row. row) (map f ms)
+pub joined : (f : Match → List (Option Extent)) (ms : List Match) → flat_map f ms ≡ flat_map (λ row. row) (map f ms)
 joined f [] = refl
 joined f (m ∷ ms) = ap (λ rest. f m ++ rest) (joined f ms)
 

@@ -96,31 +96,24 @@ pub PushesMatch-of_same : (a b : Re) (hay : List ℕ) (d : Doc) (source : Extent
 PushesMatch-of_same a b hay d source groups after old new end same h =
     subst (λ (re : Re). PushesMatch 0 d source groups (next_match true re hay after) old new end) same h
 
--- ---- the same with a list for each row
+-- ---- how many matches there are still
 
--- the rows of the rest of a search
-abbrev pub rest_list : Doc → Extent → List ℕ → Re → List ℕ → ℕ → List (List (Option Extent))
-rest_list d source groups re hay after = map (row_of d source groups) (matches_after true re hay after)
-
-module _ (re : Re) (hay : List ℕ) (d : Doc) (source : Extent) (groups : List ℕ) where
-  pub rest_list-step : (after : ℕ) (rows : List (List (Option Extent))) (row : List (Option Extent)) (end : ℕ) →
-      PushesMatch 0 d source groups (next_match true re hay after) [] row end →
-      (rows ++ row ∷ []) ++ rest_list d source groups re hay (end + 1) ≡ rows ++ rest_list d source groups re hay after
-  rest_list-step after rows row end h =
+module _ (re : Re) (hay : List ℕ) where
+  pub count-step : (d : Doc) (source : Extent) (groups : List ℕ) (after : ℕ) (old new : List (Option Extent)) (end number : ℕ) →
+      PushesMatch 0 d source groups (next_match true re hay after) old new end →
+      number + 1 + length (matches_after true re hay (end + 1)) ≡ number + length (matches_after true re hay after)
+  count-step d source groups after old new end number h =
       let all = search_lemmas.matches_after_some re hay true after h.it h.is_found in
-      let is_row : row ≡ row_of d source groups h.it = h.pushed ∙ row_from-enough 0 d source groups h.it (omega arith) in
-      append_assoc rows (row ∷ []) (rest_list d source groups re hay (end + 1))
-      ∙ ap (λ rest. rows ++ rest)
-      (ap₂ (λ r e. r ∷ rest_list d source groups re hay (e + 1)) is_row h.ends ∙ ap (map (row_of d source groups)) (sym all))
+      omega (arith, ap length all, ap (λ (e : ℕ). length (matches_after true re hay (e + 1))) h.ends)
 
-  pub rest_list-none : (after : ℕ) → next_match true re hay after ≡ None → rest_list d source groups re hay after ≡ []
-  rest_list-none after none = ap (map (row_of d source groups)) (search_lemmas.matches_after_none re hay true after none)
+  pub count-none : (after : ℕ) → next_match true re hay after ≡ None → length (matches_after true re hay after) ≡ 0
+  count-none after none = ap length (search_lemmas.matches_after_none re hay true after none)
 
-  pub rest_list-past : (end : ℕ) → length hay ≤ end → rest_list d source groups re hay (end + 1) ≡ []
-  rest_list-past end past = ⊎_elim
-      (rest_list-none (end + 1))
+  pub count-past : (end : ℕ) → length hay ≤ end → length (matches_after true re hay (end + 1)) ≡ 0
+  count-past end past = ⊎_elim
+      (count-none (end + 1))
       (λ (some : (x : Match) × (_ ≡ Some x)). absurd (omega (arith, search_lemmas.next_within re hay true (end + 1) some.0 some.1)))
       (option_cases (next_match true re hay (end + 1)))
 
-  pub rest_list-all : rest_list d source groups re hay 0 ≡ map (row_of d source groups) (find_all_str re hay)
-  rest_list-all = ap (map (row_of d source groups)) (search_lemmas.matches_after_text re hay)
+  pub count-all : length (matches_after true re hay 0) ≡ length (find_all_str re hay)
+  count-all = ap length (search_lemmas.matches_after_text re hay)

@@ -8,9 +8,10 @@ use Rattle.std.specs.Option.{option_or}
 use Rattle.regex.specs.Patterns.{Match}
 use Rattle.span_token.specs.Documents.{Doc, text_in}
 use Rattle.span_token.specs.Extents.{Extent}
+use Rattle.span_token.specs.SourceTokens.{tokens_in}
 use Rattle.aql_regex_extract.specs.Matches.{first_match, row_of}
 use Rattle.aql_regex_extract.specs.Patterns.{whole_form}
-use Rattle.aql_regex_extract.specs.TokenRuns.{tokens_in, run_at, whole_row, GivesRun, AreRunRows, longest_row, run_row, run_rows}
+use Rattle.aql_regex_extract.specs.TokenRuns.{run_at, whole_row, GivesRun, AreRunRows, longest_row, run_row, run_rows}
 
 -- the row of the greatest length that has one, or no length has one
 abbrev IsLongestRow : (ℕ → Option (List (Option Extent))) → ℕ → ℕ → Option (List (Option Extent)) → Type 0

@@ -1,16 +1,18 @@
+-- ---- words of public clauses
 -- patterns: what a text means as a pattern, its whole-text form and its groups
 pub mod Patterns
--- what contracts see of the compiled types
-pub mod Views
 -- what a pattern finds
 pub mod Matches
--- one step of a search
-pub mod Steps
--- how large a pattern may grow
-pub mod Weight
-pub mod Capped
--- why a text is refused
-pub mod Faults
 -- token-bounded patterns
 pub mod TokenRuns
-pub mod Offsets
+-- how large a pattern may grow
+pub mod Weight
+-- why a text is refused
+pub mod Faults
+-- ---- words of private clauses
+-- what contracts see of the compiled types
+pub mod Views
+-- what is searched, and one step of a search
+pub mod Searches
+pub mod Steps
+pub mod Capped

@@ -1,5 +1,5 @@
 -- What a pattern finds in a text, and in the text of an extent of a document.
-use Rattle.std.specs.Prelude.{ℕ, zero, suc, ◌≤◌, Bool, List, [], map, Option, Some, None, option_map, option_and_then, is_some, IfSome}
+use Rattle.std.specs.Prelude.{◌≡◌, ℕ, zero, suc, ◌≤◌, ◌++◌, length, Bool, List, [], map, Option, Some, None, option_map, option_and_then, is_some, IfSome}
 use Rattle.std.specs.List.{flat_map}
 use Rattle.regex.specs.Patterns.{Re, Match, find_str, find_all_str, span}
 use Rattle.regex.specs.Writes.{group_of}
@@ -50,6 +50,10 @@ match_rows pattern d source groups = map (row_of d source groups) (matches_of pa
 -- the same rows, one after another
 abbrev pub flat_rows : List ℕ → Doc → Extent → List ℕ → List (Option Extent)
 flat_rows pattern d source groups = flat_map (row_of d source groups) (matches_of pattern (text_in d source))
+
+-- rows were put after the others, one after another, and `number` says how many
+abbrev pub PutsRows : List (List (Option Extent)) → List (Option Extent) → List (Option Extent) → ℕ → Type 0
+PutsRows rows old new number = (number ≡ length rows) × (new ≡ old ++ flat_map (λ row. row) rows)
 
 -- what spans say, where there are some
 abbrev pub extents_of : List (Option Span) → List (Option Extent)

@@ -1,5 +1,5 @@
 -- One step of a search through the text of an extent: what it finds, and what it puts after the rows so far.
-use Rattle.std.specs.Prelude.{◌≡◌, ℕ, ◌++◌, List, [], Option, Some, None, Bool, is_some, unwrap_or, MatchOption, nat_le, if◌then◌else◌}
+use Rattle.std.specs.Prelude.{◌≡◌, ℕ, zero, suc, ◌++◌, List, [], ◌∷◌, take, drop, Option, Some, None, Bool, is_some, unwrap_or, MatchOption, nat_le, if◌then◌else◌}
 use Rattle.regex.specs.Patterns.{Match}
 use Rattle.span_token.specs.Documents.{Doc}
 use Rattle.span_token.specs.Extents.{Extent}
@@ -24,3 +24,8 @@ Pushes least d source groups found old new answer =
 -- a row, if there is one, is put after the others, and the answer says whether there is
 abbrev pub PutsRow : Option (List (Option Extent)) → List (Option Extent) → List (Option Extent) → Bool → Type 0
 PutsRow row old new answer = (answer ≡ is_some row) × (new ≡ old ++ unwrap_or row [])
+
+-- a list in so many rows of `width` entries each, from the front on
+abbrev pub cut_rows : {X : Type 0} → ℕ → ℕ → List X → List (List X)
+cut_rows zero width xs = []
+cut_rows (suc n) width xs = take width xs ∷ cut_rows n width (drop width xs)

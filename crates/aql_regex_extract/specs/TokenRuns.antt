@@ -1,30 +1,17 @@
 -- Token-bounded patterns: for each token of an extent the longest run of tokens, from it on, in whose text the
 -- whole-text form of the pattern has a match.
 use Rattle.std.specs.Prelude.{◌≡◌, ℕ, zero, suc, ◌+◌, ◌-◌, ◌<◌, ◌≤◌, min, List, length, slice_index_or, Option, Some, None, option_map, IsTrue}
-use Rattle.std.specs.List.{filter, filter_map, flat_map, range_with_len}
+use Rattle.std.specs.List.{filter_map, flat_map, range_with_len}
 use Rattle.std.specs.Option.{option_or}
-use Rattle.span_token.specs.Documents.{Doc, characters, text_in}
+use Rattle.span_token.specs.Documents.{Doc, text_in}
 use Rattle.span_token.specs.Extents.{Extent}
-use Rattle.span_token.specs.Relations.{ContainsExtent, does_contain}
-use Rattle.span_token.specs.Tokens.{tokens_of}
+use Rattle.span_token.specs.SourceTokens.{tokens_in, run_extent}
 use Rattle.aql_regex_extract.specs.Matches.{first_match, has_match, row_of}
 use Rattle.aql_regex_extract.specs.Patterns.{whole_form}
 
--- the tokens wholly in an extent
-abbrev pub tokens_in : Doc → Extent → List Extent
-tokens_in d source = filter (does_contain source) (tokens_of (characters d))
-
--- token number `i`
-abbrev pub nth_token : List Extent → ℕ → Extent
-nth_token tokens i = slice_index_or tokens i (record { begin = 0; end = 0 })
-
--- from the begin of a token to the end of another
-abbrev pub run_between : List Extent → ℕ → ℕ → Extent
-run_between tokens first last = record { begin = (nth_token tokens first).begin; end = (nth_token tokens last).end }
-
 -- the extent of `k` tokens from token `i` on
 abbrev pub run_at : List Extent → ℕ → ℕ → Extent
-run_at tokens i k = run_between tokens i (i + k - 1)
+run_at tokens i k = run_extent tokens i (i + k - 1)
 
 -- ---- as properties
 
@@ -88,7 +75,3 @@ run_rows pattern d source low high groups =
 -- the same rows, one after another
 abbrev pub flat_run_rows : List ℕ → Doc → Extent → ℕ → ℕ → List ℕ → List (Option Extent)
 flat_run_rows pattern d source low high groups = flat_map (λ row. row) (run_rows pattern d source low high groups)
-
--- the tokens with these numbers lie in an extent
-abbrev pub HoldsTokens : Extent → List Extent → ℕ → ℕ → Type 0
-HoldsTokens e tokens first past = (i : ℕ) → first ≤ i → i < past → ContainsExtent e (nth_token tokens i)

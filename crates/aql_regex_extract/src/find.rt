@@ -5,6 +5,7 @@ ghost use Rattle.aql_regex_extract.specs.Matches.{has_match, match_rows, extents
 ghost use Rattle.aql_regex_extract.specs.Patterns.{whole_form};
 ghost use Rattle.aql_regex_extract.specs.TokenRuns.{run_rows, AreRunRows};
 
+use crate::cut::cut;
 use crate::pattern::Pattern;
 use crate::searcher::Searcher;
 use crate::whole::WholeSearcher;
@@ -32,7 +33,9 @@ pub fn find_all(
     ensures within { IfOk result (λ rows. All (λ row. All (IsInside (extent_of source)) row.items) rows.items) }
 {
     let mut searcher = Searcher::new(alloc, p)?;
-    searcher.find_rows(alloc, doc, source, groups)
+    let mut flat = Vec::new(alloc);
+    let number = searcher.append_matches(doc, source, groups, &mut flat)?;
+    cut(alloc, flat.as_slice(), number, groups.len())
 }
 
 /// The token-bounded matches of `p` in `source`, at most one from each token.
@@ -63,8 +66,9 @@ pub fn find_token_runs(
     ensures within { IfOk result (λ rows. All (λ row. All (IsInside (extent_of source)) row.items) rows.items) }
 {
     let mut searcher = WholeSearcher::new(alloc, p)?;
-    let rows = searcher.find_run_rows(alloc, doc, source, low, high, groups)?;
-    Ok(rows)
+    let mut flat = Vec::new(alloc);
+    let number = searcher.append_token_runs(doc, source, low, high, groups, &mut flat)?;
+    cut(alloc, flat.as_slice(), number, groups.len())
 }
 
 /// Whether `p` matches somewhere in `text`.

@@ -1,19 +1,21 @@
 //! Patterns on the text of a span: compiled once, searched by matchers that are kept.
 //!
-//! `compile_pattern` refuses exactly the texts that are too large or bad, `find_all` gives exactly the
-//! successive matches of a pattern in the text of a span, each as the spans of the asked groups, and
-//! every meaning is a function of the pattern's text. Stands on `regex` for the expressions and on
-//! `span_token` for documents and spans.
+//! `compile_pattern` refuses exactly the texts that are too large or bad; `find_all` gives exactly the
+//! successive matches of a pattern in the text of a span, `find_token_runs` exactly the longest run of
+//! tokens from each token on, each as the spans of the asked groups, and `has_match` and
+//! `matches_whole` say whether there is one; `Searcher` and `WholeSearcher` do the same over kept
+//! memory. Every meaning is a function of the pattern's text. Stands on `regex` for the expressions and
+//! on `span_token` for documents and spans.
 #![tactic(auto)]
 
+mod cut;
 mod find;
-mod list;
-mod offsets;
 mod pattern;
 mod rows;
 mod runs;
 mod search;
 mod searcher;
+mod sought;
 mod weight;
 mod whole;
 

@@ -1,18 +1,20 @@
 ghost use Rattle.std.specs.Prelude.{◌≡◌, ◌++◌, ◌≤◌, map, IfOk, OnOk, All};
 ghost use Rattle.span_token.specs.Documents.{LiesIn, text_in};
 ghost use Rattle.span_token.specs.Extents.{extent_of};
-ghost use Rattle.aql_regex_extract.specs.Matches.{has_match, match_rows, flat_rows, extents_of, extents_of_rows, IsInside};
+ghost use Rattle.aql_regex_extract.specs.Matches.{has_match, match_rows, flat_rows, PutsRows, extents_of, IsInside};
 
-use crate::list::list_found;
 use crate::pattern::Pattern;
 use crate::search::{has_found, push_found};
+use crate::sought::Sought;
 use regex::Matcher;
 use span_token::{Document, OutOfMemory, Span};
 use std::alloc::Global;
 use std::marker::Model;
 
 /// What searches for one pattern, made once and kept while documents go by. Contracts see it as the
-/// pattern's text.
+/// pattern's text. A thread may be handed it.
+///
+/// It keeps caches that grow with what it searches, up to some tens of megabytes.
 #[derive(Drop)]
 pub struct Searcher<'p> {
     pattern: &'p Pattern,
@@ -41,9 +43,38 @@ impl<'p> Searcher<'p> {
     }
 
     /// All successive matches in the text of `source`, put after what `into` holds: for each match, in
-    /// order, one entry for each number in `groups`, None for a group that takes no part.
+    /// order, one entry for each number in `groups`, None for a group that takes no part. Gives the
+    /// number of matches.
     ///
-    /// After want of memory no clause says what `into` holds after what it held.
+    /// After want of memory no clause says what `into` holds.
+    ///
+    /// Meaning: `match_rows`, `specs/Matches.antt`.
+    pub fn append_matches(
+        &mut self,
+        doc: &Document<'_>,
+        source: Span,
+        groups: &[u32],
+        into: &mut Vec<Option<Span>>,
+    ) -> Result<usize, OutOfMemory>
+        requires in_document { LiesIn (extent_of source) doc.now }
+        ensures rows { IfOk result (PutsRows (match_rows self.old doc.now (extent_of source) groups.now)
+            (extents_of into.old.items) (extents_of into.new.items)) }
+        ensures matches { OnOk result (extents_of into.new.items ≡ extents_of into.old.items
+            ++ flat_rows self.old doc.now (extent_of source) groups.now) }
+        ensures within { All (IsInside (extent_of source)) into.old.items
+            → OnOk result (All (IsInside (extent_of source)) into.new.items) }
+        ensures same { self.new ≡ self.old }
+    {
+        let text = doc.text_of(source);
+        let sought = Sought {
+            doc,
+            source,
+            groups,
+        };
+        push_found(&mut self.matcher, &sought, text, into)
+    }
+
+    /// `append_matches` by its former name, without the number.
     ///
     /// Meaning: `flat_rows`, `specs/Matches.antt`.
     pub fn find_all(
@@ -60,28 +91,8 @@ impl<'p> Searcher<'p> {
             → OnOk result (All (IsInside (extent_of source)) into.new.items) }
         ensures same { self.new ≡ self.old }
     {
-        let text = doc.text_of(source);
-        push_found(&mut self.matcher, doc, source, text, groups, into)
-    }
-
-    /// The same, with a list for each match.
-    ///
-    /// Meaning: `match_rows`, `specs/Matches.antt`.
-    pub fn find_rows(
-        &mut self,
-        alloc: Global,
-        doc: &Document<'_>,
-        source: Span,
-        groups: &[u32],
-    ) -> Result<Vec<Vec<Option<Span>>>, OutOfMemory>
-        requires in_document { LiesIn (extent_of source) doc.now }
-        ensures matches { IfOk result (λ rows. extents_of_rows rows.items
-            ≡ match_rows self.old doc.now (extent_of source) groups.now) }
-        ensures within { IfOk result (λ rows. All (λ row. All (IsInside (extent_of source)) row.items) rows.items) }
-        ensures same { self.new ≡ self.old }
-    {
-        let text = doc.text_of(source);
-        list_found(alloc, &mut self.matcher, doc, source, text, groups)
+        self.append_matches(doc, source, groups, into)?;
+        Ok(())
     }
 
     /// Whether the pattern matches somewhere in `text`.

@@ -1,27 +1,25 @@
-ghost use Rattle.std.specs.Prelude.{◌≡◌, ◌++◌, ◌≤◌, IfOk, OnOk, All};
+ghost use Rattle.std.specs.Prelude.{◌≡◌, ◌++◌, ◌≤◌, List, Option, IfOk, OnOk, All};
 ghost use Rattle.span_token.specs.Documents.{LiesIn};
-ghost use Rattle.span_token.specs.Extents.{extent_of};
-ghost use Rattle.aql_regex_extract.specs.Matches.{has_match, extents_of, extents_of_rows, IsInside};
+ghost use Rattle.span_token.specs.Extents.{Extent, extent_of};
+ghost use Rattle.aql_regex_extract.specs.Matches.{has_match, PutsRows, extents_of, IsInside};
 ghost use Rattle.aql_regex_extract.specs.Patterns.{whole_form};
-ghost use Rattle.aql_regex_extract.specs.TokenRuns.{run_rows, flat_run_rows};
+ghost use Rattle.aql_regex_extract.specs.TokenRuns.{AreRunRows, run_rows, flat_run_rows};
 
-use crate::offsets::TokenBytes;
 use crate::pattern::Pattern;
-use crate::runs::{list_runs, push_runs};
+use crate::runs::push_runs;
 use crate::search::has_found;
 use regex::Matcher;
-use span_token::{Document, OutOfMemory, Span};
+use span_token::{Document, OutOfMemory, SourceTokens, Span, TokenRoom};
 use std::alloc::Global;
 use std::marker::Model;
 
 /// What searches for the whole-text form of one pattern, made once and kept while documents go by.
-/// Contracts see it as the pattern's text.
+/// Contracts see it as the pattern's text. A thread may be handed it.
 #[derive(Drop)]
 pub struct WholeSearcher<'p> {
     pattern: &'p Pattern,
     matcher: Matcher<'p>,
-    /// Where the tokens of the source at hand stand among the bytes of its document.
-    offsets: Vec<TokenBytes>,
+    room: TokenRoom,
 }
 
 impl<'p> Model for WholeSearcher<'p> {
@@ -46,15 +44,46 @@ impl<'p> WholeSearcher<'p> {
         Ok(WholeSearcher {
             pattern,
             matcher,
-            offsets: Vec::new(alloc),
+            room: TokenRoom::new(alloc),
         })
     }
 
-    /// The rows of the token runs of `source`, put after what `into` holds: for each token wholly in
+    /// The token-bounded matches in `source`, put after what `into` holds: for each token wholly in
     /// `source` that has a run, in order, one entry for each number in `groups`, as `find_token_runs`
-    /// gives them.
+    /// gives them. Gives the number of runs.
     ///
-    /// After want of memory no clause says what `into` holds after what it held.
+    /// After want of memory no clause says what `into` holds.
+    ///
+    /// Meaning: `AreRunRows`, `specs/TokenRuns.antt`; just one list of rows has it, `run_rows`.
+    pub fn append_token_runs(
+        &mut self,
+        doc: &Document<'_>,
+        source: Span,
+        low: u32,
+        high: u32,
+        groups: &[u32],
+        into: &mut Vec<Option<Span>>,
+    ) -> Result<usize, OutOfMemory>
+        requires in_document { LiesIn (extent_of source) doc.now }
+        requires at_least_one { 1 ≤ low }
+        ensures runs { IfOk result (PutsRows (run_rows self.old doc.now (extent_of source) low high groups.now)
+            (extents_of into.old.items) (extents_of into.new.items)) }
+        ensures longest { IfOk result (λ number. (rows : List (List (Option Extent)))
+            × AreRunRows self.old doc.now (extent_of source) low high groups.now rows
+            × PutsRows rows (extents_of into.old.items) (extents_of into.new.items) number) }
+        ensures unique { (rows : List (List (Option Extent)))
+            → AreRunRows self.old doc.now (extent_of source) low high groups.now rows
+            → IfOk result (PutsRows rows (extents_of into.old.items) (extents_of into.new.items)) }
+        ensures within { All (IsInside (extent_of source)) into.old.items
+            → OnOk result (All (IsInside (extent_of source)) into.new.items) }
+        ensures same { self.new ≡ self.old }
+    {
+        let tokens = SourceTokens::of(&mut self.room, doc, source)?;
+        let number = push_runs(&mut self.matcher, &tokens, low, high, groups, into)?;
+        Ok(number)
+    }
+
+    /// `append_token_runs` by its former name, without the number.
     ///
     /// Meaning: `flat_run_rows`, `specs/TokenRuns.antt`.
     pub fn find_token_runs(
@@ -74,49 +103,8 @@ impl<'p> WholeSearcher<'p> {
             → OnOk result (All (IsInside (extent_of source)) into.new.items) }
         ensures same { self.new ≡ self.old }
     {
-        let offsets = &mut self.offsets;
-        push_runs(
-            &mut self.matcher,
-            doc,
-            source,
-            low,
-            high,
-            groups,
-            offsets,
-            into,
-        )
-    }
-
-    /// The same, with a list for each token that has a run.
-    ///
-    /// Meaning: `AreRunRows`, `specs/TokenRuns.antt`.
-    pub fn find_run_rows(
-        &mut self,
-        alloc: Global,
-        doc: &Document<'_>,
-        source: Span,
-        low: u32,
-        high: u32,
-        groups: &[u32],
-    ) -> Result<Vec<Vec<Option<Span>>>, OutOfMemory>
-        requires in_document { LiesIn (extent_of source) doc.now }
-        requires at_least_one { 1 ≤ low }
-        ensures runs { IfOk result (λ rows. extents_of_rows rows.items
-            ≡ run_rows self.old doc.now (extent_of source) low high groups.now) }
-        ensures within { IfOk result (λ rows. All (λ row. All (IsInside (extent_of source)) row.items) rows.items) }
-        ensures same { self.new ≡ self.old }
-    {
-        let offsets = &mut self.offsets;
-        list_runs(
-            alloc,
-            &mut self.matcher,
-            doc,
-            source,
-            low,
-            high,
-            groups,
-            offsets,
-        )
+        self.append_token_runs(doc, source, low, high, groups, into)?;
+        Ok(())
     }
 
     /// Whether the pattern matches `text` from end to end: whether its whole-text form has a match.

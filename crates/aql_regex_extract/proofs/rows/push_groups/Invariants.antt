@@ -7,6 +7,6 @@ use Rattle.aql_regex_extract.proofs.rows.push_groups.Given as goal
 
 abbrev pub invariant-loop-group : goal.invariant-loop-group
 invariant-loop-group l = record {
-  rows : extents_of l.into.items ≡ extents_of l.initial.into.items ++ row_by l.doc (extent_of l.source) (take l.group-index l.groups) (captures_span l.captures);
-  within : (wide : Extent) → ContainsExtent wide (extent_of l.source) → All (IsInside wide) l.initial.into.items → All (IsInside wide) l.into.items;
+  rows : extents_of l.into.items ≡ extents_of l.initial.into.items ++ row_by l.sought.doc.now (extent_of l.sought.source) (take l.group-index l.sought.groups.now) (captures_span l.captures);
+  within : (wide : Extent) → ContainsExtent wide (extent_of l.sought.source) → All (IsInside wide) l.initial.into.items → All (IsInside wide) l.into.items;
 }

@@ -1,13 +1,13 @@
-use Rattle.std.proofs.Common.{◌≡◌, ◌++◌, [], ◌∙◌, Option, Some, None, is_some, unwrap_or, false, true≢false, refl, ap, sym, subst, arith}
+use Rattle.std.proofs.Common.{◌≡◌, ◌++◌, [], ◌∙◌, Option, Some, None, ℕ, is_some, unwrap_or, false, true≢false, ap, ap₂, sym, subst, refl, arith}
 use Rattle.std.proofs.lemmas.List.{append-nil}
 use Rattle.regex.specs.Patterns.{Match, Re}
 use Rattle.regex.specs.Strings.{matcher_pattern}
-use Rattle.span_token.specs.Documents.{characters, text_in}
+use Rattle.span_token.specs.Documents.{Doc, LiesIn, text_in}
 use Rattle.span_token.specs.Extents.{extent_of}
-use Rattle.span_token.specs.Tokens.{tokens_of}
+use Rattle.span_token.specs.SourceTokens.{run_extent}
 use Rattle.aql_regex_extract.specs.Matches.{extents_of}
 use Rattle.aql_regex_extract.specs.Patterns.{whole_form}
-use Rattle.aql_regex_extract.specs.TokenRuns.{run_between, whole_row}
+use Rattle.aql_regex_extract.specs.TokenRuns.{whole_row}
 use Rattle.aql_regex_extract.specs.Views.{Finds}
 use Rattle.aql_regex_extract.proofs.CapturedRows.{row_from-enough}
 use Rattle.aql_regex_extract.proofs.TokenRunLemmas.{whole_row-Some, whole_row-None}
@@ -19,26 +19,35 @@ none_there (Some m) h = absurd (true≢false h)
 
 pub returns-then-not-is_match-clause-row : goal.returns-then-not-is_match-clause-row
 returns-then-not-is_match-clause-row c = λ pattern finds.
-    let run = run_between (tokens_of (characters c.args.doc.now)) c.args.first c.args.last in
+    let doc = c.args.tokens.now.doc in
+    let run = run_extent c.args.tokens.now.tokens c.args.first c.args.last in
     let none = none_there _ (sym c.is_match.ensures.found ∙ c.if-not-is_match.true) in
-    let row = whole_row-None (matcher_pattern c.args.matcher.now) pattern c.args.text.now c.args.doc.now run c.args.groups.now finds
-    (λ k. (c.type_inv.text k).fits) c.requires.in_run none in (
+    let row = whole_row-None (matcher_pattern c.args.matcher.now) pattern c.args.text.now doc run c.args.groups.now finds
+    (λ (k : ℕ). (c.type_inv.text k).fits) c.requires.in_run none in (
       sym (ap is_some row),
       sym (append-nil _) ∙ ap (λ r. extents_of c.args.into.now.items ++ r) (sym (ap (λ o. unwrap_or o []) row)),
     )
 
+pub push_from-requires : goal.push_from-requires
+push_from-requires c = record {
+  text = record {
+    in_document = subst (λ (d : Doc). LiesIn (extent_of c.run-source.result) d) (sym c.doc-doc.ensures.doc) c.run-source.ensures.in_document;
+    in_source = c.requires.in_run ∙ ap₂ text_in (sym c.doc-doc.ensures.doc) (sym c.run-source.ensures.run);
+  };
+}
+
 pub returns-in-Some-clause-row : goal.returns-in-Some-clause-row
 returns-in-Some-clause-row c = λ pattern finds.
     let pushes = rw c.in-Some.is at c.in_ok-push_from.ensures.found in
-    let doc = c.args.doc.now in
+    let doc = c.doc-doc.result.now in
     let groups = c.args.groups.now in
-    let run = run_between (tokens_of (characters doc)) c.args.first c.args.last in
-    let source = extent_of c.run_span-run.result in
+    let source = extent_of c.run-source.result in
     let kept = subst (λ (re : Re). Finds re (whole_form pattern)) (sym c.is_match.ensures.same) finds in
     let row : whole_row pattern doc groups source ≡ _ =
     whole_row-Some (matcher_pattern c.is_match.new.self) pattern c.args.text.now doc source groups pushes.it kept
-    (λ k. (c.type_inv.text k).fits) (c.requires.in_run ∙ ap (text_in doc) (sym c.run_span-run.ensures.run)) pushes.is_found in
-    let here = ap (whole_row pattern doc groups) (sym c.run_span-run.ensures.run) ∙ row in (
+    (λ (k : ℕ). (c.type_inv.text k).fits)
+    (c.requires.in_run ∙ ap₂ text_in (sym c.doc-doc.ensures.doc) (sym c.run-source.ensures.run)) pushes.is_found in
+    let here = ap₂ (λ d e. whole_row pattern d groups e) (sym c.doc-doc.ensures.doc) (sym c.run-source.ensures.run) ∙ row in (
       sym (ap is_some here),
       pushes.pushed ∙ ap (λ r. extents_of c.args.into.now.items ++ r)
           (row_from-enough 0 doc source groups pushes.it (omega arith) ∙ sym (ap (λ o. unwrap_or o []) here)),

@@ -8,9 +8,9 @@ use Rattle.aql_regex_extract.proofs.search.push_groups_from.Goals as goal
 pub returns-in_ok-push_groups-clause-found : goal.returns-in_ok-push_groups-clause-found
 returns-in_ok-push_groups-clause-found c =
     let found = c.in-Some.ensures.found in
-    let doc = c.args.doc.now in
-    let source = extent_of c.args.source in
-    let groups = c.args.groups.now in
+    let doc = c.args.sought.now.doc.now in
+    let source = extent_of c.args.sought.now.source in
+    let groups = c.args.sought.now.groups.now in
     let ends = end-captures c.args.text.now found.0 c.in-Some.captures _ c.end-end.result found.2 c.get_match.ensures.found c.end-end.ensures in
     let late : c.args.least ≤ found.0.trace.end = omega (arith, ends) in
     record {
@@ -25,9 +25,9 @@ returns-in_ok-push_groups-clause-found c =
 pub returns-else-least-end-clause-found : goal.returns-else-least-end-clause-found
 returns-else-least-end-clause-found c =
     let found = c.in-Some.ensures.found in
-    let doc = c.args.doc.now in
-    let source = extent_of c.args.source in
-    let groups = c.args.groups.now in
+    let doc = c.args.sought.now.doc.now in
+    let source = extent_of c.args.sought.now.source in
+    let groups = c.args.sought.now.groups.now in
     let ends = end-captures c.args.text.now found.0 c.in-Some.captures _ c.end-end.result found.2 c.get_match.ensures.found c.end-end.ensures in
     let early : found.0.trace.end < c.args.least = omega (arith, ends) in
     record {

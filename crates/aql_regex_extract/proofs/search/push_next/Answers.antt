@@ -20,9 +20,9 @@ returns-then-end-after-clause-found c =
     let old = extents_of c.args.into.now.items in
     let mid = extents_of c.push_from.new.into.items in
     let new = extents_of c.push_from-then-end-after.new.into.items in
-    let doc = c.args.doc.now in
-    let source = extent_of c.args.source in
-    let groups = c.args.groups.now in
+    let doc = c.args.sought.now.doc.now in
+    let source = extent_of c.args.sought.now.source in
+    let groups = c.args.sought.now.groups.now in
     let text = c.args.text.now in
     let later = next-later re text c.args.after _ c.saturating_sub-start.ensures doc source groups old mid c.in-Some.end pushes c.if-end-after.true in
     let same = unchanged-later re text c.args.after _ c.saturating_sub-start.ensures doc source groups old mid c.in-Some.end pushes c.if-end-after.true in
@@ -36,5 +36,5 @@ pub returns-clause-found : goal.returns-clause-found
 returns-clause-found c =
     let pushes = rw c.in-Some.is at c.in_ok-end.ensures.found in
     pushes-same (matcher_pattern c.args.matcher.now) c.args.text.now c.args.after _ c.saturating_sub-start.ensures
-    c.args.doc.now (extent_of c.args.source) c.args.groups.now (extents_of c.args.into.now.items) (extents_of c.push_from.new.into.items)
+    c.args.sought.now.doc.now (extent_of c.args.sought.now.source) c.args.sought.now.groups.now (extents_of c.args.into.now.items) (extents_of c.push_from.new.into.items)
     c.in-Some.end pushes c.if-end-after.false

@@ -1,6 +1,0 @@
-use Rattle.std.proofs.Common.{◌≡◌, ◌≤◌, take}
-use Rattle.span_token.specs.Leads.{leads}
-use Rattle.aql_regex_extract.proofs.offsets.seek.Given as goal
-
-abbrev pub invariant-loop-at : goal.invariant-loop-at
-invariant-loop-at l = (leads (take l.at l.bytes) ≡ l.passed) × (l.passed ≤ l.place)
