@@ -1,4 +1,3 @@
-pub mod Viewing
 pub mod Writing
 pub mod PrintingViews
 pub mod Standing

@@ -1,19 +1,19 @@
 -- What is written for each line of the grammar is tokens of it.
-use Rattle.std.proofs.Common.{◌≡◌, ◌∙◌, ℕ, Bool, true, false, List, [], ◌∷◌, ◌++◌, Option, Some, None, ◌+◌, refl, ap, sym, codes, append_assoc}
+use Rattle.std.proofs.Common.{◌≡◌, ℕ, Bool, true, false, List, [], ◌∷◌, ◌++◌, Option, Some, None, ◌+◌, refl, codes, append_assoc}
 use Rattle.std.proofs.lemmas.List.{append-nil}
 use Prim.Native.String.{String}
 use Rattle.std.specs.Str.{byte}
 use Rattle.aql_lexer.specs.Kinds.{Kind}
 use Rattle.aql_lexer.specs.Kinds as k
 use Rattle.aql_syntax.specs.Spellings.{free, plain, is_word}
-use Rattle.aql_syntax.specs.Parts.{Part, ◌▸◌, ◌or◌, Nothing, Nowhere, Token, Symbol, InParens, Keyword, IsInt, IsName, Optional, Each, Separated, Clause}
+use Rattle.aql_syntax.specs.Parts.{Part, ◌▸◌, Symbol, InParens, Keyword, IsInt, IsName, Clause}
 use Rattle.aql_syntax.specs.Grammar.Expressions.{IsColumn, IsTerm, AreArgs, AreLaterArgs, IsNamed, IsItem}
 use Rattle.aql_syntax.specs.Grammar.Extractions.{IsRange, IsBound, IsOutput, IsNumbered, AreNumbered, IsOnlyGroup, AreGroups, IsPattern, flag_text, IsFlag, IsDict, unit_of, IsBlocks}
-use Rattle.aql_syntax.specs.Grammar.Queries.{AreConds, IsPolicy, IsCons, IsLimit, AreKeys, AreClauses, IsTail, AreItemsBefore, IsExtracted, IsQuery, AreSides, AreOtherSides, AreLaterSides, IsSource, AreSources, AreLaterSources}
+use Rattle.aql_syntax.specs.Grammar.Queries.{IsPolicy, IsCons, IsLimit, AreKeys, AreClauses, IsTail, IsExtracted, IsQuery, AreSides, AreOtherSides, AreLaterSides, IsSource, AreSources, AreLaterSources}
 use Rattle.aql_syntax.specs.Grammar.Statements.{IsText, IsStatement}
 use Rattle.aql_syntax.specs.Trees.{Name, Number, Term, int, str, regex, column, bare, call, star, Terms, no_terms, more_terms, Item, Cons, Clauses, Tail, Range, one, two, Group, Flag, Spec, pattern, dict, blocks, Query, select, extract, union, minus, Queries, no_queries, more_queries, Source, view, nested, Sources, no_sources, more_sources, Statement, module_, require, export, dictionary, create, output}
 use Rattle.aql_syntax.specs.Printing.{CanBePrinted, IsPrinted}
-use Rattle.aql_syntax.specs.Printed.{word, sign, comma, printed_name, union_all, printed_column, printed_optional, printed_each, printed_separated, printed_term, printed_args, printed_output, printed_item, printed_item_before, printed_range, printed_bound, printed_number, printed_numbered, printed_begin, printed_groups, printed_flag, printed_separation, printed_on, printed_spec, printed_policy, printed_cons, printed_limit, printed_clause, printed_conds, printed_keys, printed_clauses, printed_tail, printed_nested, printed_query, printed_sides, printed_source, printed_sources, printed_created, printed_columns, printed_alias, printed_text, printed_statement}
+use Rattle.aql_syntax.specs.Printed.{word, sign, comma, printed_name, union_all, printed_column, printed_each, printed_term, printed_args, printed_output, printed_item, printed_item_before, printed_range, printed_bound, printed_numbered, printed_groups, printed_flag, printed_on, printed_spec, printed_policy, printed_cons, printed_limit, printed_clause, printed_keys, printed_clauses, printed_tail, printed_query, printed_sides, printed_source, printed_sources, printed_alias, printed_text, printed_statement}
 use Rattle.aql_syntax.proofs.Prints.{Prints, prints_nothing, prints_nowhere, prints_token, prints_then, prints_keyword, prints_name, prints_dictionary, prints_either, prints_optional, prints_each, prints_separated, prints_clause, printed_later}
 
 prints_symbol : (s : String) → Prints (Symbol s) (Symbol s) (sign s ∷ [])

@@ -1,5 +1,5 @@
 -- Nodes that are made of a list are seen through its elements, for those who take a tree apart.
-use Rattle.std.proofs.Common.{◌≡◌, ◌∙◌, ℕ, List, [], ◌∷◌, map, refl, ap}
+use Rattle.std.proofs.Common.{◌≡◌, ◌∙◌, ℕ, List, map, refl, ap}
 use Rattle.std.specs.declared.vec.Vec.{Vec}
 use Rattle.std.specs.declared.alloc.Global.{Global}
 use mathlib.Core.Former.{Count}
@@ -11,7 +11,7 @@ use Rattle.aql_syntax.specs.declared.tree.Query.{Row_of-Query, end_of-Query, mor
 use Rattle.aql_syntax.specs.declared.tree.Query.TheVariants as query
 use Rattle.aql_syntax.specs.declared.tree.Select.{Select, Row_of-FromPart, end_of-FromPart, more_of-FromPart, items-the_row-FromPart, items_hidden-the_row-FromPart-0}
 use Rattle.aql_syntax.specs.declared.tree.FromPart.{FromPart}
-use Rattle.aql_syntax.specs.Trees.{Term, call, more_terms, as_terms, select, union, more_sources, as_sources, more_queries, as_queries}
+use Rattle.aql_syntax.specs.Trees.{call, more_terms, as_terms, select, union, more_sources, as_sources, more_queries, as_queries}
 use Rattle.aql_syntax.specs.Views.{term_at, term_of, terms_of, item_of, clauses_of, query_of, queries_of, source_of, sources_of}
 
 args_view : (n : Count) (row : Row_of-Ast n) → terms_of row ≡ as_terms (map term_of (items-the_row-Ast n row))

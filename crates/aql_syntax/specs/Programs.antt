@@ -1,5 +1,5 @@
 -- Programs: the statements of a list of tokens.
-use Rattle.std.specs.Prelude.{◌≡◌, ℕ, ◌+◌, Bool, true, false, ◌==◌, if◌then◌else◌, List, [], ◌∷◌, drop, All, length, ⊤}
+use Rattle.std.specs.Prelude.{ℕ, ◌+◌, Bool, false, ◌==◌, if◌then◌else◌, List, [], ◌∷◌, drop, All, length, ⊤}
 use Rattle.std.specs.List.{AllZip}
 use Rattle.std.specs.Str.{byte}
 use Rattle.aql_lexer.specs.Kinds.{Kind}

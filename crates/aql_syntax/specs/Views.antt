@@ -1,10 +1,10 @@
 -- How definitions see the tree of `src/tree.rt`: `statement_of` and its parts.
-use Rattle.std.specs.Prelude.{ℕ, List, [], ◌∷◌, Option, Some, None, map, option_map}
+use Rattle.std.specs.Prelude.{ℕ, Option, map, option_map}
 use Rattle.aql_syntax.specs.declared.tree.Ident.{Ident}
 use Rattle.aql_syntax.specs.declared.tree.Number as declared_number
 use Rattle.aql_syntax.specs.declared.tree.Item as declared_item
 use Rattle.aql_syntax.specs.declared.tree.Cons as declared_cons
-use Rattle.aql_syntax.specs.declared.tree.Ast.{Ast, out-Ast}
+use Rattle.aql_syntax.specs.declared.tree.Ast.{Ast}
 use Rattle.aql_syntax.specs.declared.tree.Form.{Form, Row_of-Ast, end_of-Ast, more_of-Ast}
 use Rattle.aql_syntax.specs.declared.tree.Form.TheVariants as form
 use Rattle.aql_syntax.specs.declared.tree.Range as declared_range

@@ -1,5 +1,5 @@
 -- The tokens of expressions and items.
-use Rattle.std.specs.Prelude.{ℕ, List, Option, Some, None}
+use Rattle.std.specs.Prelude.{Option, Some, None}
 use Rattle.aql_lexer.specs.Kinds as k
 use Rattle.aql_syntax.specs.Spellings.{Spelling}
 use Rattle.aql_syntax.specs.Parts.{Part, ◌▸◌, Nothing, Nowhere, Token, Symbol, Keyword, IsName}

@@ -1,9 +1,9 @@
 -- The tokens of what an extraction looks for.
-use Rattle.std.specs.Prelude.{ℕ, Bool, true, false, List, [], ◌∷◌, Option, Some, None, codes, ◌⊎◌}
+use Rattle.std.specs.Prelude.{ℕ, Bool, true, false, List, [], ◌∷◌, Option, Some, None, codes}
 use Prim.Native.String.{String}
 use Rattle.aql_lexer.specs.Kinds as k
 use Rattle.aql_syntax.specs.Spellings.{Spelling, free, plain}
-use Rattle.aql_syntax.specs.Parts.{Part, ◌▸◌, ◌or◌, Nowhere, Token, Keyword, IsName, IsDictionaryName, IsInt, Optional, Each, Separated}
+use Rattle.aql_syntax.specs.Parts.{Part, ◌▸◌, ◌or◌, Nowhere, Token, Keyword, IsName, IsDictionaryName, IsInt, Optional, Separated}
 use Rattle.aql_syntax.specs.Grammar.Expressions.{IsColumn}
 use Rattle.aql_syntax.specs.Trees.{Name, Number, Range, one, two, Group, Flag, exact, ignore_case}
 

@@ -1,5 +1,5 @@
 -- The tokens of queries and of their parts.
-use Rattle.std.specs.Prelude.{ℕ, List, [], ◌∷◌, Option}
+use Rattle.std.specs.Prelude.{List, [], ◌∷◌}
 use Rattle.aql_lexer.specs.Kinds as k
 use Rattle.aql_syntax.specs.Spellings.{Spelling}
 use Rattle.aql_syntax.specs.Parts.{Part, ◌▸◌, Nothing, Nowhere, Token, Symbol, InParens, Keyword, IsName, IsInt, Optional, Each, Separated, Clause}

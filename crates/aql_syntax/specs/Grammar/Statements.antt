@@ -1,10 +1,10 @@
 -- The tokens of statements.
-use Rattle.std.specs.Prelude.{ℕ, List, Option, codes}
+use Rattle.std.specs.Prelude.{ℕ, List, codes}
 use Rattle.aql_lexer.specs.Kinds as k
 use Rattle.aql_syntax.specs.Spellings.{Spelling}
 use Rattle.aql_syntax.specs.Parts.{Part, ◌▸◌, Token, Symbol, InParens, Keyword, IsName, Optional, Separated}
 use Rattle.aql_syntax.specs.Grammar.Queries.{IsQuery}
-use Rattle.aql_syntax.specs.Trees.{Name, Query, Statement, module_, require, export, dictionary, create, output}
+use Rattle.aql_syntax.specs.Trees.{Statement, module_, require, export, dictionary, create, output}
 
 module _ (spelling : Spelling) where
   -- Str

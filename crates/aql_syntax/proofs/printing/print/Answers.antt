@@ -1,7 +1,6 @@
-use Rattle.std.proofs.Common.{◌≡◌, ◌∙◌, ◌++◌, ap, List, map, []}
+use Rattle.std.proofs.Common.{◌≡◌, ◌∙◌, ◌++◌, ap, List, map}
 use Rattle.aql_lexer.specs.Kinds.{Kind, kind_of}
 use Rattle.aql_syntax.specs.Views.{statement_of}
-use Rattle.aql_syntax.specs.Printing.{IsPrinted}
 use Rattle.aql_syntax.specs.Printed.{printed_statement}
 use Rattle.aql_syntax.proofs.PrintLaws.{is_printed}
 use Rattle.aql_syntax.proofs.printing.print.Goals as goal

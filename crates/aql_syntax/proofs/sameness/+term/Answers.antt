@@ -1,4 +1,4 @@
-use Rattle.std.proofs.Common.{◌≡◌, ◌∙◌, ◌&&◌, Bool, map, ap, sym}
+use Rattle.std.proofs.Common.{◌∙◌, ◌&&◌, Bool, map, ap, sym}
 use Rattle.std.proofs.lemmas.List.{length-map}
 use Rattle.aql_syntax.specs.Trees.{Term, call, as_terms}
 use Rattle.aql_syntax.specs.Views.{term_of}

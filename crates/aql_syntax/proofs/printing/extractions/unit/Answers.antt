@@ -1,4 +1,4 @@
-use Rattle.std.proofs.Common.{◌≡◌, Bool, refl, ap, sym, codes}
+use Rattle.std.proofs.Common.{Bool, ap, sym, codes}
 use Rattle.aql_syntax.specs.Grammar.Extractions.{unit_of}
 use Rattle.aql_syntax.proofs.printing.extractions.unit.Goals as goal
 
