@@ -13,10 +13,10 @@ use Rattle.std.proofs.lemmas.List.Filters.{length-filter_both}
 use Rattle.std.proofs.lemmas.List.MinMax.{ranks_by, IsStrictWeakOrder-flip}
 use Rattle.std.proofs.lemmas.List.Sums.{fold-append}
 use Rattle.aql_base.proofs.Bags.{SameBag-is}
-use Rattle.row_values.specs.Datums.{Datum, null, int, truth, text, span, datum_cmp}
+use Rattle.row_values.specs.Datums.{Datum, null, int, truth, text, span, datum_cmp, is_null, integer_of}
 use Rattle.row_values.specs.RowOrder.{datum_cmp_total, datum_cmp_exact}
-use Rattle.row_values.specs.Rows.{row_cmp}
-use Rattle.group_agg.specs.Groups.{value_in, key_of, group_of, is_null, values_of, integer_of, integers_of, total_of, IsSum, IsFirst, IsAggregate, IsGroupRow, IsGrouped}
+use Rattle.row_values.specs.Rows.{row_cmp, value_in}
+use Rattle.group_agg.specs.Groups.{key_of, group_of, values_of, integers_of, total_of, IsSum, IsFirst, IsAggregate, IsGroupRow, IsGrouped}
 use Rattle.group_agg.specs.Tallies.{Sofar, comes_before, total, best, start, plus, plus_value, better, improved, added, tallied, finished, aggregate_of, row_of, AreKeys}
 use Rattle.group_agg.specs.declared.agg.Agg.{Agg}
 use Rattle.group_agg.specs.declared.agg.Agg.TheVariants.{Key, Count, CountOf, Sum, Min, Max}

@@ -11,9 +11,9 @@ use Rattle.std.proofs.lemmas.List.Sorted.{length_permutation, All-permutation}
 use Rattle.aql_base.specs.Sorting.{sorted_by}
 use Rattle.aql_base.proofs.Sorting.{SameBag-sorted_by}
 use Rattle.row_values.specs.Datums.{Datum, null, datum_cmp}
-use Rattle.row_values.specs.Rows.{row_cmp}
+use Rattle.row_values.specs.Rows.{row_cmp, value_in}
 use Rattle.row_values.specs.RowOrder.{row_cmp_total, row_cmp_exact}
-use Rattle.group_agg.specs.Groups.{value_in, key_of}
+use Rattle.group_agg.specs.Groups.{key_of}
 use Rattle.group_agg.specs.Limits.{keyed_cmp}
 use Rattle.group_agg.specs.Candidates.{keyed, pair_cmp, first_of, IsHeld}
 use Rattle.group_agg.proofs.FirstOf.{firsts-push, firsts-pass, firsts-firsts, sorted_by-firsts, worst-push, less}

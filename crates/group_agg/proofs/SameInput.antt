@@ -9,9 +9,9 @@ use Rattle.std.proofs.lemmas.List.Sums.{sum_by-cons}
 use Rattle.aql_base.specs.Bags.{SameBag}
 use Rattle.aql_base.proofs.Bags.{SameBag-sym, SameBag-trans, SameBag-is, SameBag-map, SameBag-filter, SameBag-flat_map}
 use Rattle.aql_base.proofs.Counts.{length-SameBag}
-use Rattle.row_values.specs.Datums.{Datum, null, int, truth, text, span, datum_cmp}
-use Rattle.row_values.specs.Rows.{RowList, row_cmp}
-use Rattle.group_agg.specs.Groups.{value_in, key_of, group_of, is_null, values_of, integer_of, integers_of, total_of, IsSum, IsFirst, IsAggregate, IsGrouped}
+use Rattle.row_values.specs.Datums.{Datum, null, int, truth, text, span, datum_cmp, is_null, integer_of}
+use Rattle.row_values.specs.Rows.{RowList, row_cmp, value_in}
+use Rattle.group_agg.specs.Groups.{key_of, group_of, values_of, integers_of, total_of, IsSum, IsFirst, IsAggregate, IsGrouped}
 use Rattle.group_agg.specs.Limits.{number_kept, IsLimited}
 use Rattle.group_agg.specs.declared.agg.Agg.{Agg}
 use Rattle.group_agg.specs.declared.agg.Agg.TheVariants.{Key, Count, CountOf, Sum, Min, Max}
@@ -74,7 +74,7 @@ first_same before (x ∷ xs) [] v h f = absurd (omega (arith, length-SameBag (x 
 first_same before (x ∷ xs) (w ∷ ws) v h f = (Contains-permutation (x ∷ xs) (w ∷ ws) v h f.0, All-permutation (λ other. before other v ≡ false) (x ∷ xs) (w ∷ ws) h f.1)
 
 -- an aggregate of a group in another order
-aggregate_same : (key : List Datum) (group group' : List (List Datum)) (agg : Agg) (v : Datum) → SameBag group group' → IsAggregate key group agg v → IsAggregate key group' agg v
+pub aggregate_same : (key : List Datum) (group group' : List (List Datum)) (agg : Agg) (v : Datum) → SameBag group group' → IsAggregate key group agg v → IsAggregate key group' agg v
 aggregate_same key group group' (Key k) v h a = a
 aggregate_same key group group' Count v h a = a ∙ ap (λ n. int (pos n)) (length-SameBag group group' h)
 aggregate_same key group group' (CountOf column) v h a = a ∙ ap (λ n. int (pos n)) (length-SameBag (values_of column group) (values_of column group') (SameBag-values_of column group group' h))

@@ -76,7 +76,7 @@ first_once last (x ∷ xs) v w h k =
     (All-contains (λ other. comes_before last other v ≡ false) (x ∷ xs) w h.1 k.0)
 
 -- an aggregate has one value
-aggregate_once : (key : List Datum) (group : List (List Datum)) (agg : Agg) (v w : Datum) → IsAggregate key group agg v → IsAggregate key group agg w → v ≡ w
+pub aggregate_once : (key : List Datum) (group : List (List Datum)) (agg : Agg) (v w : Datum) → IsAggregate key group agg v → IsAggregate key group agg w → v ≡ w
 aggregate_once key group (Key k) v w h e = h ∙ sym e
 aggregate_once key group Count v w h e = h ∙ sym e
 aggregate_once key group (CountOf column) v w h e = h ∙ sym e

@@ -1,17 +1,15 @@
 -- Groups: the rows that have equal values in the key columns, and what is told of each group.
-use Rattle.std.specs.Prelude.{ℕ, ℤ, pos, ◌+ℤ◌, ◌≡◌, ◌≢◌, ◌<◌, ◌↔◌, Bool, true, false, not, List, [], ◌∷◌, Option, Some, None, length, map, fold, filter, slice_index_or, All, Contains}
+use Rattle.std.specs.Prelude.{ℕ, ℤ, pos, ◌+ℤ◌, ◌≡◌, ◌≢◌, ◌<◌, ◌↔◌, ◌⊎◌, Bool, false, not, List, [], ◌∷◌, length, map, fold, filter, slice_index_or, All, Contains}
 use Rattle.std.specs.Int.{saturate_to_bits}
-use Rattle.std.specs.List.{AllPairs, AllZip, filter_map}
-use Rattle.std.specs.Ordering.{is_lt, eq_by_cmp}
+use Rattle.std.specs.List.{AllPairs, AllZip, filter_map, dedup}
+use Rattle.std.specs.Ordering.{is_lt, eq_by_cmp, flip_args}
+use Rattle.std.specs.declared.cmp.Ordering.{Ordering}
 use Rattle.aql_base.specs.Bags.{SameBag}
-use Rattle.row_values.specs.Datums.{Datum, null, int, datum_cmp}
-use Rattle.row_values.specs.Rows.{row_cmp}
+use Rattle.aql_base.specs.Sorting.{sorted_by}
+use Rattle.row_values.specs.Datums.{Datum, null, int, datum_cmp, is_null, integer_of}
+use Rattle.row_values.specs.Rows.{row_cmp, value_in}
 use Rattle.group_agg.specs.declared.agg.Agg.{Agg}
 use Rattle.group_agg.specs.declared.agg.Agg.TheVariants.{Key, Count, CountOf, Sum, Min, Max}
-
--- the value of a row in a column
-abbrev pub value_in : List Datum → ℕ → Datum
-value_in row column = slice_index_or row column null
 
 -- the values of a row in the key columns
 abbrev pub key_of : List ℕ → List Datum → List Datum
@@ -21,19 +19,9 @@ key_of keys row = map (value_in row) keys
 abbrev pub group_of : List ℕ → List (List Datum) → List Datum → List (List Datum)
 group_of keys rows key = filter (λ row. eq_by_cmp row_cmp (key_of keys row) key) rows
 
--- whether a value is Null
-abbrev pub is_null : Datum → Bool
-is_null null = true
-is_null value = false
-
 -- the values of a column that aren't Null
 abbrev pub values_of : ℕ → List (List Datum) → List Datum
 values_of column rows = filter (λ value. not (is_null value)) (map (λ row. value_in row column) rows)
-
--- the integer that a value is
-abbrev pub integer_of : Datum → Option ℤ
-integer_of (int n) = Some n
-integer_of value = None
 
 -- the integers of a column
 abbrev pub integers_of : ℕ → List (List Datum) → List ℤ
@@ -83,6 +71,45 @@ pub record IsGrouped (keys : List ℕ) (aggs : List Agg) (rows out : List (List 
   pub row_of : List Datum → List Datum
   pub each_row : All (λ key. IsGroupRow keys aggs rows key (row_of key)) group_keys
   pub same_bag : SameBag (map row_of group_keys) out
+
+-- the value is Null, or stands in some column of some row
+abbrev pub StandsIn : List (List Datum) → Datum → Type 0
+StandsIn rows value = (value ≡ null) ⊎ ((row : List Datum) × (column : ℕ) × Contains rows row × (value_in row column ≡ value))
+
+-- the value of an aggregate that neither counts nor adds up stands in the rows
+abbrev pub IsFromRows : List (List Datum) → Agg → Datum → Type 0
+IsFromRows rows (Key k) value = StandsIn rows value
+IsFromRows rows Count value = Unit {0}
+IsFromRows rows (CountOf column) value = Unit {0}
+IsFromRows rows (Sum column) value = Unit {0}
+IsFromRows rows (Min column) value = StandsIn rows value
+IsFromRows rows (Max column) value = StandsIn rows value
+
+-- the total of the integers, or the nearer end of 64 bits where it is out of range; Null where there are none
+abbrev pub sum_of : List ℤ → Datum
+sum_of [] = null
+sum_of (n ∷ ns) = int (saturate_to_bits 63 (total_of (n ∷ ns)))
+
+-- the first of the values in an order, Null where there are none
+abbrev pub first_in : (Datum → Datum → Ordering) → List Datum → Datum
+first_in cmp values = slice_index_or (sorted_by cmp values) 0 null
+
+-- the value of an aggregate for a group with this key
+abbrev pub aggregate : List Datum → List (List Datum) → Agg → Datum
+aggregate key group (Key k) = slice_index_or key k null
+aggregate key group Count = int (pos (length group))
+aggregate key group (CountOf column) = int (pos (length (values_of column group)))
+aggregate key group (Sum column) = sum_of (integers_of column group)
+aggregate key group (Min column) = first_in datum_cmp (values_of column group)
+aggregate key group (Max column) = first_in (flip_args datum_cmp) (values_of column group)
+
+-- the keys of the rows, each once, in row order
+abbrev pub keys_in : List ℕ → List (List Datum) → List (List Datum)
+keys_in keys rows = dedup (eq_by_cmp row_cmp) (sorted_by row_cmp (map (key_of keys) rows))
+
+-- one row for each set of rows with equal keys, in the order of the keys
+unfoldable pub grouped : List ℕ → List Agg → List (List Datum) → List (List Datum)
+grouped keys aggs rows = map (λ key. map (aggregate key (group_of keys rows key)) aggs) (keys_in keys rows)
 
 -- where the aggregate is Key k, there are more keys than k
 abbrev pub HasKey : ℕ → Agg → Type 0

@@ -1,8 +1,9 @@
 -- The first rows by some columns.
-use Rattle.std.specs.Prelude.{ℕ, ◌≡◌, false, List, ◌++◌, Option, Some, None, length, min, All}
+use Rattle.std.specs.Prelude.{ℕ, ◌≡◌, false, List, ◌++◌, Option, Some, None, length, min, take, All}
 use Rattle.std.specs.Ordering.{is_lt, ordering_then}
 use Rattle.std.specs.declared.cmp.Ordering.{Ordering}
 use Rattle.aql_base.specs.Bags.{SameBag}
+use Rattle.aql_base.specs.Sorting.{sorted_by}
 use Rattle.row_values.specs.Datums.{Datum}
 use Rattle.row_values.specs.Rows.{RowList, row_cmp}
 use Rattle.group_agg.specs.Groups.{key_of}
@@ -23,3 +24,7 @@ pub record IsLimited (keys : List ℕ) (limit : Option ℕ) (rows out : RowList)
   pub number : length out.rows ≡ number_kept limit (length rows.rows)
   pub first : All (λ kept. All (λ other. is_lt (keyed_cmp keys other kept) ≡ false) rest) out.rows
   pub width_is : out.width ≡ rows.width
+
+-- the rows that a limit leaves, in that order
+unfoldable pub limited : List ℕ → Option ℕ → List (List Datum) → List (List Datum)
+limited keys limit rows = take (number_kept limit (length rows)) (sorted_by (keyed_cmp keys) rows)

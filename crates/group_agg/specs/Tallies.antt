@@ -3,8 +3,9 @@ use Rattle.std.specs.Prelude.{ℕ, ℤ, pos, ◌+ℤ◌, neg_ℤ, ◌*◌, ◌^�
 use Rattle.std.specs.Int.{saturate_to_bits}
 use Rattle.std.specs.List.{AllPairs}
 use Rattle.std.specs.Ordering.{is_lt}
-use Rattle.row_values.specs.Datums.{Datum, null, int, datum_of, datum_cmp}
-use Rattle.group_agg.specs.Groups.{value_in, key_of, group_of, is_null}
+use Rattle.row_values.specs.Rows.{value_in}
+use Rattle.row_values.specs.Datums.{Datum, null, int, datum_of, datum_cmp, is_null}
+use Rattle.group_agg.specs.Groups.{key_of, group_of}
 use Rattle.group_agg.specs.declared.agg.Agg.{Agg}
 use Rattle.group_agg.specs.declared.agg.Agg.TheVariants.{Key, Count, CountOf, Sum, Min, Max}
 use Rattle.group_agg.specs.declared.tally.Tally.{Tally}

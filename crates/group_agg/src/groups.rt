@@ -1,7 +1,8 @@
 ghost use Rattle.std.specs.Prelude.{ℕ, List, Bool, true, false, ◌≡◌, ◌<◌, ◌+◌, ◌^◌, ◌++◌, ◌∷◌, IfOk, OnOk, length, map, set, slice_index_or, All, vec_len, []};
+ghost use Rattle.std.specs.List.{AllZip};
 ghost use Rattle.row_values.specs.Rows.{RowList};
 ghost use Rattle.row_values.specs.Datums.{Datum, null};
-ghost use Rattle.group_agg.specs.Groups.{key_of, HasKey, HasColumn, IsGrouped};
+ghost use Rattle.group_agg.specs.Groups.{key_of, HasKey, HasColumn, IsGrouped, IsFromRows, grouped};
 ghost use Rattle.group_agg.specs.Tallies.{best, start, added, finished_at, IsBounded, AreKeys, AreTallied};
 ghost use Rattle.aql_base.specs.Bags.{SameBag};
 ghost use Rattle.group_agg.specs.declared.agg.Agg.TheVariants.{Count};
@@ -21,28 +22,32 @@ use std::alloc::Global;
 /// the range.
 ///
 /// Takes one pass over the rows, with one look-up for each. `OutOfMemory` comes for want of memory alone,
-/// and where there are rows and 2^32 keys or more.
+/// for 2^32 aggregates or more, and where there are rows and 2^32 keys or more.
 ///
-/// Meaning: `IsGrouped`, `specs/Groups.antt`; docs/LANGUAGE.md, "Groups".
+/// Meaning: `IsGrouped`, and as a list `grouped`, `specs/Groups.antt`; docs/LANGUAGE.md, "Groups".
 pub fn group<'d>(
     alloc: Global,
     rows: &Rows<'d>,
     keys: &[u32],
     aggs: &[Agg],
 ) -> Result<Rows<'d>, OutOfMemory>
-    requires few { length aggs.now < 2 ^ 32 }
     requires keys_there { All (λ column. column < rows.now.width) keys.now }
     requires aggs_there { All (HasKey (length keys.now)) aggs.now }
     requires columns_there { All (HasColumn rows.now.width) aggs.now }
     ensures rows { IfOk result (λ out. IsGrouped keys.now aggs.now rows.now.rows out.rows) }
     ensures width { IfOk result (λ out. out.width ≡ length aggs.now) }
-    ensures only { IfOk result (λ out. (other : List (List Datum)) → IsGrouped keys.now aggs.now rows.now.rows other → SameBag other out.rows) }
+    ensures bag { IfOk result (λ out. SameBag (grouped keys.now aggs.now rows.now.rows) out.rows) }
+    ensures only { IfOk result (λ out. (same other : List (List Datum)) → SameBag same rows.now.rows → IsGrouped keys.now aggs.now same other → SameBag other out.rows) }
+    ensures among { IfOk result (λ out. All (λ row. AllZip (IsFromRows rows.now.rows) aggs.now row) out.rows) }
 {
+    let Ok(width) = u32::try_from(aggs.len()) else {
+        return Err(OutOfMemory);
+    };
     // Each row has the width of the list, and they are fewer than 2^32.
     let (_width, _number) = (rows.width(), rows.len());
     let (group_keys, columns) = tally_rows(alloc, rows.as_slice(), keys, aggs)?;
     let out = group_rows(alloc, group_keys.len(), columns.as_slice())?;
-    Ok(Rows::from_vec(aggs.len() as u32, out))
+    Ok(Rows::from_vec(width, out))
 }
 
 /// The keys of the rows, each once, in the order in which they come first, and for each aggregate the

@@ -7,13 +7,11 @@
 #![tactic(auto)]
 
 mod agg;
+mod first_rows;
 mod groups;
-mod limits;
 mod tallies;
 mod tally;
-#[cfg(test)]
-mod tests;
 
 pub use agg::Agg;
+pub use first_rows::{limited, order_limit};
 pub use groups::group;
-pub use limits::order_limit;

@@ -1,6 +1,6 @@
 ghost use Rattle.std.specs.Prelude.{ℕ, ◌≡◌, ◌<◌, ◌+◌, ◌^◌, length, All};
 ghost use Rattle.row_values.specs.Datums.{datum_of};
-ghost use Rattle.group_agg.specs.Groups.{HasKey, HasColumn, is_null, key_of};
+ghost use Rattle.group_agg.specs.Groups.{HasKey, HasColumn, key_of};
 ghost use Rattle.group_agg.specs.Tallies.{sofar_of, start, plus, plus_one_for, plus_value, comes_before, better, improved, added, finished, IsBounded};
 
 use crate::Agg;
@@ -62,7 +62,7 @@ impl<'d> Tally<'d> {
         ensures value { sofar_of result ≡ plus_one_for (sofar_of self.entry) (datum_of value.entry) }
         ensures bounded { (k : ℕ) → IsBounded k (sofar_of self.entry) → IsBounded (k + 1) (sofar_of result) }
     {
-        if is_null(value) { self } else { self.plus(1) }
+        if value.is_null() { self } else { self.plus(1) }
     }
 
     /// With one more value, where it is an integer.
@@ -101,21 +101,11 @@ impl<'d> Tally<'d> {
     }
 }
 
-/// Whether the value is Null.
-fn is_null(value: Value<'_>) -> bool
-    ensures { result ≡ is_null (datum_of value.entry) }
-{
-    match value {
-        Value::Null => true,
-        _ => false,
-    }
-}
-
 /// The better of two values: Null is worse than any other; `last` asks for the greater.
 fn better<'d>(best: Value<'d>, value: Value<'d>, last: bool) -> Value<'d>
     ensures { datum_of result ≡ better last (datum_of best.entry) (datum_of value.entry) }
 {
-    if is_null(value) || (!is_null(best) && !comes_before(value, best, last)) {
+    if value.is_null() || (!best.is_null() && !comes_before(value, best, last)) {
         best
     } else {
         value

@@ -1,5 +1,5 @@
 -- Runs of neighbours: the blocks so far, and those of one more first span.
-use Rattle.std.proofs.Common.{◌≡◌, ℕ, suc, ◌+◌, ◌-◌, ◌<◌, ◌≤◌, ◌⊎◌, inl, inr, ◌↔◌, List, [], ◌∷◌, ◌++◌, length, map, get_or, refl, sym, ap, ap₂, ◌∙◌, subst, arith, Contains, All, AllPairs}
+use Rattle.std.proofs.Common.{◌≡◌, ℕ, suc, ◌+◌, ◌-◌, ◌<◌, ◌≤◌, ◌⊎◌, inl, inr, ◌↔◌, List, [], ◌∷◌, ◌++◌, length, map, refl, sym, ap, ap₂, ◌∙◌, subst, arith, Contains, All, AllPairs}
 use Rattle.std.specs.List.{range_with_len}
 use Rattle.std.proofs.lemmas.Bool.{cases_lt}
 use Rattle.std.proofs.lemmas.List.{map-append, get_or-map, length-map}
@@ -8,6 +8,7 @@ use Rattle.std.proofs.lemmas.List.Kept.{AllPairs-cons}
 use Rattle.span_token.specs.Extents.{Extent}
 use Rattle.span_token.proofs.Rising.{AllPairs-head, AllPairs-tail, AllPairs-range, AllPairs-map, Contains-range, in_range}
 use Rattle.span_sets.specs.Blocks.{IsRun, AreBlocksOf, span_at, block_of}
+use Rattle.span_sets.proofs.SpanLists.{Contains-shown, from_shown}
 
 -- pairs of two lists end to end
 pub AllPairs-append : {X : Type 0} (R : X → X → Type 0) (xs ys : List X) → AllPairs R xs → AllPairs R ys → ((x : X) → Contains xs x → All (R x) ys) → AllPairs R (xs ++ ys)
@@ -50,6 +51,39 @@ module _ (IsNext : Extent → Extent → Type 0) (low high : ℕ) (spans : List 
     blocks_are = has.found_is;
   }
 
+  -- the runs that begin with one more span, by their last spans
+  pub HasRuns-more : (i : ℕ) (ends : List ℕ) → AllPairs (λ j k. j < k) ends → ((j : ℕ) → Contains ends j ↔ IsRun IsNext low high spans i j) → (found : List Extent) → HasRuns IsNext low high spans i found → HasRuns IsNext low high spans (i + 1) (found ++ map (block_of spans i) ends)
+  HasRuns-more i ends up run found has =
+      let more : List (ℕ × ℕ) = map (pair_with i) ends in
+      record {
+        runs = has.runs ++ more;
+        rising = AllPairs-append IsEarlier has.runs more has.rising
+            (AllPairs-map (pair_with i) IsEarlier ends (later ends up))
+            (λ p at k d h. inl (omega (arith, ((has.exactly p.0 p.1).0 at).0, ap (λ (q : ℕ × ℕ). q.0) (get_or-map (pair_with i) ends k 0 d (omega (arith, h, length-map ends (pair_with i)))))));
+        exactly = λ a b. (
+          (λ at. elim (Contains-append_cases has.runs more (a, b) at) [
+            | inl old ↦ let h = (has.exactly a b).0 old in (omega (arith, h.0), h.1)
+            | inr new ↦
+                let own = from_shown (pair_with i) ends (a, b) new in
+                let first : i ≡ a = ap (λ (q : ℕ × ℕ). q.0) own.2 in
+                let last : own.0 ≡ b = ap (λ (q : ℕ × ℕ). q.1) own.2 in
+                (omega (arith, first), subst (λ (n : ℕ). IsRun IsNext low high spans n b) first ((run b).0 (subst (λ (n : ℕ). Contains ends n) last own.1)))
+          ]),
+          (λ h. elim (cases_lt a i) [
+            | inl g ↦ Contains-append_left has.runs more (a, b) ((has.exactly a b).1 (g, h.1))
+            | inr g ↦
+                let e : a ≡ i = omega (arith, g, h.0) in
+                let there = (run b).1 (subst (λ (n : ℕ). IsRun IsNext low high spans n b) e h.1) in
+                Contains-append_right has.runs more (a, b) (subst (λ (n : ℕ). Contains more (n, b)) (sym e) (Contains-shown (pair_with i) ends b there))
+          ]),
+        );
+        found_is = ap₂ (λ (xs ys : List Extent). xs ++ ys) has.found_is (sym (map_map (λ (r : ℕ × ℕ). block_of spans r.0 r.1) (pair_with i) ends))
+            ∙ sym (map-append (λ (r : ℕ × ℕ). block_of spans r.0 r.1) has.runs more);
+      }
+    where
+      later : (ks : List ℕ) → AllPairs (λ j k. j < k) ks → AllPairs (λ j k. IsEarlier (pair_with i j) (pair_with i k)) ks
+      later ks up = λ a b d h short. inr (refl, up a b d h short)
+
   module _ (i end from to : ℕ) (before_end : i < end) (within : end ≤ length spans)
       (chained : (k : ℕ) → i ≤ k → k + 1 < end → IsNext (span_at spans k) (span_at spans (k + 1)))
       (stopped : end < length spans → (k : ℕ) → k + 1 ≡ end → ¬ (IsNext (span_at spans k) (span_at spans (k + 1))))
@@ -74,45 +108,11 @@ module _ (IsNext : Extent → Extent → Type 0) (low high : ℕ) (spans : List 
         let here : j < to = (ends j run.ordered).1 (short, run.at_most) in
         ((begins j here).1 (run.ordered, run.at_least), here)
 
-    Contains-pairs : (j : ℕ) → from ≤ j → j < to → Contains (map (pair_with i) (range_with_len from (to - from))) (pair_with i j)
-    Contains-pairs j low' high' =
-        let at = Contains-range from (to - from) j low' (omega (arith, low', high')) in (
-          at.0,
-          omega (arith, at.1, length-map (range_with_len from (to - from)) (pair_with i)),
-          get_or-map (pair_with i) (range_with_len from (to - from)) at.0 j (pair_with i j) at.1 ∙ ap (pair_with i) at.2,
-        )
-
-    from_pairs : (a b : ℕ) → Contains (map (pair_with i) (range_with_len from (to - from))) (pair_with a b) → (a ≡ i) × (from ≤ b) × (b < to)
-    from_pairs a b at =
-        let short : at.0 < length (range_with_len from (to - from)) = omega (arith, at.1, length-map (range_with_len from (to - from)) (pair_with i)) in
-        let is : pair_with i (get_or (range_with_len from (to - from)) at.0 b) ≡ pair_with a b = sym (get_or-map (pair_with i) (range_with_len from (to - from)) at.0 b (pair_with a b) short) ∙ at.2 in
-        let there = in_range from (to - from) b (at.0, short, ap (λ (p : ℕ × ℕ). p.1) is) in
-        (sym (ap (λ (p : ℕ × ℕ). p.0) is), there.0, omega (arith, there))
-
     pub HasRuns-next : (found : List Extent) → HasRuns IsNext low high spans i found → HasRuns IsNext low high spans (i + 1) (found ++ map (block_of spans i) (range_with_len from (to - from)))
-    HasRuns-next found has =
-        let more : List (ℕ × ℕ) = map (pair_with i) (range_with_len from (to - from)) in
-        record {
-          runs = has.runs ++ more;
-          rising = AllPairs-append IsEarlier has.runs more has.rising
-              (AllPairs-map (pair_with i) IsEarlier (range_with_len from (to - from)) (later (range_with_len from (to - from)) (AllPairs-range from (to - from))))
-              (λ p at k d h. inl (omega (arith, ((has.exactly p.0 p.1).0 at).0, ap (λ (q : ℕ × ℕ). q.0) (get_or-map (pair_with i) (range_with_len from (to - from)) k 0 d (omega (arith, h, length-map (range_with_len from (to - from)) (pair_with i)))))));
-          exactly = λ a b. (
-            (λ at. elim (Contains-append_cases has.runs more (a, b) at) [
-              | inl old ↦ let h = (has.exactly a b).0 old in (omega (arith, h.0), h.1)
-              | inr new ↦ let h = from_pairs a b new in (omega (arith, h.0), subst (λ (n : ℕ). IsRun IsNext low high spans n b) (sym h.0) (run_in b h.1 h.2))
-            ]),
-            (λ h. elim (cases_lt a i) [
-              | inl g ↦ Contains-append_left has.runs more (a, b) ((has.exactly a b).1 (g, h.1))
-              | inr g ↦
-                  let e : a ≡ i = omega (arith, g, h.0) in
-                  let there = in_run b (subst (λ (n : ℕ). IsRun IsNext low high spans n b) e h.1) in
-                  Contains-append_right has.runs more (a, b) (subst (λ (n : ℕ). Contains more (n, b)) (sym e) (Contains-pairs b there.0 there.1))
-            ]),
-          );
-          found_is = ap₂ (λ (xs ys : List Extent). xs ++ ys) has.found_is (sym (map_map (λ (r : ℕ × ℕ). block_of spans r.0 r.1) (pair_with i) (range_with_len from (to - from))))
-              ∙ sym (map-append (λ (r : ℕ × ℕ). block_of spans r.0 r.1) has.runs more);
-        }
+    HasRuns-next found has = HasRuns-more i (range_with_len from (to - from)) (AllPairs-range from (to - from)) runs found has
       where
-        later : (ks : List ℕ) → AllPairs (λ j k. j < k) ks → AllPairs (λ j k. IsEarlier (pair_with i j) (pair_with i k)) ks
-        later ks up = λ a b d h short. inr (refl, up a b d h short)
+        runs : (j : ℕ) → Contains (range_with_len from (to - from)) j ↔ IsRun IsNext low high spans i j
+        runs j = (
+          λ at. let there = in_range from (to - from) j at in run_in j there.0 (omega (arith, there)),
+          λ run. let there = in_run j run in Contains-range from (to - from) j there.0 (omega (arith, there)),
+        )

@@ -37,7 +37,7 @@ pub Contains-from_filter : (p : ℕ → Bool) (xs : List ℕ) (x : ℕ) → Cont
 Contains-from_filter p [] x h = absurd (omega (arith, h.1))
 Contains-from_filter p (y ∷ ys) x h = filter_from (p y) p x y ys refl (Contains-from_filter p ys x) h
 
-IsStrictlyIncreasing-range : (n : ℕ) → IsStrictlyIncreasing (range_with_len 0 n)
+pub IsStrictlyIncreasing-range : (n : ℕ) → IsStrictlyIncreasing (range_with_len 0 n)
 IsStrictlyIncreasing-range n = λ k h. omega (arith, h, length-range_with_len 0 n, get_or-range_with_len 0 n k 0 (omega (arith, h, length-range_with_len 0 n)), get_or-range_with_len 0 n (k + 1) 0 (omega (arith, h, length-range_with_len 0 n)))
 
 module _ (marks : List Bool) where
@@ -52,7 +52,7 @@ module _ (marks : List Bool) where
   pub IsStrictlyIncreasing-marked : IsStrictlyIncreasing (marked_places marks)
   IsStrictlyIncreasing-marked = IsStrictlyIncreasing-filter (λ j. get_or marks j false) (range_with_len 0 (length marks)) (IsStrictlyIncreasing-range (length marks))
 
-null_or : (o : Option Extent) → (o ≡ None) ⊎ ((t : Extent) × (o ≡ Some t))
+pub null_or : (o : Option Extent) → (o ≡ None) ⊎ ((t : Extent) × (o ≡ Some t))
 null_or None = inl refl
 null_or (Some t) = inr (t, refl)
 

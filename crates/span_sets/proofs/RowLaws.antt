@@ -6,7 +6,7 @@ use Rattle.aql_base.specs.Bags.{SameBag}
 use Rattle.aql_base.specs.Sorting.{put_in_order, sorted_by}
 use Rattle.row_values.specs.Datums.{Datum}
 use Rattle.row_values.specs.Rows.{row_cmp, sorted}
-use Rattle.row_values.proofs.Sorted.{sorted-SameBag}
+use Rattle.row_values.specs.SortedRows.{sorted-SameBag}
 use Rattle.span_token.specs.Extents.{Extent}
 use Rattle.span_sets.specs.Consolidation.{in_row_order, rows_in_order, targets_in_order}
 

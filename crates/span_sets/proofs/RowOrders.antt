@@ -15,7 +15,7 @@ use Rattle.aql_base.specs.Sorting.{put_in_order, sorted_by}
 use Rattle.aql_base.proofs.Sorting.{IsSorted-map, IsSorted-sorted_by, SameBag-sorted_by, sorted_by-unique}
 use Rattle.row_values.specs.Datums.{Datum}
 use Rattle.row_values.specs.Rows.{row_cmp, IsInOrder, sorted}
-use Rattle.row_values.proofs.Sorted.{sorted-unique}
+use Rattle.row_values.specs.SortedRows.{sorted-unique}
 use Rattle.std.proofs.lemmas.Slice.Zip.{firsts-zip}
 use Rattle.row_values.specs.RowOrder.{row_cmp_total, row_cmp_exact}
 use Rattle.span_token.specs.Extents.{Extent}

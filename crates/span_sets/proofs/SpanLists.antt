@@ -16,7 +16,8 @@ use Rattle.span_token.specs.Extents.{Extent, extent_of}
 use Rattle.span_token.specs.declared.span.Span.{Span}
 use Rattle.span_token.proofs.ExtentLemmas.{same_extent}
 use Rattle.span_token.proofs.Rising.{AllPairs-head, AllPairs-tail, Contains-here, Contains-there, Contains-cases}
-use Rattle.span_sets.specs.Blocks.{IsBelow, AreDistinct, span_at}
+use Rattle.span_token.specs.SpanOrder.{IsBefore}
+use Rattle.span_sets.specs.Blocks.{AreDistinct, span_at}
 use Rattle.span_sets.proofs.CandidateLists.{pairs, nat_exact, nat_less, then_less, then_equal}
 
 -- spans by begin and then by end
@@ -26,7 +27,7 @@ span_cmp = then_cmp (on (λ (s : Span). s.begin) nat_cmp) (on (λ (s : Span). s.
 span_cmp_total : IsTotalOrder span_cmp
 span_cmp_total = then_total (on_total (λ (s : Span). s.begin) nat_cmp_total) (on_total (λ (s : Span). s.end) nat_cmp_total)
 
-span_less : (s t : Span) → span_cmp s t ≡ Less → IsBelow (extent_of s) (extent_of t)
+span_less : (s t : Span) → span_cmp s t ≡ Less → IsBefore (extent_of s) (extent_of t)
 span_less s t e = elim (then_less (nat_cmp s.begin t.begin) (nat_cmp s.end t.end) e) [
   | inl h ↦ inl (nat_less s.begin t.begin h)
   | inr h ↦ inr (nat_exact s.begin t.begin h.0, nat_less s.end t.end h.1)
@@ -57,13 +58,13 @@ AllPairs-shown f R [] h = λ i j d less short. absurd (omega arith)
 AllPairs-shown f R (x ∷ xs) h =
     AllPairs-cons R (f x) (map f xs) (All-map (R (f x)) f xs (AllPairs-head (λ a b. R (f a) (f b)) x xs h)) (AllPairs-shown f R xs (AllPairs-tail (λ a b. R (f a) (f b)) x xs h))
 
-AllPairs-weaker : {A : Type 0} (P Q : A → A → Type 0) → ((x y : A) → P x y → Q x y) → (xs : List A) → AllPairs P xs → AllPairs Q xs
+pub AllPairs-weaker : {A : Type 0} (P Q : A → A → Type 0) → ((x y : A) → P x y → Q x y) → (xs : List A) → AllPairs P xs → AllPairs Q xs
 AllPairs-weaker P Q h xs all = λ i j d less short. h (get_or xs i d) (get_or xs j d) (all i j d less short)
 
-Contains-shown : {A B : Type 0} (f : A → B) (xs : List A) (x : A) → Contains xs x → Contains (map f xs) (f x)
+pub Contains-shown : {A B : Type 0} (f : A → B) (xs : List A) (x : A) → Contains xs x → Contains (map f xs) (f x)
 Contains-shown f xs x at = (at.0, omega (arith, at.1, length-map xs f), get_or-map f xs at.0 x (f x) at.1 ∙ ap f at.2)
 
-from_shown : {A B : Type 0} (f : A → B) (xs : List A) (y : B) → Contains (map f xs) y → (x : A) × Contains xs x × (f x ≡ y)
+pub from_shown : {A B : Type 0} (f : A → B) (xs : List A) (y : B) → Contains (map f xs) y → (x : A) × Contains xs x × (f x ≡ y)
 from_shown f [] y at = absurd (omega (arith, at.1))
 from_shown f (x ∷ xs) y at = elim (Contains-cases (f x) (map f xs) y at) [
   | inl e ↦ (x, Contains-here x xs, e)
@@ -75,8 +76,8 @@ pub AreDistinct-from_dedup : (E : Span → Span → Bool) → ((s t : Span) → 
 AreDistinct-from_dedup E ties given sorted bag up =
     let alike : IsEquivalence E = subst (λ (e : Span → Span → Bool). IsEquivalence e) (λ i s t. sym (ties s t) i) (eq_by_cmp_equiv span_cmp_total) in
     record {
-      rising = AllPairs-shown extent_of IsBelow (dedup E sorted) (AllPairs-weaker (λ s t. span_cmp s t ≡ Less) (λ s t. IsBelow (extent_of s) (extent_of t)) span_less (dedup E sorted) (pairs span_cmp (dedup E sorted) (IsStrictlySortedBy-dedup span_cmp_total ties sorted up)));
-      same = λ e. (
+      rising = AllPairs-shown extent_of IsBefore (dedup E sorted) (AllPairs-weaker (λ s t. span_cmp s t ≡ Less) (λ s t. IsBefore (extent_of s) (extent_of t)) span_less (dedup E sorted) (pairs span_cmp (dedup E sorted) (IsStrictlySortedBy-dedup span_cmp_total ties sorted up)));
+      exactly = λ e. (
         (λ at.
             let own = from_shown extent_of (dedup E sorted) e at in
             subst (λ (x : Extent). Contains (map extent_of given) x) own.2 (Contains-shown extent_of given own.0 (Contains-permutation sorted given own.0 (IsPermutation-sym given sorted bag) (Contains-from_dedup E sorted own.0 own.1)))),
@@ -94,7 +95,7 @@ spans_ordered (s ∷ spans) zero = s.ordered
 spans_ordered (s ∷ spans) (suc k) = spans_ordered spans k
 
 -- spans that rise begin at or after the ones before
-pub begins_rise : (spans : List Extent) → AllPairs IsBelow spans → (i j : ℕ) → i ≤ j → j < length spans → (span_at spans i).begin ≤ (span_at spans j).begin
+pub begins_rise : (spans : List Extent) → AllPairs IsBefore spans → (i j : ℕ) → i ≤ j → j < length spans → (span_at spans i).begin ≤ (span_at spans j).begin
 begins_rise spans up i j h short = elim (cases_lt i j) [
   | inl g ↦ omega (arith, up i j (record { begin = 0; end = 0 }) g short)
   | inr g ↦ let e : i ≡ j = omega arith in omega (arith, ap (λ (n : ℕ). (span_at spans n).begin) e)

@@ -1,7 +1,12 @@
+-- ---- words of public clauses
 -- which rows stay
 pub mod Consolidation
+-- the same as a function
+pub mod KeptPlaces
 -- runs of neighbouring spans
 pub mod Blocks
--- Not in any public clause: what the sweeps work on, and rows with their numbers
+-- ---- words of private clauses
+-- what the sweeps work on
 pub mod Candidates
+-- rows with their numbers
 pub mod Orders

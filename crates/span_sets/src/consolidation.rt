@@ -1,6 +1,10 @@
-ghost use Rattle.std.specs.Prelude.{ℕ, List, ◌≡◌, ◌+◌, ◌<◌, ◌≤◌, ◌^◌, ◌++◌, ◌∷◌, if◌then◌else◌, IfOk, OnOk, length, map, slice_index_or, vec_len, All, []};
+ghost use Rattle.std.specs.Prelude.{ℕ, List, ◌≡◌, ◌+◌, ◌<◌, ◌≤◌, ◌^◌, ◌++◌, ◌∷◌, if◌then◌else◌, IfOk, OnOk, length, map, slice_index_or, vec_len, All, Option, []};
+ghost use Rattle.aql_base.specs.Bags.{SameBag};
+ghost use Rattle.row_values.specs.Datums.{Datum};
 ghost use Rattle.row_values.specs.Rows.{RowList, IsInOrder};
+ghost use Rattle.span_token.specs.Extents.{Extent};
 ghost use Rattle.span_sets.specs.Consolidation.{target_of, targets_in_order, IsKept, IsConsolidated};
+ghost use Rattle.span_sets.specs.KeptPlaces.{consolidated};
 ghost use Rattle.span_sets.specs.Candidates.{marked_places};
 
 use crate::Policy;
@@ -21,7 +25,8 @@ use std::alloc::Global;
 ///
 /// Takes one sort of the rows, one of their targets, and one pass. Rows are moved, never copied.
 ///
-/// Meaning: `IsConsolidated`, `specs/Consolidation.antt`; docs/LANGUAGE.md, "Consolidation".
+/// Meaning: `IsConsolidated`, `specs/Consolidation.antt`, and as a list, where the target is told by the
+/// row, `consolidated`, `specs/KeptPlaces.antt`; docs/LANGUAGE.md, "Consolidation".
 pub fn consolidate<'d>(
     alloc: Global,
     rows: Rows<'d>,
@@ -30,7 +35,11 @@ pub fn consolidate<'d>(
 ) -> Result<Rows<'d>, OutOfMemory>
     requires one_target_each { vec_len targets ≡ length rows.rows }
     ensures kept { IfOk result (λ out. IsConsolidated policy rows.entry (map target_of targets.items) out) }
+    ensures list { IfOk result (λ out. (target : List Datum → Option Extent) → map target_of targets.items ≡ map target rows.entry.rows → out.rows ≡ consolidated policy target rows.entry.rows) }
     ensures only { IfOk result (λ out. (other : RowList) → IsConsolidated policy rows.entry (map target_of targets.items) other → other ≡ out) }
+    ensures any_order { IfOk result (λ out. (target : List Datum → Option Extent) (same other : RowList) → map target_of targets.items ≡ map target rows.entry.rows → SameBag same.rows rows.entry.rows
+        → IsConsolidated policy same (map target same.rows) other → other.rows ≡ out.rows) }
+    ensures among { IfOk result (λ out. (gone : List (List Datum)) × SameBag (out.rows ++ gone) rows.entry.rows) }
     ensures one_set { IfOk result (λ _. (a b : List ℕ) → IsKept policy (targets_in_order rows.entry.rows (map target_of targets.items)) a
         → IsKept policy (targets_in_order rows.entry.rows (map target_of targets.items)) b → a ≡ b) }
     ensures in_order { IfOk result (λ out. IsInOrder out.rows) }

@@ -5,17 +5,17 @@
 //! `span_token` for spans and tokens.
 #![tactic(auto)]
 
+mod block_runs;
 mod candidate;
 mod consolidation;
 mod containment;
 mod left_to_right;
+mod lent;
 mod placed;
 mod policy;
-mod runs;
 mod stays;
-#[cfg(test)]
-mod tests;
 
+pub use block_runs::blocks;
 pub use consolidation::consolidate;
+pub use lent::consolidated;
 pub use policy::Policy;
-pub use runs::blocks;

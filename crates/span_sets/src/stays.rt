@@ -31,10 +31,7 @@ pub(crate) fn stays(
 fn goes_by_end(policy: Policy) -> bool
     ensures { result ≡ is_mirrored policy }
 {
-    match policy {
-        Policy::NotContainedWithin => true,
-        _ => false,
-    }
+    matches!(policy, Policy::NotContainedWithin)
 }
 
 /// For each candidate, whether it stays.

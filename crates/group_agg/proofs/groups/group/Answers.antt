@@ -1,7 +1,9 @@
 use Rattle.std.proofs.Common.{◌≡◌, length, map, subst, ◌∙◌, ap, arith}
 use Rattle.group_agg.specs.Tallies.{finished_at, AreKeys, AreTallied}
 use Rattle.group_agg.proofs.Aggregates.{IsGrouped-made}
+use Rattle.group_agg.proofs.Functions.{IsGrouped-only, IsGrouped-among}
 use Rattle.group_agg.proofs.GroupKeys.{rows_are}
+use Rattle.group_agg.proofs.SameInput.{IsGrouped-SameBag}
 use Rattle.group_agg.proofs.Unique.{IsGrouped-once}
 use Rattle.group_agg.proofs.groups.group.Goals as goal
 
@@ -22,5 +24,11 @@ grouped c =
 pub returns-clause-rows : goal.returns-clause-rows
 returns-clause-rows c = grouped c
 
+pub returns-clause-bag : goal.returns-clause-bag
+returns-clause-bag c = IsGrouped-only c.args.keys.now c.args.aggs.now c.args.rows.now.rows c.from_vec.result.rows (grouped c)
+
 pub returns-clause-only : goal.returns-clause-only
-returns-clause-only c = λ other g. IsGrouped-once c.args.keys.now c.args.aggs.now c.args.rows.now.rows other c.from_vec.result.rows g (grouped c)
+returns-clause-only c = λ same other bag g. IsGrouped-once c.args.keys.now c.args.aggs.now c.args.rows.now.rows other c.from_vec.result.rows (IsGrouped-SameBag c.args.keys.now c.args.aggs.now same c.args.rows.now.rows other bag g) (grouped c)
+
+pub returns-clause-among : goal.returns-clause-among
+returns-clause-among c = IsGrouped-among c.args.rows.now.rows c.args.keys.now c.args.aggs.now c.from_vec.result.rows (grouped c)

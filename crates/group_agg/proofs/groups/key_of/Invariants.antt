@@ -1,5 +1,5 @@
 use Rattle.std.proofs.Common.{◌≡◌, map, take}
-use Rattle.group_agg.specs.Groups.{value_in}
+use Rattle.row_values.specs.Rows.{value_in}
 use Rattle.group_agg.proofs.groups.key_of.Given as goal
 
 abbrev pub invariant-loop-column : goal.invariant-loop-column

@@ -2,7 +2,7 @@ use Rattle.std.proofs.Common.{◌≡◌, ℕ, suc, ◌<◌, List, [], ◌∷◌,
 use Rattle.std.proofs.lemmas.List.{length-map}
 use Rattle.row_values.specs.Datums.{Datum}
 use Rattle.row_values.specs.Rows.{RowList, IsInOrder}
-use Rattle.row_values.proofs.Sorted.{IsInOrder-sorted}
+use Rattle.row_values.specs.SortedRows.{IsInOrder-sorted}
 use Rattle.std.proofs.lemmas.List.Elements.{Contains-get_or}
 use Rattle.span_sets.specs.declared.policy.Policy.{Policy}
 use Rattle.span_sets.specs.declared.placed.PlacedRow.{PlacedRow}
@@ -11,6 +11,8 @@ use Rattle.span_token.specs.declared.span.Span.{Span}
 use Rattle.span_sets.specs.Consolidation.{target_of, in_row_order, rows_in_order, targets_in_order, IsKept, IsConsolidated}
 use Rattle.span_sets.specs.Candidates.{marked_places}
 use Rattle.span_sets.specs.Orders.{row_order_of}
+use Rattle.span_sets.specs.KeptPlaces.{consolidated_by}
+use Rattle.span_sets.proofs.ConsolidationLaws.{IsConsolidated-only, IsConsolidated-among, consolidated-SameBag}
 use Rattle.span_sets.proofs.RowOrders.{rows_in_order-sorted, IsInOrder-picked, All-row_order_of, All-shown, targets_in_order-shown, rows_in_order-shown, length-order}
 use Rattle.span_sets.proofs.consolidation.consolidate.Goals as goal
 
@@ -136,3 +138,19 @@ returns-clause-in_order c =
     let mine : IsConsolidated c.args.policy c.args.rows targets c.in_ok-out.out = returns-clause-kept c in
     let up : IsInOrder (rows_in_order rows targets) = subst (λ (rs : List (List Datum)). IsInOrder rs) (sym (rows_in_order-sorted rows targets each)) (IsInOrder-sorted rows) in
     subst (λ (rs : List (List Datum)). IsInOrder rs) (sym mine.rows_are) (IsInOrder-picked (rows_in_order rows targets) mine.kept up mine.stay.rising (there c.args.policy rows targets mine.kept mine.stay))
+
+pub returns-clause-list : goal.returns-clause-list
+returns-clause-list c = λ target is.
+    let rows : RowList = c.args.rows in
+    IsConsolidated-only c.args.policy rows (map target_of c.args.targets.items) c.in_ok-out.out (returns-clause-kept c)
+    ∙ ap (λ (ts : List (Option Extent)). consolidated_by c.args.policy rows.rows ts) is
+
+pub returns-clause-any_order : goal.returns-clause-any_order
+returns-clause-any_order c = λ target same other is bag h.
+    let rows : RowList = c.args.rows in
+    IsConsolidated-only c.args.policy same (map target same.rows) other h ∙ consolidated-SameBag c.args.policy target same.rows rows.rows bag ∙ sym (returns-clause-list c target is)
+
+pub returns-clause-among : goal.returns-clause-among
+returns-clause-among c =
+    let each : length (map target_of c.args.targets.items) ≡ length c.args.rows.rows = length-map c.args.targets.items target_of ∙ sym c.args.targets.ok.0 ∙ c.requires.one_target_each in
+    IsConsolidated-among c.args.policy c.args.rows (map target_of c.args.targets.items) c.in_ok-out.out each (returns-clause-kept c)
