@@ -3,7 +3,7 @@ ghost use Rattle.span_token.specs.Documents.{LiesIn};
 ghost use Rattle.span_token.specs.Extents.{extent_of};
 
 use row_values::{Row, Rows, Value};
-use span_sets::{Policy, blocks, consolidate};
+use span_sets::{Policy, blocks, consolidate, consolidated};
 use span_token::{Document, Span};
 use std::alloc::Global;
 use std::test::Fail;
@@ -221,6 +221,39 @@ fn equal_rows_have_targets_of_their_own(rt: HostRuntime) -> Result<(), Fail> {
         Row::single(alloc, Value::Int(7)),
     ];
     assert_eq!(rt; got.as_slice(), &want[..]);
+    Ok(())
+}
+
+/// What the policy keeps of rows that are lent, with the targets of the rows in row order.
+fn kept_of<'d>(
+    alloc: Global,
+    rows: &Rows<'d>,
+    targets: &[Option<Span>],
+    policy: Policy,
+) -> Result<Rows<'d>, Fail>
+    requires { length targets.now ≡ length rows.now.rows }
+{
+    let sorted = rows.sorted(alloc)?;
+    let order = sorted.as_slice();
+    let kept = consolidated(alloc, rows, order, targets, policy)?;
+    Ok(kept)
+}
+
+#[test]
+fn rows_that_are_lent_are_copied_where_they_stay(rt: HostRuntime) -> Result<(), Fail> {
+    let alloc = rt.alloc();
+    let mut rows = Rows::new(alloc, 1);
+    rows.push(row_of(alloc, (1, 3)))?;
+    rows.push(row_of(alloc, NULL))?;
+    rows.push(row_of(alloc, (0, 5)))?;
+    let mut targets = Vec::new(alloc);
+    targets.push(target(NULL))?;
+    targets.push(target((0, 5)))?;
+    targets.push(target((1, 3)))?;
+    let got = kept_of(alloc, &rows, targets.as_slice(), Policy::ContainedWithin)?;
+    let want = [row_of(alloc, NULL), row_of(alloc, (0, 5))];
+    assert_eq!(rt; got.as_slice(), &want[..]);
+    assert_eq!(rt; rows.len(), 3);
     Ok(())
 }
 
