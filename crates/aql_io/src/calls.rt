@@ -1,6 +1,8 @@
 ghost use Rattle.std.specs.Prelude.{◌≡◌, ◌≤◌, ◌↔◌, IsTrue, Contains};
 ghost use Rattle.aql_io.specs.Causes.{counted};
 
+use crate::Failed;
+use crate::faults::Faults;
 use std::marker::Model;
 
 /// The calls on an object in memory: the numbers of those that are to fail, how many were made and
@@ -9,7 +11,7 @@ use std::marker::Model;
 pub struct Calls {
     fail: Vec<u64>,
     made: u64,
-    faults: u64,
+    faults: Faults,
 }
 
 impl Model for Calls {
@@ -30,7 +32,7 @@ impl Calls {
         Calls {
             fail,
             made: 0,
-            faults: 0,
+            faults: Faults::new(),
         }
     }
 
@@ -43,11 +45,11 @@ impl Calls {
         self.fail.contains(&self.made)
     }
 
-    /// Counts one more fault.
-    pub fn fault(&mut self)
+    /// Counts one more fault, and gives what the call that failed answers.
+    pub fn fail(&mut self) -> Failed
         ensures faults { self.new ≡ record self.old { faults = counted self.old.faults } }
         ensures later { self.old.faults ≤ self.new.faults }
     {
-        self.faults = self.faults.saturating_add(1);
+        self.faults.fail()
     }
 }

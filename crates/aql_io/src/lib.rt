@@ -10,6 +10,7 @@
 mod calls;
 mod count_sink;
 mod failed;
+mod faults;
 mod files;
 mod mem_files;
 mod mem_sink;

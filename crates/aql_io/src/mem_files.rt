@@ -55,15 +55,11 @@ impl Files for MemFiles {
         ensures calls { calls_on self.new ≡ after_call (calls_on self.old) result }
     {
         if self.calls.begin() {
-            self.calls.fault();
-            return Err(Failed);
+            return Err(self.calls.fail());
         }
         match self.files.get(name) {
             Some(bytes) => Ok(give_at(bytes.as_slice(), at, buf)),
-            None => {
-                self.calls.fault();
-                Err(Failed)
-            }
+            None => Err(self.calls.fail()),
         }
     }
 }

@@ -101,15 +101,13 @@ impl Sink for MemSink {
         ensures calls { self.new.calls ≡ after_call self.old.calls result }
     {
         if self.calls.begin() {
-            self.calls.fault();
-            return Err(Failed);
+            return Err(self.calls.fail());
         }
         let n = piece
             .len()
             .min(self.piece.min(self.room - self.bytes.len()));
         if n < 1 && !piece.is_empty() {
-            self.calls.fault();
-            return Err(Failed);
+            return Err(self.calls.fail());
         }
         self.bytes.extend_from_slice(&piece[..n]).unwrap();
         Ok(n)
@@ -126,8 +124,7 @@ impl Sink for MemSink {
         ensures calls { self.new.calls ≡ after_call self.old.calls result }
     {
         if self.calls.begin() {
-            self.calls.fault();
-            return Err(Failed);
+            return Err(self.calls.fail());
         }
         self.flushed = self.bytes.len();
         Ok(())

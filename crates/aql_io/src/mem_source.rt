@@ -68,8 +68,7 @@ impl Source for MemSource {
         ensures calls { self.new.calls ≡ after_call self.old.calls result }
     {
         if self.calls.begin() {
-            self.calls.fault();
-            return Err(Failed);
+            return Err(self.calls.fail());
         }
         let n = give(&self.bytes[self.at..], self.piece, buf);
         self.at += n;

@@ -2,6 +2,7 @@ ghost use Rattle.std.specs.Prelude.{◌≡◌, None};
 ghost use Rattle.std.specs.Io.{ReadsAtMost};
 ghost use Rattle.aql_io.specs.Causes.{HasCause};
 
+use crate::faults::Faults;
 use crate::{Failed, Files};
 use std::io::{Read, Seek, SeekFrom};
 use std::marker::Model;
@@ -11,7 +12,7 @@ use std::{fs, io, rt};
 #[derive(Drop)]
 pub struct RealFiles<R> {
     files: R,
-    faults: u64,
+    faults: Faults,
 }
 
 impl<R> Model for RealFiles<R> {
@@ -27,7 +28,10 @@ impl<R> RealFiles<R> {
     pub fn new(files: R) -> RealFiles<R>
         ensures { result ≡ record { inner = files; faults = 0 } }
     {
-        RealFiles { files, faults: 0 }
+        RealFiles {
+            files,
+            faults: Faults::new(),
+        }
     }
 }
 
@@ -43,10 +47,7 @@ impl<R: rt::Files> Files for RealFiles<R> {
     {
         match read_at(&self.files, name, at, buf) {
             Ok(n) => Ok(n),
-            Err(_) => {
-                self.faults = self.faults.saturating_add(1);
-                Err(Failed)
-            }
+            Err(_) => Err(self.faults.fail()),
         }
     }
 }

@@ -4,6 +4,7 @@ ghost use Rattle.std.specs.Io.KnownBytes.{WriteAppends, Keeps};
 ghost use Rattle.aql_io.specs.Bytes.{Flushes};
 ghost use Rattle.aql_io.specs.Causes.{HasCause};
 
+use crate::faults::Faults;
 use crate::{Failed, Sink};
 use std::io::Write;
 use std::marker::Model;
@@ -12,7 +13,7 @@ use std::marker::Model;
 #[derive(Drop)]
 pub struct RealSink<W> {
     writer: W,
-    faults: u64,
+    faults: Faults,
 }
 
 impl<W> Model for RealSink<W> {
@@ -28,7 +29,10 @@ impl<W> RealSink<W> {
     pub fn new(writer: W) -> RealSink<W>
         ensures { result ≡ record { inner = writer; faults = 0 } }
     {
-        RealSink { writer, faults: 0 }
+        RealSink {
+            writer,
+            faults: Faults::new(),
+        }
     }
 }
 
@@ -50,14 +54,10 @@ impl<W: Write> Sink for RealSink<W> {
     {
         let n = match self.writer.write(piece) {
             Ok(n) => n,
-            Err(_) => {
-                self.faults = self.faults.saturating_add(1);
-                return Err(Failed);
-            }
+            Err(_) => return Err(self.faults.fail()),
         };
         if n < 1 && !piece.is_empty() {
-            self.faults = self.faults.saturating_add(1);
-            return Err(Failed);
+            return Err(self.faults.fail());
         }
         Ok(n)
     }
@@ -70,10 +70,7 @@ impl<W: Write> Sink for RealSink<W> {
     {
         match self.writer.flush() {
             Ok(()) => Ok(()),
-            Err(_) => {
-                self.faults = self.faults.saturating_add(1);
-                Err(Failed)
-            }
+            Err(_) => Err(self.faults.fail()),
         }
     }
 }

@@ -3,6 +3,7 @@ ghost use Rattle.std.specs.Io.{ReadsAtMost};
 ghost use Rattle.std.specs.Io.KnownBytes.{ReadConsumes};
 ghost use Rattle.aql_io.specs.Causes.{HasCause};
 
+use crate::faults::Faults;
 use crate::{Failed, Source};
 use std::io::Read;
 use std::marker::Model;
@@ -11,7 +12,7 @@ use std::marker::Model;
 #[derive(Drop)]
 pub struct RealSource<R> {
     reader: R,
-    faults: u64,
+    faults: Faults,
 }
 
 impl<R> Model for RealSource<R> {
@@ -27,7 +28,10 @@ impl<R> RealSource<R> {
     pub fn new(reader: R) -> RealSource<R>
         ensures { result ≡ record { inner = reader; faults = 0 } }
     {
-        RealSource { reader, faults: 0 }
+        RealSource {
+            reader,
+            faults: Faults::new(),
+        }
     }
 }
 
@@ -44,10 +48,7 @@ impl<R: Read> Source for RealSource<R> {
     {
         match self.reader.read(buf) {
             Ok(n) => Ok(n),
-            Err(_) => {
-                self.faults = self.faults.saturating_add(1);
-                Err(Failed)
-            }
+            Err(_) => Err(self.faults.fail()),
         }
     }
 }
