@@ -45,12 +45,17 @@ fn given(alloc: Global, table: &[Ends]) -> Result<Rows<'static>, Fail>
 fn pairs(alloc: Global, rows: &Rows<'_>) -> Result<Vec<Pair>, Fail> {
     let mut pairs = Vec::new(alloc);
     for row in rows.as_slice() {
-        if let [Value::Int(left), _, Value::Int(right), _] = row.values() {
-            pairs.push((*left, *right))?;
+        if let (Some(left), Some(right)) = (number(row, 0), number(row, 2)) {
+            pairs.push((left, right))?;
         }
     }
     pairs.sort_unstable();
     Ok(pairs)
+}
+
+/// The number in a column of a row.
+fn number(row: &Row<'_>, column: usize) -> Option<i64> {
+    row.values().get(column)?.as_int()
 }
 
 /// The pairs by a gap in characters.
@@ -426,9 +431,7 @@ fn back<L: Ledger>(
 }
 
 #[test]
-fn the_left_row_stands_in_front_from_the_right_to_the_left_too(
-    rt: HostRuntime,
-) -> Result<(), Fail> {
+fn a_join_back_has_the_left_row_in_front(rt: HostRuntime) -> Result<(), Fail> {
     let left: &[Ends] = &[Some((5, 6)), Some((0, 1)), None, Some((2, 3))];
     let right: &[Ends] = &[Some((0, 2)), Some((2, 4)), Some((5, 7))];
     let (following, contained) = back::<Brand>(rt.alloc(), left, right, Blank::new(1))?;
