@@ -1,6 +1,4 @@
 //! A dictionary in one pass over each document.
-ghost use Rattle.std.specs.Prelude.{◌≤◌, length, All, IfOk, IfSome};
-
 use crate::bench::Bench;
 use crate::tokens::LIMIT;
 use dict_match::{DictMatch, DictPass, DictScratch, DictUse};
@@ -32,23 +30,25 @@ fn entry(alloc: Global, docs: &[Document<'_>], i: usize) -> Result<OwnedText, Ou
     Ok(OwnedText::from(format!(in alloc; "zq{i}")?))
 }
 
-/// A pass of one dictionary that doesn't look at case; None where an entry is too long for one.
+/// The first line of a text as the one entry.
+pub(crate) fn first_line(alloc: Global, text: &str) -> Result<OwnedList<OwnedText>, OutOfMemory> {
+    let mut entries = OwnedList::new(alloc);
+    if let Some(line) = text.lines().next() {
+        entries.push(OwnedText::copied(alloc, line)?)?;
+    }
+    Ok(entries)
+}
+
+/// A pass of one dictionary that doesn't look at case.
 pub(crate) fn pass_of(
     alloc: Global,
     entries: OwnedList<OwnedText>,
-) -> Result<Option<DictPass>, OutOfMemory> {
-    if entries
-        .as_slice()
-        .iter()
-        .any(|entry| entry.as_str().len() > LIMIT)
-    {
-        return Ok(None);
-    }
+) -> Result<DictPass, OutOfMemory> {
     let dict = DictUse {
         entries,
         exact: false,
     };
-    Ok(Some(DictPass::new(alloc, &[dict])?))
+    DictPass::new(alloc, &[dict])
 }
 
 /// A document with its tokens is made of each line, and the pass walks over it.
@@ -67,8 +67,9 @@ impl Bench for Dictionary<'_> {
         for line in self.text.lines() {
             if line.len() <= LIMIT {
                 let doc = Document::new(self.alloc, line, None)?;
+                self.found.clear();
                 self.pass
-                    .find_all(&doc, doc.whole(), &mut self.scratch, &mut self.found)?;
+                    .append_matches(&doc, doc.whole(), &mut self.scratch, &mut self.found)?;
                 count = count.wrapping_add(self.found.len() as u64);
             }
         }

@@ -22,14 +22,14 @@ use aql_regex_extract::{Searcher, WholeSearcher, compile_pattern};
 use bench::{Mode, run};
 use consolidations::{SpanRows, Work, nested};
 use dict_match::DictScratch;
-use dictionaries::{Dictionary, entries, pass_of};
+use dictionaries::{Dictionary, entries, first_line, pass_of};
 use grouping::{FirstRows, Groups, Keep, numbered};
 use joining::{Joins, Pairs, Sides, Test};
 use lexing::Lexing;
 use patterns::{Matches, Runs};
 use rows::{Order, RowPairs, pairs};
 use span_sets::Policy;
-use span_token::{Document, Span, tokens_of_text};
+use span_token::{Document, OwnedList, OwnedText, Span, tokens_of_text};
 use std::alloc::Global;
 use std::io::Eprint;
 use std::rt::{Clock, Files};
@@ -49,6 +49,8 @@ enum Kind {
     Rows(Order),
     /// A dictionary of so many entries, over documents with their tokens.
     Dictionary(usize),
+    /// A dictionary whose one entry is the first line, over documents with their tokens.
+    LineDictionary,
     /// Rows of one span that nest and overlap, made and worked on.
     SpanRows(Work),
     /// Rows in so many groups, with the number and the sum of each.
@@ -62,7 +64,7 @@ enum Kind {
 }
 
 /// The benches with their names.
-const BENCHES: [(&str, Kind); 38] = [
+const BENCHES: [(&str, Kind); 39] = [
     ("tokens", Kind::Tokens),
     ("digits", Kind::Pattern("[0-9]+")),
     ("dates", Kind::Pattern(r"\b\d{4}-\d{2}-\d{2}\b")),
@@ -90,6 +92,7 @@ const BENCHES: [(&str, Kind); 38] = [
     ("rows-mixed", Kind::Rows(Order::Mixed)),
     ("dictionary-10", Kind::Dictionary(10)),
     ("dictionary-10000", Kind::Dictionary(10_000)),
+    ("dictionary-line", Kind::LineDictionary),
     ("spans-made", Kind::SpanRows(Work::Nothing)),
     ("spans-sorted", Kind::SpanRows(Work::Sort)),
     (
@@ -149,7 +152,14 @@ fn run_kind<R: Eprint + Print + Clock + AllocGlobal>(
         Kind::Pattern(pattern) => run_matches(rt, mode, name, pattern, text),
         Kind::TokenRuns(pattern) => run_runs(rt, mode, name, pattern, text),
         Kind::Rows(order) => run_rows(rt, mode, name, order, text),
-        Kind::Dictionary(number) => run_dictionary(rt, mode, name, number, text),
+        Kind::Dictionary(number) => {
+            let docs = documents(rt.alloc(), text)?;
+            let entries = entries(rt.alloc(), docs.as_slice(), number)?;
+            run_dictionary(rt, mode, name, entries, text)
+        }
+        Kind::LineDictionary => {
+            run_dictionary(rt, mode, name, first_line(rt.alloc(), text)?, text)
+        }
         Kind::SpanRows(work) => run_span_rows(rt, mode, name, work, text),
         Kind::Groups(number) => run_groups(rt, mode, name, number, text),
         Kind::FirstRows(keep) => run_first_rows(rt, mode, name, keep, text),
@@ -234,14 +244,11 @@ fn run_dictionary<R: Eprint + Print + Clock + AllocGlobal>(
     rt: &R,
     mode: Mode,
     name: &str,
-    number: usize,
+    entries: OwnedList<OwnedText>,
     text: &str,
 ) -> Result<()> {
     let alloc = rt.alloc();
-    let docs = documents(alloc, text)?;
-    let Some(pass) = pass_of(alloc, entries(alloc, docs.as_slice(), number)?)? else {
-        bail!("{name}: an entry is too long");
-    };
+    let pass = pass_of(alloc, entries)?;
     let scratch = DictScratch::new(alloc);
     let found = Vec::new(alloc);
     let mut bench = Dictionary {

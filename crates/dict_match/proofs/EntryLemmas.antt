@@ -6,7 +6,8 @@ use Rattle.span_token.specs.Documents.{Doc, text_in}
 use Rattle.span_token.specs.Extents.{Extent}
 use Rattle.dict_match.specs.declared.dict_use.DictUse.{DictUse}
 use Rattle.dict_match.specs.declared.trie.End.{End}
-use Rattle.dict_match.specs.Dictionaries.{folded, texts_of, nth_token}
+use Rattle.span_token.specs.SourceTokens.{nth_token}
+use Rattle.dict_match.specs.Dictionaries.{folded, texts_of}
 use Rattle.dict_match.specs.Tries.{end_of, put_texts, put_dict, put_dicts}
 
 pub texts-step : (d : Doc) (tokens : List Extent) (i : ℕ) → i < length tokens → take i (texts_of d tokens) ++ text_in d (nth_token tokens i) ∷ [] ≡ take (i + 1) (texts_of d tokens)

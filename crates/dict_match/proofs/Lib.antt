@@ -1,6 +1,5 @@
 pub mod FoldLemmas
 pub mod TreeLemmas
-pub mod SourceLemmas
 pub mod TrieLemmas
 pub mod PutLemmas
 pub mod WalkLemmas
@@ -8,3 +7,6 @@ pub mod EntryLemmas
 pub mod RowLemmas
 pub mod SplitLemmas
 pub mod InsideLemmas
+pub mod MatchLaws
+pub mod StepLemmas
+pub mod AppendLemmas

@@ -154,13 +154,13 @@ module _ (trie : Trie) (dicts : List DictUse) (node : ℕ) (texts : List Text) (
     spelled = agree-spelled dict.exact texts (entry_texts agrees.entry) agrees.agree;
   }
 
-  pub agrees-end : (i : ℕ) (dict : DictUse) → slice_get dicts i ≡ Some dict → HasEndFor i texts here → AgreesWith dict texts
-  agrees-end i dict at has =
+  pub agrees-end : (i : ℕ) (dict : DictUse) → slice_get dicts i ≡ Some dict → 0 < length texts → HasEndFor i texts here → AgreesWith dict texts
+  agrees-end i dict at some has =
       let put = end-put has.end has.listed in
       let number : put.number ≡ i = omega (arith, put.dict_is, has.dict_is) in
       let same : put.dict ≡ dict = some_same put.dict dict (sym put.at ∙ ap (slice_get dicts) number ∙ at) in
       let agree = agree-back put.dict.exact texts (entry_texts put.entry) put.path_is (subst (IsSpelled texts) put.spelled_is has.spelled) in
-      subst (λ (d : DictUse). AgreesWith d texts) same (record { entry = put.entry; listed = put.listed; agree = agree })
+      subst (λ (d : DictUse). AgreesWith d texts) same (record { filled = some; entry = put.entry; listed = put.listed; agree = agree })
 
   pub one-each : HasOneEach texts here
   one-each i j d lt low same a b =

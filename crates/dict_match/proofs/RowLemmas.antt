@@ -1,15 +1,16 @@
 -- The rows of each dictionary, when one more match is put.
 use Rattle.std.proofs.Common.{◌≡◌, ℕ, ◌+◌, ◌<◌, ◌⊎◌, inl, inr, Bool, true, false, cond, ◌==◌, List, [], ◌∷◌, ◌++◌, map, length, take, get_or, refl, sym, ap, ap₂, subst, ◌∙◌, arith}
+use Rattle.std.specs.Bool.{Decides}
 use Rattle.std.specs.List.{Contains, filter}
 use Rattle.std.proofs.lemmas.Bool.{cases_eq}
 use Rattle.std.proofs.lemmas.Bool.Decides.{eqb_tells}
-use Rattle.std.proofs.lemmas.List.{map-append, append-nil, take_more, length-take, get_or-take, get_or_default}
-use Rattle.std.proofs.lemmas.List.Elements.{Contains-append_left, Contains-push, Contains-push_cases, filter-append}
+use Rattle.std.proofs.lemmas.List.{map-append, append-nil, append_assoc, take_more, length-take, get_or-take, get_or_default}
+use Rattle.std.proofs.lemmas.List.Elements.{Contains-append_left, Contains-push, Contains-push_cases, All-append, All-push, filter-append}
 use Rattle.span_token.specs.Extents.{Extent, extent_of}
 use Rattle.dict_match.specs.declared.trie.End.{End}
 use Rattle.dict_match.specs.declared.walk.DictMatch.{DictMatch}
 use Rattle.dict_match.specs.Rows.{dict_and_extent, extents_for}
-use Rattle.dict_match.specs.Walks.{IsSpelled, HasEndFor, HasOneEach, PutsWhere}
+use Rattle.dict_match.specs.Walks.{IsSpelled, HasEndFor, HasOneEach, PutsWhere, Extends}
 
 abbrev Pair : Type 0
 Pair = ℕ × Extent
@@ -64,7 +65,7 @@ has-here i texts ends k end lt is same spelled = record {
   spelled = spelled;
 }
 
-has-cases : (i : ℕ) (texts : List (List ℕ)) (ends : List End) (k : ℕ) (end : End) → k < length ends → end ≡ get_or ends k end → HasEndFor i texts (take (k + 1) ends) →
+pub has-cases : (i : ℕ) (texts : List (List ℕ)) (ends : List End) (k : ℕ) (end : End) → k < length ends → end ≡ get_or ends k end → HasEndFor i texts (take (k + 1) ends) →
     HasEndFor i texts (take k ends) ⊎ ((end.dict ≡ i) × IsSpelled texts end.spelled)
 has-cases i texts ends k end lt is has = elim (Contains-push_cases (take k ends) (get_or ends k end) has.end (subst (λ (es : List End). Contains es has.end) (take_more ends k end lt) has.listed)) [
   | inl a ↦ inl (record { end = has.end; listed = a; dict_is = has.dict_is; spelled = has.spelled })
@@ -119,3 +120,32 @@ module _ (i : ℕ) (texts : List (List ℕ)) (ends : List End) (k : ℕ) (end : 
 -- before the first end
 pub puts-none : (i : ℕ) (texts : List (List ℕ)) (ends : List End) (run : Extent) (old : List Extent) → PutsWhere (HasEndFor i texts (take 0 ends)) run old old
 puts-none i texts ends run old = inr (λ has. let low = has.listed.1 in absurd (omega (arith, low)), refl)
+
+-- ---- lists that go on after others
+
+-- an extent is put where a test says so
+pub puts-cond : (P : Type 0) (b : Bool) (e : Extent) (old new : List Extent) → Decides b P → PutsWhere P e old new → new ≡ old ++ cond b (e ∷ []) []
+puts-cond P true e old new means (inl put) = put.1
+puts-cond P true e old new means (inr kept) = absurd (kept.0 (means.0 refl))
+puts-cond P false e old new means (inl put) = let no : false ≡ true = means.1 put.0 in cc
+puts-cond P false e old new means (inr kept) = kept.1 ∙ sym (append-nil old)
+
+pub extends-none : (n : ℕ) (ms : List DictMatch) → Extends n ms ms
+extends-none n ms = record { added = []; after = sym (append-nil ms); places = λ k d lt. absurd (omega (arith, lt)) }
+
+pub extends-more : (n : ℕ) (one two three : List DictMatch) → Extends n one two → Extends n two three → Extends n one three
+extends-more n one two three first second = record {
+  added = first.added ++ second.added;
+  after = second.after ∙ ap (λ (ms : List DictMatch). ms ++ second.added) first.after ∙ append_assoc one first.added second.added;
+  places = All-append (λ (m : DictMatch). m.dict < n) first.added second.added first.places second.places;
+}
+
+pub extends-push : (n : ℕ) (old now new : List DictMatch) (m : DictMatch) → m.dict < n → Extends n old now → new ≡ now ++ m ∷ [] → Extends n old new
+extends-push n old now new m low so_far pushed =
+    extends-more n old now new so_far (record { added = m ∷ []; after = pushed; places = All-push (λ (x : DictMatch). x.dict < n) [] m (λ k d lt. absurd (omega (arith, lt))) low })
+
+-- the extents of lists one behind the other
+pub extents-append : (i : ℕ) (ms ns : List Pair) → extents_for i (ms ++ ns) ≡ extents_for i ms ++ extents_for i ns
+extents-append i ms ns =
+    ap (map (λ (p : Pair). p.1)) (filter-append (λ (p : Pair). p.0 == i) ms ns)
+    ∙ map-append (λ (p : Pair). p.1) (filter (λ (p : Pair). p.0 == i) ms) (filter (λ (p : Pair). p.0 == i) ns)

@@ -1,5 +1,5 @@
 -- Matches are put into the row of their dictionary.
-use Rattle.std.proofs.Common.{◌≡◌, ℕ, ◌+◌, ◌<◌, List, [], ◌∷◌, ◌++◌, inl, inr, map, length, take, get_or, replicate, sym, ap, ◌∙◌, arith}
+use Rattle.std.proofs.Common.{◌≡◌, ℕ, ◌+◌, ◌<◌, List, [], ◌∷◌, ◌++◌, inl, inr, map, length, take, get_or, replicate, All, sym, ap, ◌∙◌, arith}
 use Rattle.std.proofs.lemmas.Bool.{cases_eq}
 use Rattle.std.proofs.lemmas.List.{map-append, append_assoc, take_more, get_or-map, get_or-set_same, get_or-set_other, get_or-replicate, length-replicate, length-map}
 use Rattle.std.proofs.Math.ListN.{set, length-set}
@@ -48,3 +48,9 @@ module _ {A : Type 0} where
 
   pub number-of_rows : (rows : List (Vec Span A)) (n : ℕ) → extents_of_rows rows ≡ replicate n [] → length rows ≡ n
   number-of_rows rows n is = sym (length-map rows row_extents) ∙ ap length is ∙ length-replicate n []
+
+-- a match's dictionary is among so many
+pub low-of : (found : List DictMatch) (n idx : ℕ) (one : DictMatch) → idx < length found → one ≡ get_or found idx one → All (λ (m : ℕ × Extent). m.0 < n) (map dict_and_extent found) → one.dict < n
+low-of found n idx one lt is all =
+    let here : get_or (map dict_and_extent found) idx (dict_and_extent one) ≡ dict_and_extent one = get_or-map dict_and_extent found idx one (dict_and_extent one) lt ∙ ap dict_and_extent (sym is) in
+    omega (arith, all idx (dict_and_extent one) (omega (arith, lt, length-map found dict_and_extent)), ap (λ (m : ℕ × Extent). m.0) here)

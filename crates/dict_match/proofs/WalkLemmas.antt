@@ -1,22 +1,18 @@
--- The walk over the tokens: what was found up to a token, in order.
-use Rattle.std.proofs.Common.{◌≡◌, ℕ, zero, suc, ◌+◌, ◌-◌, ◌<◌, ◌≤◌, ◌↔◌, ◌⊎◌, inl, inr, List, [], ◌∷◌, ◌++◌, map, length, take, drop, get_or, slice_get, slice_range, Option, Some, None, option_and_then, Bool, true, false, not, nat_eq, refl, sym, ap, ap₂, subst, ◌∙◌, arith}
-use Rattle.std.specs.List.{Contains}
+-- The walk over the tokens: the texts of runs, and where the tree leads.
+use Rattle.std.proofs.Common.{◌≡◌, ℕ, zero, suc, ◌+◌, ◌-◌, ◌<◌, ◌≤◌, List, [], ◌∷◌, ◌++◌, map, length, take, drop, get_or, slice_get, slice_range, Option, Some, None, option_and_then, Bool, true, false, not, nat_eq, refl, sym, ap, ◌∙◌, arith}
 use Rattle.std.specs.Cmp.Lexicographic.{pointwise, same_text, other_text}
 use Rattle.std.specs.HashMap.{get_by_text}
-use Rattle.std.proofs.lemmas.Bool.{cases_lt}
-use Rattle.std.proofs.lemmas.List.{length-map, length-take, length-drop, take_more, take-map, get_or-map, get_or-drop, map-append}
-use Rattle.std.proofs.lemmas.List.Elements.{Contains-get_or, Contains-append_left, Contains-push, Contains-push_cases}
-use Rattle.std.proofs.lemmas.List.Quantifiers.{all_pairs_push}
+use Rattle.std.proofs.lemmas.List.{length-map, length-take, length-drop, take_more, take-map, take_all, get_or-map, get_or-drop, get_or-take, map-append, length-append}
 use Rattle.span_token.specs.Documents.{text_in}
 use Rattle.span_token.specs.Extents.{Extent}
 use Rattle.dict_match.specs.declared.dict_use.DictUse.{DictUse}
 use Rattle.dict_match.specs.declared.trie.Trie.{Trie}
-use Rattle.dict_match.specs.Dictionaries.{folded, entry_texts, texts_of, nth_token, run_extent, AgreesWith, IsMatch, IsBefore, AreInOrder}
-use Rattle.dict_match.specs.Sources.{SomeTokens, InTextOrder}
+use Rattle.span_token.specs.SourceTokens.{nth_token}
+use Rattle.dict_match.specs.Dictionaries.{folded, entry_texts, texts_of, AgreesWith}
+use Rattle.span_token.specs.SourceTokens.{SomeTokens}
 use Rattle.dict_match.specs.Tries.{end_of, put_dicts, step, edge_from, Reaches}
-use Rattle.dict_match.specs.Walks.{numbers_of, run_texts, PutsWhere, IsMatchUpto}
+use Rattle.dict_match.specs.Walks.{numbers_of, run_texts, AreNumbers}
 use Rattle.dict_match.proofs.PutLemmas.{agreed-put}
-use Rattle.dict_match.proofs.SourceLemmas.{nth-part}
 
 abbrev Text : Type 0
 Text = List ℕ
@@ -66,142 +62,6 @@ keys-take tokens first last past le lt =
     ∙ ap (map folded) (take-map (text_in tokens.doc) (last + 1 - first) (slice_range tokens.tokens first past)
     ∙ ap (texts_of tokens.doc) (take-shorter (drop first tokens.tokens) (last + 1 - first) (past - first) (omega arith)))
 
--- ---- one more step
-
-widened : (dict : DictUse) (tokens : SomeTokens) (first last : ℕ) (e : Extent) → IsMatchUpto dict tokens first last e → IsMatchUpto dict tokens first (last + 1) e
-widened dict tokens first last e m = record {
-  match = m.match;
-  upto = elim m.upto [ inl a ↦ inl a | inr a ↦ inr (a.0, omega (arith, a.1)) ];
-}
-
-before-run : (dict : DictUse) (tokens : SomeTokens) (first last : ℕ) (e : Extent) → InTextOrder tokens.tokens → first ≤ last → last < length tokens.tokens →
-    IsMatchUpto dict tokens first last e → IsBefore e (run_extent tokens.tokens first last)
-before-run dict tokens first last e order le lt m =
-    let match = m.match in
-    let begins : e.begin ≡ (nth_token tokens.tokens match.first).begin = ap (λ (x : Extent). x.begin) match.extent_is in
-    let ends : e.end ≡ (nth_token tokens.tokens (match.past - 1)).end = ap (λ (x : Extent). x.end) match.extent_is in
-    elim m.upto [
-      | inl a ↦
-          let one = order.filled match.first (omega (arith, a, le, lt)) in
-          let two = order.apart match.first first a (omega (arith, le, lt)) in
-          inl (omega (arith, begins, one, two))
-      | inr a ↦
-          let some = match.some in
-          let two = order.apart (match.past - 1) last (omega (arith, a.0, a.1, some, le)) lt in
-          let three = order.filled last lt in
-          inr (begins ∙ ap (λ (n : ℕ). (nth_token tokens.tokens n).begin) a.0, omega (arith, ends, two, three))
-    ]
-
-new-match : (dict : DictUse) (tokens : SomeTokens) (first last : ℕ) → first ≤ last → last < length tokens.tokens → AgreesWith dict (run_texts tokens first (last + 1)) →
-    IsMatchUpto dict tokens first (last + 1) (run_extent tokens.tokens first last)
-new-match dict tokens first last le lt agrees =
-    let place : last ≡ last + 1 - 1 = omega arith in
-    record {
-      match = record {
-        first = first;
-        past = last + 1;
-        some = omega (arith, le);
-        there = omega (arith, lt);
-        agrees = agrees;
-        extent_is = ap (run_extent tokens.tokens first) place;
-      };
-      upto = inr (refl, omega arith);
-    }
-
--- a match from the one token is an older one, or that of the last run
-last-cases : (dict : DictUse) (tokens : SomeTokens) (first last : ℕ) (e : Extent) → IsMatchUpto dict tokens first (last + 1) e →
-    IsMatchUpto dict tokens first last e ⊎ (AgreesWith dict (run_texts tokens first (last + 1)) × (run_extent tokens.tokens first last ≡ e))
-last-cases dict tokens first last e m = elim m.upto [
-  | inl a ↦ inl (record { match = m.match; upto = inl a })
-  | inr a ↦ elim (cases_lt last m.match.past) [
-    | inl more ↦
-        let past : m.match.past ≡ last + 1 = omega (arith, a.1, more) in
-        let final : m.match.past - 1 ≡ last = omega (arith, past) in
-        inr (
-          subst (AgreesWith dict) (ap₂ (run_texts tokens) a.0 past) m.match.agrees,
-          sym (m.match.extent_is ∙ ap₂ (run_extent tokens.tokens) a.0 final),
-        )
-    | inr le ↦ inl (record { match = m.match; upto = inr (a.0, omega (arith, le)) })
-  ]
-]
-
-pub upto-step : (dict : DictUse) (tokens : SomeTokens) (first last : ℕ) (Q : Type 0) (old new : List Extent) → InTextOrder tokens.tokens → first ≤ last → last < length tokens.tokens →
-    Q ↔ AgreesWith dict (run_texts tokens first (last + 1)) → PutsWhere Q (run_extent tokens.tokens first last) old new →
-    AreInOrder (IsMatchUpto dict tokens first last) old → AreInOrder (IsMatchUpto dict tokens first (last + 1)) new
-upto-step dict tokens first last Q old new order le lt means (inl put) are =
-    let run = run_extent tokens.tokens first last in
-    subst (AreInOrder (IsMatchUpto dict tokens first (last + 1))) (sym put.1) (record {
-      rising = all_pairs_push IsBefore old run are.rising (λ k d low. before-run dict tokens first last (get_or old k d) order le lt ((are.exactly (get_or old k d)).0 (Contains-get_or old k d low)));
-      exactly = λ e. (
-        λ c. elim (Contains-push_cases old run e c) [
-          | inl a ↦ widened dict tokens first last e ((are.exactly e).0 a)
-          | inr a ↦ subst (IsMatchUpto dict tokens first (last + 1)) a (new-match dict tokens first last le lt (means.0 put.0))
-        ],
-        λ m. elim (last-cases dict tokens first last e m) [
-          | inl a ↦ Contains-append_left old (run ∷ []) e ((are.exactly e).1 a)
-          | inr a ↦ subst (Contains (old ++ run ∷ [])) a.1 (Contains-push old run)
-        ],
-      );
-    })
-upto-step dict tokens first last Q old new order le lt means (inr kept) are =
-    subst (AreInOrder (IsMatchUpto dict tokens first (last + 1))) (sym kept.1) (record {
-      rising = are.rising;
-      exactly = λ e. (
-        λ c. widened dict tokens first last e ((are.exactly e).0 c),
-        λ m. elim (last-cases dict tokens first last e m) [
-          | inl a ↦ (are.exactly e).1 a
-          | inr a ↦ absurd (kept.0 (means.1 a.0))
-        ],
-      );
-    })
-
--- ---- the next token
-
--- no longer run from the one token agrees with an entry
-pub upto-stop : (dict : DictUse) (tokens : SomeTokens) (first last : ℕ) (found : List Extent) →
-    ((past : ℕ) → last < past → past ≤ length tokens.tokens → AgreesWith dict (run_texts tokens first past) → ⊥) →
-    AreInOrder (IsMatchUpto dict tokens first last) found → AreInOrder (IsMatchUpto dict tokens (first + 1) (first + 1)) found
-upto-stop dict tokens first last found none are = record {
-  rising = are.rising;
-  exactly = λ e. (
-    λ c. let m = (are.exactly e).0 c in
-        record { match = m.match; upto = inl (elim m.upto [ inl a ↦ omega (arith, a) | inr a ↦ omega (arith, a.0) ]) },
-    λ m. (are.exactly e).1 (back e m),
-  );
-} where
-  back : (e : Extent) → IsMatchUpto dict tokens (first + 1) (first + 1) e → IsMatchUpto dict tokens first last e
-  back e m = elim m.upto [
-    | inl a ↦ elim (cases_lt m.match.first first) [
-      | inl lt ↦ record { match = m.match; upto = inl lt }
-      | inr le ↦
-          let here : m.match.first ≡ first = omega (arith, a, le) in
-          elim (cases_lt last m.match.past) [
-            | inl more ↦ absurd (none m.match.past more m.match.there (subst (λ (n : ℕ). AgreesWith dict (run_texts tokens n m.match.past)) here m.match.agrees))
-            | inr fewer ↦ record { match = m.match; upto = inr (here, omega (arith, fewer)) }
-          ]
-    ]
-    | inr a ↦ let some = m.match.some in absurd (omega (arith, a.0, a.1, some))
-  ]
-
-pub upto-start : (dict : DictUse) (tokens : SomeTokens) → AreInOrder (IsMatchUpto dict tokens 0 0) []
-upto-start dict tokens = record {
-  rising = λ i j d lt low. absurd (omega (arith, low));
-  exactly = λ e. (
-    λ c. absurd (let low = c.1 in omega (arith, low)),
-    λ m. let some = m.match.some in absurd (elim m.upto [ inl a ↦ omega (arith, a) | inr a ↦ omega (arith, a.0, a.1, some) ]),
-  );
-}
-
-pub upto-end : (dict : DictUse) (tokens : SomeTokens) (n : ℕ) (found : List Extent) → length tokens.tokens ≤ n → AreInOrder (IsMatchUpto dict tokens n n) found →
-    AreInOrder (IsMatch dict tokens.doc tokens.tokens) found
-upto-end dict tokens n found long are = record {
-  rising = are.rising;
-  exactly = λ e. (
-    λ c. ((are.exactly e).0 c).match,
-    λ m. let some = m.some in let there = m.there in (are.exactly e).1 (record { match = m; upto = inl (omega (arith, some, there, long)) }),
-  );
-}
-
 -- ---- the tree
 
 -- where no step leads on, no entry begins so
@@ -233,7 +93,7 @@ pub run_texts-nth : (tokens : SomeTokens) (first past i : ℕ) → i < past - fi
 run_texts-nth tokens first past i lt within =
     get_or-map (text_in tokens.doc) (slice_range tokens.tokens first past) i (record { begin = 0; end = 0 }) []
     (omega (arith, lt, within, length-take (past - first) (drop first tokens.tokens), length-drop first tokens.tokens))
-    ∙ ap (text_in tokens.doc) (nth-part tokens.tokens first past i lt)
+    ∙ ap (text_in tokens.doc) (get_or-take (past - first) (drop first tokens.tokens) i _ lt ∙ get_or-drop first tokens.tokens i _)
 
 -- a run of no token
 pub keys-none : (tokens : SomeTokens) (first : ℕ) → keys tokens first first ≡ []
@@ -241,12 +101,43 @@ keys-none tokens first =
     let none : first - first ≡ 0 = omega arith in
     ap (λ (n : ℕ). map folded (texts_of tokens.doc (take n (drop first tokens.tokens)))) none
 
-pub step-at : (trie : Trie) (tokens : SomeTokens) (words : List (Option ℕ)) (node last : ℕ) → last < length tokens.tokens → words ≡ numbers_of trie tokens →
-    option_and_then (edge_from trie node) (get_or words last None) ≡ step trie node (key tokens last)
+-- ---- the numbers of tokens
+
+pub number-of : (trie : Trie) (tokens : SomeTokens) (i : ℕ) (d : Option ℕ) → i < length tokens.tokens → get_or (numbers_of trie tokens) i d ≡ get_by_text trie.words (key tokens i)
+number-of trie tokens i d lt = get_or-map (λ (t : Extent). get_by_text trie.words (folded (text_in tokens.doc t))) tokens.tokens i (record { begin = 0; end = 0 }) d lt
+
+-- where a number leads
+pub step-of : (trie : Trie) (node : ℕ) (text : Text) (word next : Option ℕ) → word ≡ get_by_text trie.words text → next ≡ option_and_then (edge_from trie node) word → step trie node text ≡ next
 unfolding step
-step-at trie tokens words node last lt is =
-    ap (option_and_then (edge_from trie node))
-    (ap (λ (ws : List (Option ℕ)). get_or ws last None) is ∙ get_or-map (λ (t : Extent). get_by_text trie.words (folded (text_in tokens.doc t))) tokens.tokens last (record { begin = 0; end = 0 }) None lt)
+step-of trie node text word next is leads = sym (leads ∙ ap (option_and_then (edge_from trie node)) is)
+
+pub step-at : (trie : Trie) (tokens : SomeTokens) (words : List (Option ℕ)) (node last : ℕ) (d next : Option ℕ) → last < length tokens.tokens → words ≡ numbers_of trie tokens →
+    next ≡ option_and_then (edge_from trie node) (get_or words last d) → step trie node (key tokens last) ≡ next
+step-at trie tokens words node last d next lt are leads =
+    step-of trie node (key tokens last) (get_or words last d) next (ap (λ (ws : List (Option ℕ)). get_or ws last d) are ∙ number-of trie tokens last d lt) leads
+
+pub known-number : (trie : Trie) (tokens : SomeTokens) (words : List (Option ℕ)) (i : ℕ) (d : Option ℕ) → AreNumbers trie tokens words → i < length words → i < length tokens.tokens →
+    get_or words i d ≡ get_by_text trie.words (key tokens i)
+known-number trie tokens words i d are known lt =
+    ap (λ (ws : List (Option ℕ)). get_or ws i d) are ∙ get_or-take (length words) (numbers_of trie tokens) i d known ∙ number-of trie tokens i d lt
+
+pub more-numbers : (trie : Trie) (tokens : SomeTokens) (words new : List (Option ℕ)) (i : ℕ) (word : Option ℕ) → AreNumbers trie tokens words → i ≡ length words → i < length tokens.tokens →
+    word ≡ get_by_text trie.words (key tokens i) → new ≡ words ++ word ∷ [] → AreNumbers trie tokens new
+more-numbers trie tokens words new i word are next lt is pushed =
+    let long : length new ≡ i + 1 = omega (arith, ap length pushed, length-append words (word ∷ []), next) in
+    pushed
+    ∙ ap (λ (ws : List (Option ℕ)). ws ++ word ∷ []) (are ∙ ap (λ (n : ℕ). take n (numbers_of trie tokens)) (sym next))
+    ∙ numbers-step trie tokens i word lt is
+    ∙ ap (λ (n : ℕ). take n (numbers_of trie tokens)) (sym long)
+
+pub no-numbers : (trie : Trie) (tokens : SomeTokens) (words : List (Option ℕ)) → words ≡ [] → AreNumbers trie tokens words
+no-numbers trie tokens words none = none ∙ sym (ap (λ (ws : List (Option ℕ)). take (length ws) (numbers_of trie tokens)) none)
+
+-- all tokens as a run
+pub run-all : (tokens : SomeTokens) → run_texts tokens 0 (length tokens.tokens) ≡ texts_of tokens.doc tokens.tokens
+run-all tokens =
+    let all : length tokens.tokens - 0 ≡ length tokens.tokens = omega arith in
+    ap (λ (n : ℕ). texts_of tokens.doc (take n tokens.tokens)) all ∙ ap (texts_of tokens.doc) (take_all (length tokens.tokens) tokens.tokens (omega arith))
 
 -- what `!=` of two texts tells
 told : (xs ys : Text) (p b : Bool) → p ≡ pointwise nat_eq xs ys → b ≡ not p → (b ≡ false → xs ≡ ys) × (b ≡ true → xs ≡ ys → ⊥)

@@ -1,10 +1,11 @@
 -- What dictionaries match: runs of tokens that agree with an entry, token by token.
-use Rattle.std.specs.Prelude.{◌≡◌, ℕ, ◌<◌, ◌≤◌, ◌-◌, ◌⊎◌, ◌↔◌, Bool, true, false, List, map, length, slice_range, slice_index_or, None, chars, encode_utf8_all}
-use Rattle.std.specs.List.{AllPairs, Contains, filter}
+use Rattle.std.specs.Prelude.{◌≡◌, ℕ, ◌<◌, ◌≤◌, ◌-◌, Bool, true, false, List, map, length, slice_range, None, chars, encode_utf8_all}
+use Rattle.std.specs.List.{Contains}
 use Rattle.caseless.specs.Caseless.{default_case_fold}
-use Rattle.span_token.specs.Documents.{Doc, characters, text_in}
+use Rattle.span_token.specs.Documents.{Doc, text_in}
 use Rattle.span_token.specs.Extents.{Extent}
-use Rattle.span_token.specs.Relations.{does_contain}
+use Rattle.span_token.specs.SourceTokens.{tokens_in, run_extent}
+use Rattle.span_token.specs.SpanOrder.{AreInOrder}
 use Rattle.span_token.specs.Tokens.{tokens_of}
 use Rattle.dict_match.specs.declared.dict_use.DictUse.{DictUse}
 
@@ -29,23 +30,12 @@ abbrev pub Agree : Bool → List (List ℕ) → List (List ℕ) → Type 0
 Agree true xs ys = xs ≡ ys
 Agree false xs ys = map folded xs ≡ map folded ys
 
--- tokens with these texts agree with some entry of a dictionary
+-- tokens with these texts, one or more, agree with some entry of a dictionary
 pub record AgreesWith (dict : DictUse) (texts : List (List ℕ)) : Type 0 where
+  pub filled : 0 < length texts
   pub entry : List ℕ
   pub listed : Contains dict.entries entry
   pub agree : Agree dict.exact texts (entry_texts entry)
-
--- the tokens wholly in an extent
-abbrev pub tokens_in : Doc → Extent → List Extent
-tokens_in d source = filter (does_contain source) (tokens_of (characters d))
-
--- token number `i`
-abbrev pub nth_token : List Extent → ℕ → Extent
-nth_token tokens i = slice_index_or tokens i (record { begin = 0; end = 0 })
-
--- from the begin of a token to the end of another
-abbrev pub run_extent : List Extent → ℕ → ℕ → Extent
-run_extent tokens first last = record { begin = (nth_token tokens first).begin; end = (nth_token tokens last).end }
 
 -- an extent that a dictionary matches among tokens: that of a run of one or more of them
 pub record IsMatch (dict : DictUse) (d : Doc) (tokens : List Extent) (e : Extent) : Type 0 where
@@ -55,15 +45,6 @@ pub record IsMatch (dict : DictUse) (d : Doc) (tokens : List Extent) (e : Extent
   pub there : past ≤ length tokens
   pub agrees : AgreesWith dict (texts_of d (slice_range tokens first past))
   pub extent_is : e ≡ run_extent tokens first (past - 1)
-
--- span order: by begin, and then by end
-abbrev pub IsBefore : Extent → Extent → Type 0
-IsBefore a b = (a.begin < b.begin) ⊎ ((a.begin ≡ b.begin) × (a.end < b.end))
-
--- exactly the extents with a property, each once and in span order
-pub record AreInOrder (P : Extent → Type 0) (extents : List Extent) : Type 0 where
-  pub rising : AllPairs IsBefore extents
-  pub exactly : (e : Extent) → Contains extents e ↔ P e
 
 -- exactly the extents that a dictionary matches among the tokens wholly in a source
 abbrev pub AreMatches : DictUse → Doc → Extent → List Extent → Type 0

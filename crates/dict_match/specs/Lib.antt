@@ -1,9 +1,9 @@
+-- ---- words of public clauses
 -- what a dictionary matches, and several
 pub mod Dictionaries
+pub mod DictMatches
 pub mod Rows
--- not in any public clause: tokens in a row
-pub mod Sources
-pub mod SourceLayout
+-- ---- words of private clauses
 -- the tree of all entries, and how a pass keeps it
 pub mod Tries
 pub mod Passes

@@ -1,14 +1,15 @@
 -- Steps of the walk over the tokens.
-use Rattle.std.specs.Prelude.{◌≡◌, ℕ, ◌<◌, ◌≤◌, ◌⊎◌, List, [], ◌∷◌, ◌++◌, map, length, slice_index_or, slice_range, Option, Some, None}
-use Rattle.std.specs.List.{Contains}
+use Rattle.std.specs.Prelude.{◌≡◌, ℕ, ◌<◌, ◌≤◌, ◌⊎◌, List, [], ◌∷◌, ◌++◌, ◌+◌, map, take, length, slice_index_or, slice_range, Option, Some, None}
+use Rattle.std.specs.List.{All, Contains}
 use Rattle.std.specs.HashMap.{get_by_text}
 use Rattle.span_token.specs.Documents.{text_in}
 use Rattle.span_token.specs.Extents.{Extent}
 use Rattle.dict_match.specs.declared.dict_use.DictUse.{DictUse}
 use Rattle.dict_match.specs.declared.trie.End.{End}
 use Rattle.dict_match.specs.declared.trie.Trie.{Trie}
-use Rattle.dict_match.specs.Dictionaries.{folded, texts_of, IsMatch}
-use Rattle.dict_match.specs.Sources.{SomeTokens}
+use Rattle.dict_match.specs.declared.walk.DictMatch.{DictMatch}
+use Rattle.dict_match.specs.Dictionaries.{folded, texts_of, AgreesWith}
+use Rattle.span_token.specs.SourceTokens.{SomeTokens}
 
 -- what the tree's words have for the foldings of some tokens
 abbrev pub numbers_of : Trie → SomeTokens → List (Option ℕ)
@@ -40,7 +41,19 @@ HasOneEach texts ends = (i j : ℕ) (d : End) → i < j → j < length ends
 abbrev pub PutsWhere : Type 0 → Extent → List Extent → List Extent → Type 0
 PutsWhere P e old new = (P × (new ≡ old ++ e ∷ [])) ⊎ ((P → ⊥) × (new ≡ old))
 
--- a match from a token before the one with number `first`, or from that one with tokens before `past` alone
-pub record IsMatchUpto (dict : DictUse) (tokens : SomeTokens) (first past : ℕ) (e : Extent) : Type 0 where
-  pub match : IsMatch dict tokens.doc tokens.tokens e
-  pub upto : (match.first < first) ⊎ ((match.first ≡ first) × (match.past ≤ past))
+-- some run from token number `first`, with its last token before number `past`, agrees with an entry
+pub record HasRun (dict : DictUse) (tokens : SomeTokens) (first past : ℕ) : Type 0 where
+  pub last : ℕ
+  pub «from» : first ≤ last
+  pub before : last < past
+  pub agrees : AgreesWith dict (run_texts tokens first (last + 1))
+
+-- the numbers of the foldings of the first tokens
+abbrev pub AreNumbers : Trie → SomeTokens → List (Option ℕ) → Type 0
+AreNumbers trie tokens words = words ≡ take (length words) (numbers_of trie tokens)
+
+-- a list goes on after another, with matches of dictionaries before place `n`
+pub record Extends (n : ℕ) (old new : List DictMatch) : Type 0 where
+  pub added : List DictMatch
+  pub after : new ≡ old ++ added
+  pub places : All (λ (m : DictMatch). m.dict < n) added

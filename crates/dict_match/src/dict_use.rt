@@ -15,8 +15,8 @@ pub struct DictUse {
 }
 
 impl DictUse {
-    /// A copy.
-    pub(crate) fn copied(&self, alloc: Global) -> Result<DictUse, OutOfMemory>
+    /// A copy, for a pass of its own.
+    pub fn copied(&self, alloc: Global) -> Result<DictUse, OutOfMemory>
         ensures { IfOk result (λ copy. copy ≡ self.now) }
     {
         let entries = copied_texts(alloc, self.entries.as_slice())?;

@@ -1,15 +1,18 @@
-ghost use Rattle.std.specs.Prelude.{◌≡◌, ◌≤◌, ◌<◌, ◌++◌, ℕ, [], length, replicate, slice_index_or, map, slice_get, Some, IfOk, OnOk, All};
+ghost use Rattle.std.specs.Prelude.{◌≡◌, ◌<◌, ◌↔◌, ◌++◌, List, ℕ, [], length, replicate, slice_index_or, map, slice_get, Some, IfOk, OnOk, IsTrue, All};
 ghost use Rattle.span_token.specs.Documents.{LiesIn};
-ghost use Rattle.span_token.specs.Extents.{extent_of};
+ghost use Rattle.span_token.specs.Extents.{Extent, extent_of};
+ghost use Rattle.span_token.specs.Relations.{ContainsExtent};
+ghost use Rattle.span_token.specs.SourceTokens.{tokens_in};
 ghost use Rattle.dict_match.specs.declared.dict_use.DictUse.{DictUse};
-ghost use Rattle.dict_match.specs.Dictionaries.{AreMatches};
-ghost use Rattle.dict_match.specs.Rows.{dict_and_extent, extents_for, extents_of_rows, AreRowsOfEach, IsInside};
+ghost use Rattle.dict_match.specs.Dictionaries.{texts_of, AgreesWith, IsMatch, AreMatches};
+ghost use Rattle.dict_match.specs.DictMatches.{does_agree, does_match, dict_matches};
+ghost use Rattle.dict_match.specs.Rows.{dict_and_extent, extents_for, extents_of_rows, AreRowsOfEach, AppendsMatches};
 
 use crate::dict_use::{DictUse, copied_dicts};
-use crate::source::SourceTokens;
+use crate::probe::{has_run, is_entry};
 use crate::trie::Trie;
 use crate::walk::{DictMatch, number_tokens, push_matches};
-use span_token::{Document, OutOfMemory, OwnedList, Span};
+use span_token::{Document, OutOfMemory, OwnedList, SourceTokens, Span, TokenRoom};
 use std::alloc::Global;
 use std::marker::Model;
 
@@ -38,6 +41,7 @@ impl Model for DictPass {
 /// What a walk needs and a caller keeps from one to the next. What it holds tells nothing.
 #[derive(Drop)]
 pub struct DictScratch {
+    room: TokenRoom,
     folded: String,
     words: Vec<Option<usize>>,
 }
@@ -46,6 +50,7 @@ impl DictScratch {
     /// Nothing kept yet; takes no memory.
     pub fn new(alloc: Global) -> DictScratch {
         DictScratch {
+            room: TokenRoom::new(alloc),
             folded: String::new(alloc),
             words: Vec::new(alloc),
         }
@@ -53,11 +58,11 @@ impl DictScratch {
 }
 
 impl DictPass {
-    /// A pass for `dicts`, each of whose entries has at most 16,777,216 bytes.
+    /// A pass for `dicts`, in their order.
     ///
-    /// Copies the dictionaries and makes one tree of all their entries' tokens.
+    /// Copies the dictionaries and makes one tree of all their entries' tokens. An entry of more than
+    /// 16,777,216 bytes is want of memory.
     pub fn new(alloc: Global, dicts: &[DictUse]) -> Result<DictPass, OutOfMemory>
-        requires short { All (λ dict. All (λ entry. length entry ≤ 16777216) dict.entries) dicts.now }
         ensures { IfOk result (λ pass. pass ≡ dicts.now) }
     {
         let mut trie = Trie::new(alloc)?;
@@ -69,41 +74,15 @@ impl DictPass {
         Ok(DictPass { dicts, trie })
     }
 
-    /// The matches wholly in `source` of all dictionaries, in the place of what `into` holds.
-    ///
-    /// A match is the place of a dictionary in the pass, from 0, with a span: from the begin of the
-    /// first to the end of the last token of a run of tokens, wholly in `source`, that agrees token by
-    /// token with some entry of that dictionary. For each dictionary each span comes once and in span
-    /// order; the matches of several dictionaries stand among one another. Spans are half-open and count
-    /// characters of `doc` from 0. Takes memory only where `scratch` or `into` has no room; after want of memory no clause
-    /// says what `into` holds.
-    ///
-    /// Meaning: `AreMatches`, `specs/Dictionaries.antt`.
-    pub fn find_all(
-        &self,
-        doc: &Document<'_>,
-        source: Span,
-        scratch: &mut DictScratch,
-        into: &mut Vec<DictMatch>,
-    ) -> Result<(), OutOfMemory>
-        requires in_document { LiesIn (extent_of source) doc.now }
-        ensures matches { (i : ℕ) (dict : DictUse) → slice_get self.now i ≡ Some dict
-            → OnOk result (AreMatches dict doc.now (extent_of source) (extents_for i (map dict_and_extent into.new.items))) }
-        ensures places { OnOk result (All (λ m. m.dict < length self.now) into.new.items) }
-        ensures within { OnOk result (All (λ m. IsInside (extent_of source) (extent_of m.span)) into.new.items) }
-    {
-        into.clear();
-        let tokens = SourceTokens::of(doc, source);
-        number_tokens(&self.trie, &tokens, &mut scratch.folded, &mut scratch.words)?;
-        push_matches(&self.trie, &tokens, scratch.words.as_slice(), into)
-    }
-
     /// The matches wholly in `source`, as one list of spans for each dictionary of the pass, in their
     /// order: each span once, by begin and then by end, half-open, in characters of `doc` from 0.
     ///
-    /// Makes its own scratch. Want of memory leaves nothing behind.
+    /// A match is the span from the begin of the first to the end of the last token of a run of tokens,
+    /// wholly in `source`, that agrees token by token with some entry of the dictionary. Makes its own
+    /// scratch. Want of memory leaves nothing behind.
     ///
-    /// Meaning: `AreRowsOfEach`, `specs/Rows.antt`, and `AreMatches`, `specs/Dictionaries.antt`.
+    /// Meaning: `AreMatches`, `specs/Dictionaries.antt`; `dict_matches`, `specs/DictMatches.antt`, is the
+    /// one list that has it.
     pub fn matches(
         &self,
         alloc: Global,
@@ -112,14 +91,92 @@ impl DictPass {
     ) -> Result<Vec<Vec<Span>>, OutOfMemory>
         requires in_document { LiesIn (extent_of source) doc.now }
         ensures matches { IfOk result (λ rows. AreRowsOfEach self.now doc.now (extent_of source) (extents_of_rows rows.items)) }
-        ensures within { IfOk result (λ rows. All (λ row. All (λ s. IsInside (extent_of source) (extent_of s)) row.items) rows.items) }
+        ensures listed { IfOk result (λ rows. extents_of_rows rows.items ≡ map (λ dict. dict_matches dict doc.now (extent_of source)) self.now) }
+        ensures meaning { OnOk result ((dict : DictUse) → AreMatches dict doc.now (extent_of source) (dict_matches dict doc.now (extent_of source))) }
+        ensures unique { OnOk result ((dict : DictUse) (spans : List Extent) → AreMatches dict doc.now (extent_of source) spans
+            → spans ≡ dict_matches dict doc.now (extent_of source)) }
+        ensures within { IfOk result (λ rows. All (λ row. All (λ s. ContainsExtent (extent_of source) (extent_of s)) row.items) rows.items) }
     {
         let mut scratch = DictScratch::new(alloc);
         let mut found = Vec::new(alloc);
-        self.find_all(doc, source, &mut scratch, &mut found)?;
+        self.append_matches(doc, source, &mut scratch, &mut found)?;
         let mut rows = empty_rows(alloc, self.dicts.len())?;
         put_rows(found.as_slice(), &mut rows)?;
         Ok(rows)
+    }
+
+    /// Puts the matches wholly in `source` of all dictionaries behind what `into` holds.
+    ///
+    /// A match is the place of a dictionary in the pass, from 0, with a span. For each dictionary each
+    /// span comes once and in span order; the matches of several dictionaries stand among one another.
+    /// Takes memory only where `scratch` or `into` has no room; after want of memory no clause says what
+    /// `into` holds.
+    ///
+    /// Meaning: `AppendsMatches`, `specs/Rows.antt`.
+    pub fn append_matches(
+        &self,
+        doc: &Document<'_>,
+        source: Span,
+        scratch: &mut DictScratch,
+        into: &mut Vec<DictMatch>,
+    ) -> Result<(), OutOfMemory>
+        requires in_document { LiesIn (extent_of source) doc.now }
+        ensures { OnOk result (AppendsMatches self.now doc.now (extent_of source) (map dict_and_extent into.old.items) (map dict_and_extent into.new.items)) }
+    {
+        let tokens = SourceTokens::of(&mut scratch.room, doc, source)?;
+        number_tokens(&self.trie, &tokens, &mut scratch.folded, &mut scratch.words)?;
+        push_matches(&self.trie, &tokens, scratch.words.as_slice(), into)
+    }
+
+    /// Whether the dictionary at place `dict` of the pass has a match wholly in `source`.
+    ///
+    /// Ends at the first match. Takes memory only where `scratch` has no room.
+    ///
+    /// Meaning: `IsMatch`, `specs/Dictionaries.antt`.
+    pub fn has_match(
+        &self,
+        dict: usize,
+        doc: &Document<'_>,
+        source: Span,
+        scratch: &mut DictScratch,
+    ) -> Result<bool, OutOfMemory>
+        requires in_document { LiesIn (extent_of source) doc.now }
+        ensures test { (the : DictUse) → slice_get self.now dict ≡ Some the → IfOk result (λ found. found ≡ does_match the doc.now (extent_of source)) }
+        ensures meaning { (the : DictUse) → slice_get self.now dict ≡ Some the
+            → IfOk result (λ found. IsTrue found ↔ (e : Extent) × IsMatch the doc.now (tokens_in doc.now (extent_of source)) e) }
+    {
+        let tokens = SourceTokens::of(&mut scratch.room, doc, source)?;
+        has_run(
+            &self.trie,
+            dict,
+            &tokens,
+            &mut scratch.folded,
+            &mut scratch.words,
+        )
+    }
+
+    /// Whether the tokens wholly in `source`, all of them together, agree with an entry of the
+    /// dictionary at place `dict` of the pass; false where there is no token.
+    ///
+    /// Reads no more tokens than there are, and none behind one with which no entry goes on. Takes
+    /// memory only where `scratch` has no room.
+    ///
+    /// Meaning: `AgreesWith`, `specs/Dictionaries.antt`.
+    pub fn matches_whole(
+        &self,
+        dict: usize,
+        doc: &Document<'_>,
+        source: Span,
+        scratch: &mut DictScratch,
+    ) -> Result<bool, OutOfMemory>
+        requires in_document { LiesIn (extent_of source) doc.now }
+        ensures test { (the : DictUse) → slice_get self.now dict ≡ Some the
+            → IfOk result (λ found. found ≡ does_agree the (texts_of doc.now (tokens_in doc.now (extent_of source)))) }
+        ensures meaning { (the : DictUse) → slice_get self.now dict ≡ Some the
+            → IfOk result (λ found. IsTrue found ↔ AgreesWith the (texts_of doc.now (tokens_in doc.now (extent_of source)))) }
+    {
+        let tokens = SourceTokens::of(&mut scratch.room, doc, source)?;
+        is_entry(&self.trie, dict, &tokens, &mut scratch.folded)
     }
 }
 
@@ -136,7 +193,7 @@ fn empty_rows(alloc: Global, number: usize) -> Result<Vec<Vec<Span>>, OutOfMemor
 
 /// Puts each match behind those in the row of its dictionary.
 fn put_rows(found: &[DictMatch], rows: &mut Vec<Vec<Span>>) -> Result<(), OutOfMemory>
-    requires { All (λ m. m.dict < length rows.old.items) found.now }
+    requires { All (λ m. m.0 < length rows.old.items) (map dict_and_extent found.now) }
     ensures number { OnOk result (length rows.new.items ≡ length rows.old.items) }
     ensures each { OnOk result ((i : ℕ) → i < length rows.old.items → slice_index_or (extents_of_rows rows.new.items) i []
         ≡ slice_index_or (extents_of_rows rows.old.items) i [] ++ extents_for i (map dict_and_extent found.now)) }

@@ -1,4 +1,4 @@
-ghost use Rattle.std.specs.Prelude.{◌≡◌, ◌↔◌, ◌<◌, ◌≤◌, ◌++◌, ◌∷◌, [], List, ℕ, length, map, Some, IfOk, OnOk, IsTrue, All};
+ghost use Rattle.std.specs.Prelude.{◌≡◌, ◌↔◌, ◌<◌, ◌≤◌, ◌++◌, ◌∷◌, [], List, ℕ, length, map, Some, IfOk, OnOk, IsTrue};
 ghost use Rattle.std.specs.HashMap.{get_by_text};
 ghost use Rattle.std.specs.List.{Contains};
 ghost use Rattle.dict_match.specs.Dictionaries.{folded, texts_of, entry_texts};
@@ -7,8 +7,9 @@ ghost use Rattle.dict_match.specs.Tries.{Reaches, IsTrie, put_entry, put_dict};
 
 use crate::dict_use::{DictUse, copied_texts};
 use crate::fold::fold_into;
-use crate::source::SourceTokens;
-use span_token::{Document, OutOfMemory, OwnedList, OwnedText};
+use span_token::{
+    Document, OutOfMemory, OwnedList, OwnedText, SourceTokens, TEXT_LIMIT, TokenRoom,
+};
 use std::alloc::Global;
 use std::collections::HashMap;
 
@@ -106,7 +107,7 @@ impl Trie {
         Ok(node)
     }
 
-    /// Puts an entry of a dictionary in.
+    /// Puts an entry of a dictionary in; one too long for a document is want of memory.
     pub(crate) fn put_entry(
         &mut self,
         alloc: Global,
@@ -115,13 +116,16 @@ impl Trie {
         entry: &str,
         buffer: &mut String,
     ) -> Result<(), OutOfMemory>
-        requires short { length entry.now ≤ 16777216 }
         requires trie { IsTrie self.old }
         ensures { (put : List (List (List ℕ) × End)) → Reaches self.old put 0 []
             → OnOk result (Reaches self.new (put ++ put_entry dict exact entry.now) 0 []) }
     {
+        if entry.len() > TEXT_LIMIT {
+            return Err(OutOfMemory);
+        }
         let doc = Document::new(alloc, entry, None)?;
-        let tokens = SourceTokens::all(&doc);
+        let mut room = TokenRoom::new(alloc);
+        let tokens = SourceTokens::all(&mut room, &doc)?;
         if tokens.len() == 0 {
             return Ok(());
         }
@@ -142,7 +146,6 @@ impl Trie {
         dict: &DictUse,
         buffer: &mut String,
     ) -> Result<(), OutOfMemory>
-        requires short { All (λ entry. length entry ≤ 16777216) dict.now.entries }
         requires trie { IsTrie self.old }
         ensures { (put : List (List (List ℕ) × End)) → Reaches self.old put 0 []
             → OnOk result (Reaches self.new (put ++ put_dict place dict.now) 0 []) }

@@ -1,14 +1,14 @@
-ghost use Rattle.std.specs.Prelude.{◌≡◌, ◌≤◌, ◌<◌, ◌+◌, ◌-◌, ◌↔◌, ◌++◌, ◌∷◌, [], List, ℕ, Option, length, map, slice_get, slice_index_or, Some, None, option_and_then, IfOk, OnOk, IsTrue, All};
-ghost use Rattle.dict_match.specs.Dictionaries.{IsMatch, AreInOrder, run_extent};
+ghost use Rattle.std.specs.Prelude.{◌≡◌, ◌≤◌, ◌<◌, ◌-◌, ◌↔◌, ◌++◌, [], List, ℕ, length, map, slice_get, Some, option_and_then, OnOk, IsTrue, All};
+ghost use Rattle.span_token.specs.SourceTokens.{run_extent};
+ghost use Rattle.dict_match.specs.DictMatches.{matches_from, matches_among};
 ghost use Rattle.dict_match.specs.Rows.{dict_and_extent, extents_for};
 ghost use Rattle.dict_match.specs.declared.dict_use.DictUse.{DictUse};
 ghost use Rattle.dict_match.specs.Tries.{Reaches, IsTrie, put_dicts, edge_from};
-ghost use Rattle.dict_match.specs.Walks.{numbers_of, run_texts, IsSpelled, HasEndFor, HasOneEach, PutsWhere, IsMatchUpto};
+ghost use Rattle.dict_match.specs.Walks.{numbers_of, run_texts, IsSpelled, HasEndFor, HasOneEach, PutsWhere, Extends};
 
 use crate::fold::number_of_folded;
-use crate::source::SourceTokens;
 use crate::trie::{End, Trie};
-use span_token::{OutOfMemory, OwnedText, Span};
+use span_token::{OutOfMemory, OwnedText, SourceTokens, Span};
 
 /// A match: the dictionary's place in the pass, from 0, and the span.
 #[derive(Clone, Copy, Debug)]
@@ -44,10 +44,10 @@ pub(crate) fn push_matches(
 ) -> Result<(), OutOfMemory>
     requires trie { IsTrie trie.now }
     requires words { words.now ≡ numbers_of trie.now tokens.now }
-    requires empty { into.old.items ≡ [] }
     ensures matches { (dicts : List DictUse) (i : ℕ) (dict : DictUse) → Reaches trie.now (put_dicts 0 dicts) 0 [] → slice_get dicts i ≡ Some dict
-        → OnOk result (AreInOrder (IsMatch dict tokens.now.doc tokens.now.tokens) (extents_for i (map dict_and_extent into.new.items))) }
-    ensures places { (dicts : List DictUse) → Reaches trie.now (put_dicts 0 dicts) 0 [] → OnOk result (All (λ m. m.dict < length dicts) into.new.items) }
+        → OnOk result (extents_for i (map dict_and_extent into.new.items)
+        ≡ extents_for i (map dict_and_extent into.old.items) ++ matches_among dict tokens.now.doc tokens.now.tokens) }
+    ensures added { (dicts : List DictUse) → Reaches trie.now (put_dicts 0 dicts) 0 [] → OnOk result (Extends (length dicts) into.old.items into.new.items) }
 {
     for first in 0..tokens.len() {
         push_matches_from(trie, tokens, words, first, into)?;
@@ -67,14 +67,13 @@ fn push_matches_from(
     requires words { words.now ≡ numbers_of trie.now tokens.now }
     requires there { first < length tokens.now.tokens }
     ensures matches { (dicts : List DictUse) (i : ℕ) (dict : DictUse) → Reaches trie.now (put_dicts 0 dicts) 0 [] → slice_get dicts i ≡ Some dict
-        → AreInOrder (IsMatchUpto dict tokens.now first first) (extents_for i (map dict_and_extent into.old.items))
-        → OnOk result (AreInOrder (IsMatchUpto dict tokens.now (first + 1) (first + 1)) (extents_for i (map dict_and_extent into.new.items))) }
-    ensures places { (dicts : List DictUse) → Reaches trie.now (put_dicts 0 dicts) 0 [] → All (λ m. m.dict < length dicts) into.old.items
-        → OnOk result (All (λ m. m.dict < length dicts) into.new.items) }
+        → OnOk result (extents_for i (map dict_and_extent into.new.items)
+        ≡ extents_for i (map dict_and_extent into.old.items) ++ matches_from dict tokens.now.doc tokens.now.tokens first (length tokens.now.tokens)) }
+    ensures added { (dicts : List DictUse) → Reaches trie.now (put_dicts 0 dicts) 0 [] → OnOk result (Extends (length dicts) into.old.items into.new.items) }
 {
     let mut node = 0;
     for last in first..tokens.len() {
-        let Some(next) = step(trie, node, words, last) else {
+        let Some(next) = follow(trie, node, words[last]) else {
             return Ok(());
         };
         node = next;
@@ -83,13 +82,12 @@ fn push_matches_from(
     Ok(())
 }
 
-/// The node to which token `i` leads from `node`.
+/// The node to which a token with this number leads from `node`.
 #[inline(always)]
-fn step(trie: &Trie, node: usize, words: &[Option<usize>], i: usize) -> Option<usize>
-    requires { i < length words.now }
-    ensures { result ≡ option_and_then (edge_from trie.now node) (slice_index_or words.now i None) }
+pub(crate) fn follow(trie: &Trie, node: usize, word: Option<usize>) -> Option<usize>
+    ensures { result ≡ option_and_then (edge_from trie.now node) word }
 {
-    let word = words[i]?;
+    let word = word?;
     trie.edges.get(&(node, word)).copied()
 }
 
@@ -107,7 +105,7 @@ fn push_ends(
     ensures matches { HasOneEach (run_texts tokens.now first past) ends.now
         → (i : ℕ) → OnOk result (PutsWhere (HasEndFor i (run_texts tokens.now first past) ends.now) (run_extent tokens.now.tokens first (past - 1))
         (extents_for i (map dict_and_extent into.old.items)) (extents_for i (map dict_and_extent into.new.items))) }
-    ensures places { (n : ℕ) → All (λ end. end.dict < n) ends.now → All (λ m. m.dict < n) into.old.items → OnOk result (All (λ m. m.dict < n) into.new.items) }
+    ensures added { (n : ℕ) → All (λ end. end.dict < n) ends.now → OnOk result (Extends n into.old.items into.new.items) }
 {
     for end in ends {
         if does_agree(end, tokens, first, past) {
@@ -122,7 +120,12 @@ fn push_ends(
 }
 
 /// Whether an end at the node of a run's foldings agrees with the run.
-fn does_agree(end: &End, tokens: &SourceTokens<'_, '_>, first: usize, past: usize) -> bool
+pub(crate) fn does_agree(
+    end: &End,
+    tokens: &SourceTokens<'_, '_>,
+    first: usize,
+    past: usize,
+) -> bool
     requires some { first < past }
     requires there { past ≤ length tokens.now.tokens }
     ensures { IsTrue result ↔ IsSpelled (run_texts tokens.now first past) end.now.spelled }

@@ -7,5 +7,5 @@ loop-i-preserved c =
     let tokens = c.args.tokens.now.tokens in
     let lt : c.loop-i.i < length tokens = omega (arith, c.loop-i-test.true, c.len-i-end.ensures.len) in
     c.in_ok-push.ensures.ok
-    ∙ ap₂ (λ (ts : List (List ℕ)) (t : List ℕ). ts ++ t ∷ []) c.loop-i.invariant (c.in_ok-copied.ensures ∙ c.text.ensures)
+    ∙ ap₂ (λ (ts : List (List ℕ)) (t : List ℕ). ts ++ t ∷ []) c.loop-i.invariant (c.in_ok-copied.ensures ∙ c.text.ensures.text)
     ∙ texts-step c.args.tokens.now.doc tokens c.loop-i.i lt

@@ -14,7 +14,7 @@ returns-then-ne c =
     let spelled : c.as_str.result.now ≡ get_or texts i [] = c.as_str.ensures ∙ c.index-texts-i.is ∙ get_or_default texts i c.index-texts-i.result [] lt in
     let there = run_texts-nth c.args.tokens.now c.args.first c.args.past i in_run c.requires.there in (
       λ h. let no : false ≡ true = h in cc,
-      λ e. absurd ((told-ne c.text.result.now c.as_str.result.now c.ne.result c.ne.ensures).1 c.if-ne.true (c.text.ensures ∙ sym there ∙ ap (λ (l : List (List ℕ)). get_or l i []) (sym e) ∙ sym spelled)),
+      λ e. absurd ((told-ne c.text.result.now c.as_str.result.now c.ne.result c.ne.ensures).1 c.if-ne.true (c.text.ensures.text ∙ sym there ∙ ap (λ (l : List (List ℕ)). get_or l i []) (sym e) ∙ sym spelled)),
     )
 
 pub loop-i-preserved : goal.loop-i-preserved
@@ -26,7 +26,7 @@ loop-i-preserved c =
     let spelled : c.as_str.result.now ≡ get_or texts i [] = c.as_str.ensures ∙ c.index-texts-i.is ∙ get_or_default texts i c.index-texts-i.result [] lt in
     let there = run_texts-nth c.args.tokens.now c.args.first c.args.past i in_run c.requires.there in
     below_more _ _ c.loop-i.invariant
-    (sym spelled ∙ sym ((told-ne c.text.result.now c.as_str.result.now c.ne.result c.ne.ensures).0 c.if-ne.false) ∙ c.text.ensures ∙ sym there)
+    (sym spelled ∙ sym ((told-ne c.text.result.now c.as_str.result.now c.ne.result c.ne.ensures).0 c.if-ne.false) ∙ c.text.ensures.text ∙ sym there)
 
 pub returns : goal.returns
 returns c = (

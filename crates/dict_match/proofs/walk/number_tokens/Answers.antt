@@ -10,4 +10,4 @@ loop-i-preserved c =
     c.in_ok-push.ensures.items
     ∙ ap (λ (ws : List (Option ℕ)). ws ++ c.in_ok-word.word ∷ []) c.loop-i.invariant
     ∙ numbers-step c.args.trie.now c.args.tokens.now c.loop-i.i c.in_ok-word.word lt
-    (c.in_ok-word.ensures ∙ ap (λ (t : List ℕ). get_by_text c.args.trie.now.words (folded t)) c.text.ensures)
+    (c.in_ok-word.ensures ∙ ap (λ (t : List ℕ). get_by_text c.args.trie.now.words (folded t)) c.text.ensures.text)
