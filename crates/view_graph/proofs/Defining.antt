@@ -1,5 +1,5 @@
 -- One more statement: what it defines, and what the code's maps keep of it.
-use Rattle.std.proofs.Common.{◌≡◌, ◌∙◌, ◌+◌, ◌<◌, ◌≤◌, ◌⊎◌, inl, inr, ℕ, Bool, true, false, cond, if◌then◌else◌, List, [], ◌∷◌, ◌++◌, flat_map, length, get_or, Option, Some, None, Contains, refl, ap, sym, subst, ⊎_elim, append_assoc, arith, codes, IsSome, true≢false}
+use Rattle.std.proofs.Common.{◌≡◌, ◌∙◌, ◌+◌, ◌<◌, ◌≤◌, ◌⊎◌, inl, inr, ℕ, Bool, true, false, cond, List, [], ◌∷◌, ◌++◌, flat_map, length, get_or, Option, Some, None, Contains, refl, ap, sym, subst, ⊎_elim, append_assoc, arith, codes, IsSome, true≢false}
 use Rattle.std.specs.Str.{bytes_eq}
 use Rattle.std.specs.Map.{update}
 use Rattle.std.proofs.lemmas.Slice.Eq.{bytes_eq-Decides}
@@ -10,7 +10,7 @@ use Rattle.std.proofs.lemmas.List.Quantifiers.{all_pairs_push}
 use Rattle.aql_syntax.specs.Trees.{Statement, require}
 use Rattle.view_graph.specs.Names.{Named, view_named, dictionary_named, defined_by, names_defined, AllDiffer}
 use Rattle.view_graph.specs.Faults.{DefinesAgain, text_of}
-use Rattle.view_graph.specs.Uses.{CreatesView}
+use Rattle.view_graph.specs.Uses.{CreatesView, CreatesDictionary}
 use Rattle.view_graph.specs.Indexes.{IndexesViews, IndexesDictionaries, IndexesNames}
 
 two : (m n : ℕ) → (m < n) ⊎ (n ≤ m)
@@ -49,6 +49,14 @@ module _ (before : List Statement) (s : Statement) where
   creates_kept : (place : ℕ) (name : List ℕ) → place < length before → CreatesView before place name → CreatesView (before ++ s ∷ []) place name
   creates_kept place name below creates = ap defined_by (get_or_append_left before (s ∷ []) require place below) ∙ creates
 
+  -- a name that is defined stays so
+  kept_at : (place : ℕ) (named : Named) → (place < length before) ⊎ (length before ≤ place) → defined_by (get_or before place require) ≡ named ∷ [] → defined_by (get_or (before ++ s ∷ []) place require) ≡ named ∷ []
+  kept_at place named (inl below) defines = ap defined_by (get_or_append_left before (s ∷ []) require place below) ∙ defines
+  kept_at place named (inr past) defines = absurd (nothing (sym (ap defined_by (get_or_past before place require past)) ∙ defines))
+    where
+      nothing : ◌≡◌ {A = List Named} [] (named ∷ []) → ⊥
+      nothing e = cc
+
   creates_cases : (place : ℕ) (name : List ℕ) → (place < length before) ⊎ ((place ≡ length before) ⊎ (length before < place)) → CreatesView (before ++ s ∷ []) place name
       → CreatesView before place name ⊎ ((place ≡ length before) × (defined_by s ≡ view_named name ∷ []))
   creates_cases place name (inl below) creates = inl (sym (ap defined_by (get_or_append_left before (s ∷ []) require place below)) ∙ creates)
@@ -84,8 +92,9 @@ module _ (before : List Statement) (s : Statement) where
       unknown = λ q is at. ⊎_elim (views.unknown q is) (none q) (defined_cases (view_named q) at);
     }
 
-    dictionaries_kept : (there : List ℕ → Bool) → ((q : List ℕ) → ¬ (Contains more (dictionary_named q))) → IndexesDictionaries before there → IndexesDictionaries (before ++ s ∷ []) there
+    dictionaries_kept : (there : List ℕ → Option ℕ) → ((q : List ℕ) → ¬ (Contains more (dictionary_named q))) → IndexesDictionaries before there → IndexesDictionaries (before ++ s ∷ []) there
     dictionaries_kept there none dictionaries = record {
+      only = λ place q is. kept_at place (dictionary_named q) (two place (length before)) (dictionaries.only place q is);
       known = λ q is. defined_kept (dictionary_named q) (dictionaries.known q is);
       unknown = λ q is at. ⊎_elim (dictionaries.unknown q is) (none q) (defined_cases (dictionary_named q) at);
     }
@@ -143,7 +152,7 @@ module _ (before : List Statement) (s : Statement) where
           same e = cc
 
       -- a view that wasn't there
-      pub index_view : (there : List ℕ → Bool) → IndexesNames before entry there → IndexesNames (before ++ s ∷ []) new there
+      pub index_view : (there : List ℕ → Option ℕ) → IndexesNames before entry there → IndexesNames (before ++ s ∷ []) new there
       index_view there names = record {
         views = record {
           there = λ place q creates. view_there names.views place q (creates_cases place q (three place (length before)) creates) (updated q);
@@ -158,20 +167,40 @@ module _ (before : List Statement) (s : Statement) where
           apart : (q : List ℕ) → view_named name ≡ dictionary_named q → ⊥
           apart q e = cc
 
-    module _ (one : defined_by s ≡ dictionary_named name ∷ []) (there new : List ℕ → Bool) (absent : there name ≡ false)
-        (updates : (q : List ℕ) → new q ≡ (if bytes_eq name q then true else there q)) where
-      dictionary_known : IndexesDictionaries before there → (q : List ℕ) (b : Bool) → bytes_eq name q ≡ b → new q ≡ true → Contains (names_defined (before ++ s ∷ [])) (dictionary_named q)
-      dictionary_known dictionaries q true e h =
-          subst (λ (names : List Named). Contains names (dictionary_named q)) (sym (names_defined-one before s (dictionary_named name) one))
-          (subst (λ (text : List ℕ). Contains (names_defined before ++ dictionary_named name ∷ []) (dictionary_named text)) ((bytes_eq-Decides name q).0 e) (Contains-push (names_defined before) (dictionary_named name)))
-      dictionary_known dictionaries q false e h =
-          defined_kept (dictionary_named name ∷ []) one (dictionary_named q) (dictionaries.known q (sym (updates q ∙ ap (λ (t : Bool). if t then true else there q) e) ∙ h))
+    module _ (one : defined_by s ≡ dictionary_named name ∷ []) (there new : List ℕ → Option ℕ) (absent : there name ≡ None)
+        (updates : (q : List ℕ) → new q ≡ update bytes_eq there name (Some (length before)) q) where
+      abbrev Updated : List ℕ → Type 0
+      Updated q = ((name ≡ q) × (new q ≡ Some (length before))) ⊎ (¬ (name ≡ q) × (new q ≡ there q))
 
-      dictionary_unknown : IndexesDictionaries before there → (q : List ℕ) (b : Bool) → bytes_eq name q ≡ b → new q ≡ false
+      dictionary_updated : (q : List ℕ) → Updated q
+      dictionary_updated q = by (bytes_eq name q) refl
+        where
+          by : (b : Bool) → bytes_eq name q ≡ b → Updated q
+          by true e = inl ((bytes_eq-Decides name q).0 e, updates q ∙ ap (λ (t : Bool). cond t (Some (length before)) (there q)) e)
+          by false e = inr ((λ same. true≢false (sym ((bytes_eq-Decides name q).1 same) ∙ e)), updates q ∙ ap (λ (t : Bool). cond t (Some (length before)) (there q)) e)
+
+      dictionary_only : IndexesDictionaries before there → (place : ℕ) (q : List ℕ) → Updated q → new q ≡ Some place → CreatesDictionary (before ++ s ∷ []) place q
+      dictionary_only dictionaries place q (inl is) h =
+          ap defined_by (get_or_push before s require place (same (sym is.1 ∙ h))) ∙ one ∙ ap (λ (text : List ℕ). dictionary_named text ∷ []) is.0
+        where
+          same : ◌≡◌ {A = Option ℕ} (Some (length before)) (Some place) → length before ≡ place
+          same e = cc
+      dictionary_only dictionaries place q (inr is) h = kept_at place (dictionary_named q) (two place (length before)) (dictionaries.only place q (sym is.1 ∙ h))
+
+      dictionary_known : IndexesDictionaries before there → (q : List ℕ) → Updated q → IsSome (new q) → Contains (names_defined (before ++ s ∷ [])) (dictionary_named q)
+      dictionary_known dictionaries q (inl is) h =
+          subst (λ (names : List Named). Contains names (dictionary_named q)) (sym (names_defined-one before s (dictionary_named name) one))
+          (subst (λ (text : List ℕ). Contains (names_defined before ++ dictionary_named name ∷ []) (dictionary_named text)) is.0 (Contains-push (names_defined before) (dictionary_named name)))
+      dictionary_known dictionaries q (inr is) h = defined_kept (dictionary_named name ∷ []) one (dictionary_named q) (dictionaries.known q (subst (λ (o : Option ℕ). IsSome o) is.1 h))
+
+      dictionary_unknown : IndexesDictionaries before there → (q : List ℕ) → Updated q → new q ≡ None
           → Contains (names_defined before) (dictionary_named q) ⊎ Contains (dictionary_named name ∷ []) (dictionary_named q) → ⊥
-      dictionary_unknown dictionaries q true e h at = true≢false (sym (updates q ∙ ap (λ (t : Bool). if t then true else there q) e) ∙ h)
-      dictionary_unknown dictionaries q false e h (inl old) = dictionaries.unknown q (sym (updates q ∙ ap (λ (t : Bool). if t then true else there q) e) ∙ h) old
-      dictionary_unknown dictionaries q false e h (inr at) = true≢false (sym ((bytes_eq-Decides name q).1 (same (in_one (dictionary_named name) (dictionary_named q) at))) ∙ e)
+      dictionary_unknown dictionaries q (inl is) h at = nothing (sym h ∙ is.1)
+        where
+          nothing : ◌≡◌ {A = Option ℕ} None (Some (length before)) → ⊥
+          nothing e = cc
+      dictionary_unknown dictionaries q (inr is) h (inl old) = dictionaries.unknown q (sym is.1 ∙ h) old
+      dictionary_unknown dictionaries q (inr is) h (inr at) = is.0 (same (in_one (dictionary_named name) (dictionary_named q) at))
         where
           same : dictionary_named name ≡ dictionary_named q → name ≡ q
           same e = cc
@@ -181,8 +210,9 @@ module _ (before : List Statement) (s : Statement) where
       index_dictionary entry names = record {
         views = views_kept (dictionary_named name ∷ []) one entry (λ q at. apart q (in_one (dictionary_named name) (view_named q) at)) names.views;
         dictionaries = record {
-          known = λ q is. dictionary_known names.dictionaries q (bytes_eq name q) refl is;
-          unknown = λ q is at. dictionary_unknown names.dictionaries q (bytes_eq name q) refl is (defined_cases (dictionary_named name ∷ []) one (dictionary_named q) at);
+          only = λ place q is. dictionary_only names.dictionaries place q (dictionary_updated q) is;
+          known = λ q is. dictionary_known names.dictionaries q (dictionary_updated q) is;
+          unknown = λ q is at. dictionary_unknown names.dictionaries q (dictionary_updated q) is (defined_cases (dictionary_named name ∷ []) one (dictionary_named q) at);
         };
         distinct = distinct_more (dictionary_named name) one (names.dictionaries.unknown name absent) names.distinct;
       }
@@ -191,7 +221,7 @@ module _ (before : List Statement) (s : Statement) where
           apart q e = cc
 
   -- a statement that defines nothing
-  pub index_none : (entry : List ℕ → Option (Option ℕ)) (there : List ℕ → Bool) → defined_by s ≡ [] → IndexesNames before entry there → IndexesNames (before ++ s ∷ []) entry there
+  pub index_none : (entry : List ℕ → Option (Option ℕ)) (there : List ℕ → Option ℕ) → defined_by s ≡ [] → IndexesNames before entry there → IndexesNames (before ++ s ∷ []) entry there
   index_none entry there none names = record {
     views = views_kept [] none entry (λ q at. absurd (omega (arith, at.1))) names.views;
     dictionaries = dictionaries_kept [] none there (λ q at. absurd (omega (arith, at.1))) names.dictionaries;
@@ -212,8 +242,8 @@ module _ (before : List Statement) (s : Statement) where
     first = distinct;
   }
 
-module _ (entry : List ℕ → Option (Option ℕ)) (there : List ℕ → Bool)
-    (document : (q : List ℕ) → entry q ≡ update bytes_eq (λ _. None) (codes "Document") (Some None) q) (none : (q : List ℕ) → there q ≡ false) where
+module _ (entry : List ℕ → Option (Option ℕ)) (there : List ℕ → Option ℕ)
+    (document : (q : List ℕ) → entry q ≡ update bytes_eq (λ _. None) (codes "Document") (Some None) q) (none : (q : List ℕ) → there q ≡ None) where
   entry_by : (q : List ℕ) (b : Bool) → bytes_eq (codes "Document") q ≡ b → ((codes "Document" ≡ q) × (entry q ≡ Some None)) ⊎ (¬ (codes "Document" ≡ q) × (entry q ≡ None))
   entry_by q true e = inl ((bytes_eq-Decides (codes "Document") q).0 e, document q ∙ ap (λ (t : Bool). cond t (Some None) None) e)
   entry_by q false e = inr ((λ same. true≢false (sym ((bytes_eq-Decides (codes "Document") q).1 same) ∙ e)), document q ∙ ap (λ (t : Bool). cond t (Some None) None) e)
@@ -255,7 +285,8 @@ module _ (entry : List ℕ → Option (Option ℕ)) (there : List ℕ → Bool)
       unknown = λ q is at. first_unknown q (entry_cases q) is (in_one (view_named (codes "Document")) (view_named q) at);
     };
     dictionaries = record {
-      known = λ q is. absurd (true≢false (sym is ∙ none q));
+      only = λ place q is. absurd (empty place (sym (none q) ∙ is));
+      known = λ q is. absurd (subst (λ (o : Option ℕ). IsSome o → ⊥) (sym (none q)) (λ e. true≢false (sym e)) is);
       unknown = λ q is at. apart q (in_one (view_named (codes "Document")) (dictionary_named q) at);
     };
     distinct = λ i j d below within same. absurd (omega arith);
@@ -263,6 +294,9 @@ module _ (entry : List ℕ → Option (Option ℕ)) (there : List ℕ → Bool)
     where
       nothing : (q : List ℕ) → ◌≡◌ {A = List Named} [] (view_named q ∷ []) → ⊥
       nothing q e = cc
+
+      empty : (place : ℕ) → ◌≡◌ {A = Option ℕ} None (Some place) → ⊥
+      empty place e = cc
 
       apart : (q : List ℕ) → view_named (codes "Document") ≡ dictionary_named q → ⊥
       apart q e = cc

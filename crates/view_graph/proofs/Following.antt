@@ -46,7 +46,7 @@ module _ (program : List Statement) (places : List ℕ) (outputs : HasOutputs pr
       (All-weaker (IsListed 0 program) (λ p. (p < length program) × IsView (statement_at program p))
       (λ p h. let same : h.0 ≡ p = omega (arith, h.1) in (omega (arith, h.1, h.2), subst (λ (k : ℕ). IsView (statement_at program k)) same h.3)) (views_of program) (listed program 0))
 
-  view_in : (q : ℕ) (name : List ℕ) → q < length program → CreatesView program q name → Contains places q
+  pub view_in : (q : ℕ) (name : List ℕ) → q < length program → CreatesView program q name → Contains places q
   view_in q name within creates =
       let same : 0 + q ≡ q = omega arith in
       Contains-permutation (views_of program) places q ranks.each_once

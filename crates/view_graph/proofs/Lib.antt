@@ -24,3 +24,5 @@ pub mod Following
 pub mod Relations
 pub mod Resolving
 pub mod Deciding
+-- what a graph finds
+pub mod Finding

@@ -1,5 +1,5 @@
 -- What is found of a name that is looked up, and of one name after another.
-use Rattle.std.proofs.Common.{◌≡◌, ◌∙◌, ◌+◌, ◌<◌, ◌⊎◌, inl, inr, ⊎_elim, ℕ, Bool, true, false, List, [], ◌∷◌, ◌++◌, take, length, get_or, Option, Some, None, IsSome, Contains, All, refl, ap, sym, subst, arith}
+use Rattle.std.proofs.Common.{◌≡◌, ◌∙◌, ◌+◌, ◌<◌, ◌⊎◌, inl, inr, ⊎_elim, ℕ, List, [], ◌∷◌, ◌++◌, take, length, get_or, Option, Some, None, IsSome, Contains, All, refl, ap, sym, subst, arith}
 use Rattle.std.proofs.lemmas.List.Elements.{All-push, All-append, Contains-push, Contains-push_cases, Contains-append_left}
 use Rattle.std.proofs.lemmas.List.{take_more, get_or_push, get_or_append_left, length_push}
 use Rattle.std.proofs.lemmas.Bool.{cases_order}
@@ -20,7 +20,7 @@ same_view a b e = cc
 apart : (a b : List ℕ) → dictionary_named a ≡ view_named b → ⊥
 apart a b e = cc
 
-module _ (program : List Statement) (entry : List ℕ → Option (Option ℕ)) (there : List ℕ → Bool) (names : IndexesNames program entry there)
+module _ (program : List Statement) (entry : List ℕ → Option (Option ℕ)) (there : List ℕ → Option ℕ) (names : IndexesNames program entry there)
     (named : Named) (text : List ℕ) where
   defined_as : (other : Named) → named ≡ other → IsDefined program other → IsDefined program named
   defined_as other is at = subst (λ (n : Named). IsDefined program n) (sym is) at
@@ -55,13 +55,13 @@ module _ (program : List Statement) (entry : List ℕ → Option (Option ℕ)) (
   pub found_no_view : named ≡ view_named text → entry text ≡ None → LooksUp program named Nothing
   found_no_view is e = λ at. names.views.unknown text e (subst (λ (n : Named). IsDefined program n) is at)
 
-  pub found_dictionary : named ≡ dictionary_named text → there text ≡ true → LooksUp program named Other
-  found_dictionary is e = (
-    defined_as (dictionary_named text) is (names.dictionaries.known text e),
+  pub found_dictionary : (place : ℕ) → named ≡ dictionary_named text → there text ≡ Some place → LooksUp program named Other
+  found_dictionary place is e = (
+    defined_as (dictionary_named text) is (names.dictionaries.known text (subst (λ (o : Option ℕ). IsSome o) (sym e) refl)),
     λ place name named_is creates. apart text name (sym is ∙ named_is),
   )
 
-  pub found_no_dictionary : named ≡ dictionary_named text → there text ≡ false → LooksUp program named Nothing
+  pub found_no_dictionary : named ≡ dictionary_named text → there text ≡ None → LooksUp program named Nothing
   found_no_dictionary is e = λ at. names.dictionaries.unknown text e (subst (λ (n : Named). IsDefined program n) is at)
 
 module _ (program : List Statement) where

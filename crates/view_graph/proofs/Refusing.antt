@@ -15,7 +15,7 @@ use Rattle.view_graph.specs.declared.fault.NameFault.TheVariants.{DuplicateName}
 use Rattle.view_graph.specs.Names.{Named, view_named, dictionary_named, defined_by, names_defined}
 use Rattle.span_token.specs.Refusals.{OfFault}
 use Rattle.view_graph.specs.Answers.{IsNameFault}
-use Rattle.view_graph.specs.Indexes.{Adds, AddsText, IndexesNames}
+use Rattle.view_graph.specs.Indexes.{Adds, IndexesNames}
 use Rattle.view_graph.proofs.Defining.{index_view, index_dictionary, defined_twice}
 
 pub OfFault-weaker : (P Q : NameFault → Type 0) → ((fault : NameFault) → P fault → Q fault) → (failure : Failure NameFault) → OfFault P failure → OfFault Q failure
@@ -33,7 +33,7 @@ nothing_defined (variant.View name query) no_view no_dictionary = absurd (no_vie
 nothing_defined (variant.Output name alias) no_view no_dictionary = refl
 
 module _ (before : List Statement) (s : Statement) (name text : List ℕ) (same : text ≡ name) (place : ℕ) (at : length before ≡ place)
-    (entry : List ℕ → Option (Option ℕ)) (there : List ℕ → Bool) (names : IndexesNames before entry there) where
+    (entry : List ℕ → Option (Option ℕ)) (there : List ℕ → Option ℕ) (names : IndexesNames before entry there) where
   fault_at : (after : List Statement) (named : Named) → defined_by s ≡ named ∷ [] → Contains (names_defined before) named → (fault : NameFault) → fault ≡ DuplicateName (place + 1) text
       → ((number : ℕ) → number ≡ length before + 1 → IsNameFault (before ++ s ∷ after) (DuplicateName number text)) → IsNameFault (before ++ s ∷ after) fault
   fault_at after named one again fault is shown =
@@ -52,14 +52,15 @@ module _ (before : List Statement) (s : Statement) (name text : List ℕ) (same 
         fault_at after (view_named text) (one ∙ ap (λ (n : List ℕ). view_named n ∷ []) (sym same)) (names.views.known text was) fault fault_is
         (λ number number_is. defined_twice before s after (view_named text) text number (one ∙ ap (λ (n : List ℕ). view_named n ∷ []) (sym same)) refl number_is (names.views.known text was) names.distinct)
 
-  module _ (one : defined_by s ≡ dictionary_named name ∷ []) (new : List ℕ → Bool) where
-    pub dictionary_added : (fresh : Bool) → fresh ≡ true → AddsText there new text fresh → IndexesNames (before ++ s ∷ []) entry new
+  module _ (one : defined_by s ≡ dictionary_named name ∷ []) (new : List ℕ → Option ℕ) where
+    pub dictionary_added : (fresh : Bool) → fresh ≡ true → Adds there new text place fresh → IndexesNames (before ++ s ∷ []) entry new
     dictionary_added fresh is adds =
-        let added : AddsText there new text true = subst (λ (b : Bool). AddsText there new text b) is adds in
-        index_dictionary before s text (one ∙ ap (λ (n : List ℕ). dictionary_named n ∷ []) (sym same)) there new added.0 added.1 entry names
+        let added : Adds there new text place true = subst (λ (b : Bool). Adds there new text place b) is adds in
+        index_dictionary before s text (one ∙ ap (λ (n : List ℕ). dictionary_named n ∷ []) (sym same)) there new added.0
+        (subst (λ (n : ℕ). (q : List ℕ) → new q ≡ update bytes_eq there text (Some n) q) (sym at) added.1) entry names
 
-    pub dictionary_again : (fresh : Bool) → fresh ≡ false → AddsText there new text fresh → (after : List Statement) (fault : NameFault) → fault ≡ DuplicateName (place + 1) text → IsNameFault (before ++ s ∷ after) fault
+    pub dictionary_again : (fresh : Bool) → fresh ≡ false → Adds there new text place fresh → (after : List Statement) (fault : NameFault) → fault ≡ DuplicateName (place + 1) text → IsNameFault (before ++ s ∷ after) fault
     dictionary_again fresh is adds after fault fault_is =
-        let was : there text ≡ true = subst (λ (b : Bool). AddsText there new text b) is adds in
+        let was : IsSome (there text) = subst (λ (b : Bool). Adds there new text place b) is adds in
         fault_at after (dictionary_named text) (one ∙ ap (λ (n : List ℕ). dictionary_named n ∷ []) (sym same)) (names.dictionaries.known text was) fault fault_is
         (λ number number_is. defined_twice before s after (dictionary_named text) text number (one ∙ ap (λ (n : List ℕ). dictionary_named n ∷ []) (sym same)) refl number_is (names.dictionaries.known text was) names.distinct)

@@ -2,16 +2,17 @@
 use Rattle.std.specs.Prelude.{◌≡◌, ℕ, Bool, true, false, if◌then◌else◌, List, Option, Some, None, IsSome, Contains}
 use Rattle.std.specs.Str.{bytes_eq}
 use Rattle.std.specs.Map.{update}
-use Rattle.std.specs.HashMap.{HashMap, get_by}
+use Rattle.std.specs.HashMap.{HashMap, get_by_text}
+use Rattle.std.specs.declared.string.String.{String}
 use Rattle.std.specs.HashSet.{HashSet, contains_by}
 use denote.Ref.{Bor}
 use Rattle.aql_syntax.specs.Trees.{Statement}
 use Rattle.view_graph.specs.Names.{view_named, dictionary_named, names_defined, AllDiffer}
-use Rattle.view_graph.specs.Uses.{CreatesView}
+use Rattle.view_graph.specs.Uses.{CreatesView, CreatesDictionary}
 
 -- what a map has at a name
-abbrev pub entry_of : {X S : Type 0} → HashMap (Bor (List ℕ)) X S → List ℕ → Option X
-entry_of names name = get_by (λ k. bytes_eq name k.now) names
+abbrev pub entry_of : {Y X S : Type 0} → HashMap (String Y) X S → List ℕ → Option X
+entry_of names name = get_by_text names name
 
 -- whether a set has a name
 abbrev pub has : {S : Type 0} → HashSet (Bor (List ℕ)) S → List ℕ → Bool
@@ -33,13 +34,14 @@ pub record IndexesViews (before : List Statement) (entry : List ℕ → Option (
   pub known : (name : List ℕ) → IsSome (entry name) → Contains (names_defined before) (view_named name)
   pub unknown : (name : List ℕ) → entry name ≡ None → ¬ (Contains (names_defined before) (view_named name))
 
--- each dictionary is there
-pub record IndexesDictionaries (before : List Statement) (there : List ℕ → Bool) : Type 0 where
-  pub known : (name : List ℕ) → there name ≡ true → Contains (names_defined before) (dictionary_named name)
-  pub unknown : (name : List ℕ) → there name ≡ false → ¬ (Contains (names_defined before) (dictionary_named name))
+-- each dictionary has the place of its statement
+pub record IndexesDictionaries (before : List Statement) (entry : List ℕ → Option ℕ) : Type 0 where
+  pub only : (place : ℕ) (name : List ℕ) → entry name ≡ Some place → CreatesDictionary before place name
+  pub known : (name : List ℕ) → IsSome (entry name) → Contains (names_defined before) (dictionary_named name)
+  pub unknown : (name : List ℕ) → entry name ≡ None → ¬ (Contains (names_defined before) (dictionary_named name))
 
 -- both, and no name is defined twice
-pub record IndexesNames (before : List Statement) (entry : List ℕ → Option (Option ℕ)) (there : List ℕ → Bool) : Type 0 where
-  pub views : IndexesViews before entry
-  pub dictionaries : IndexesDictionaries before there
+pub record IndexesNames (before : List Statement) (view_at : List ℕ → Option (Option ℕ)) (dictionary_at : List ℕ → Option ℕ) : Type 0 where
+  pub views : IndexesViews before view_at
+  pub dictionaries : IndexesDictionaries before dictionary_at
   pub distinct : AllDiffer (names_defined before)

@@ -7,6 +7,8 @@ pub mod Graphs
 pub mod Uses
 -- what `resolve` answers
 pub mod Answers
+-- what a graph finds of a name
+pub mod Found
 -- ---- words of private clauses
 -- how the code keeps names and walks
 pub mod Mentions
@@ -17,3 +19,4 @@ pub mod Search
 pub mod Walks
 pub mod Circles
 pub mod Orders
+pub mod Kept

@@ -15,32 +15,51 @@ use indexmap::{IndexMap, IndexSet};
 use span_token::{Failure, OutOfMemory, OwnedText};
 use std::alloc::Global;
 
-/// The names that some statements define. A view has the place of its statement, from 0, and
-/// `Document`, which is there from the start, has none.
+/// The names that some statements define, with the places of their statements, from 0. `Document`,
+/// which is there from the start, has none.
 #[derive(Drop)]
-pub(crate) struct Names<'a> {
-    pub(crate) views: IndexMap<&'a str, Option<u32>>,
-    pub(crate) dictionaries: IndexSet<&'a str>,
+pub(crate) struct Names {
+    pub(crate) views: IndexMap<String, Option<u32>>,
+    pub(crate) dictionaries: IndexMap<String, u32>,
 }
 
 /// A map with `Document` alone.
-fn views_at_first<'a>(alloc: Global) -> Result<IndexMap<&'a str, Option<u32>>, OutOfMemory>
+fn views_at_first(alloc: Global) -> Result<IndexMap<String, Option<u32>>, OutOfMemory>
     ensures { IfOk result (λ views. (q : _) → entry_of views q ≡ update bytes_eq (λ _. None) (codes "Document") (Some None) q) }
 {
     let mut views = IndexMap::new(alloc);
-    views.insert("Document", None)?;
+    let document = String::from_str(alloc, "Document")?;
+    views.insert(document, None)?;
     Ok(views)
 }
 
 /// Adds a view; false where the name is there.
-fn add_view<'a>(
-    views: &mut IndexMap<&'a str, Option<u32>>,
-    name: &'a str,
+fn add_view(
+    alloc: Global,
+    views: &mut IndexMap<String, Option<u32>>,
+    name: &str,
     place: u32,
 ) -> Result<bool, OutOfMemory>
     ensures { IfOk result (Adds (entry_of views.old) (entry_of views.new) name.now (Some place)) }
 {
-    match views.insert(name, Some(place))? {
+    let key = String::from_str(alloc, name)?;
+    match views.insert(key, Some(place))? {
+        None => Ok(true),
+        Some(_) => Ok(false),
+    }
+}
+
+/// Adds a dictionary; false where the name is there.
+fn add_dictionary(
+    alloc: Global,
+    dictionaries: &mut IndexMap<String, u32>,
+    name: &str,
+    place: u32,
+) -> Result<bool, OutOfMemory>
+    ensures { IfOk result (Adds (entry_of dictionaries.old) (entry_of dictionaries.new) name.now place) }
+{
+    let key = String::from_str(alloc, name)?;
+    match dictionaries.insert(key, place)? {
         None => Ok(true),
         Some(_) => Ok(false),
     }
@@ -64,13 +83,13 @@ fn defined_again(alloc: Global, statement: u32, name: &str) -> Result<NameFault,
     Ok(NameFault::DuplicateName { statement, name })
 }
 
-impl<'a> Names<'a> {
+impl Names {
     /// The names before the first statement: `Document` alone.
-    fn at_first(alloc: Global) -> Result<Names<'a>, OutOfMemory>
-        ensures { IfOk result (λ names. IndexesNames [] (entry_of names.views) (has names.dictionaries)) }
+    fn at_first(alloc: Global) -> Result<Names, OutOfMemory>
+        ensures { IfOk result (λ names. IndexesNames [] (entry_of names.views) (entry_of names.dictionaries)) }
     {
         let views = views_at_first(alloc)?;
-        let dictionaries = IndexSet::new(alloc);
+        let dictionaries = IndexMap::new(alloc);
         Ok(Names {
             views,
             dictionaries,
@@ -82,16 +101,16 @@ impl<'a> Names<'a> {
         &mut self,
         alloc: Global,
         place: u32,
-        statement: &'a Statement,
+        statement: &Statement,
     ) -> Result<(), Failure<NameFault>>
         requires { place + 1 < 2 ^ 32 }
-        ensures ok { (before : List tree.Statement) → length before ≡ place → IndexesNames before (entry_of self.old.views) (has self.old.dictionaries) → OnOk result (IndexesNames (before ++ statement_of statement.now ∷ []) (entry_of self.new.views) (has self.new.dictionaries)) }
-        ensures fault { (before after : List tree.Statement) → length before ≡ place → IndexesNames before (entry_of self.old.views) (has self.old.dictionaries) → IfErr result (OfFault (IsNameFault (before ++ statement_of statement.now ∷ after))) }
+        ensures ok { (before : List tree.Statement) → length before ≡ place → IndexesNames before (entry_of self.old.views) (entry_of self.old.dictionaries) → OnOk result (IndexesNames (before ++ statement_of statement.now ∷ []) (entry_of self.new.views) (entry_of self.new.dictionaries)) }
+        ensures fault { (before after : List tree.Statement) → length before ≡ place → IndexesNames before (entry_of self.old.views) (entry_of self.old.dictionaries) → IfErr result (OfFault (IsNameFault (before ++ statement_of statement.now ∷ after))) }
     {
         match statement {
             Statement::View { name, .. } => {
                 let text = name.text.as_str();
-                if add_view(&mut self.views, text, place)? {
+                if add_view(alloc, &mut self.views, text, place)? {
                     Ok(())
                 } else {
                     Err(Failure::Fault(defined_again(alloc, place + 1, text)?))
@@ -99,7 +118,7 @@ impl<'a> Names<'a> {
             }
             Statement::Dictionary { name, .. } => {
                 let text = name.text.as_str();
-                if add_name(&mut self.dictionaries, text)? {
+                if add_dictionary(alloc, &mut self.dictionaries, text, place)? {
                     Ok(())
                 } else {
                     Err(Failure::Fault(defined_again(alloc, place + 1, text)?))
@@ -111,12 +130,9 @@ impl<'a> Names<'a> {
 }
 
 /// The names that the statements define, or the first that is defined again.
-pub(crate) fn define<'a>(
-    alloc: Global,
-    statements: &'a [Statement],
-) -> Result<Names<'a>, Failure<NameFault>>
+pub(crate) fn define(alloc: Global, statements: &[Statement]) -> Result<Names, Failure<NameFault>>
     requires { length statements.now < 2 ^ 32 }
-    ensures ok { IfOk result (λ names. IndexesNames (map statement_of statements.now) (entry_of names.views) (has names.dictionaries)) }
+    ensures ok { IfOk result (λ names. IndexesNames (map statement_of statements.now) (entry_of names.views) (entry_of names.dictionaries)) }
     ensures fault { IfErr result (OfFault (IsNameFault (map statement_of statements.now))) }
 {
     let mut names = Names::at_first(alloc)?;

@@ -18,4 +18,4 @@ mod tests;
 mod uses;
 
 pub use fault::NameFault;
-pub use graph::{Graph, resolve};
+pub use graph::{Graph, NamedView, resolve};

@@ -1,7 +1,9 @@
 //! The views by rank and then by number.
 
-ghost use Rattle.std.specs.Prelude.{◌≡◌, ℕ, ◌<◌, ◌^◌, map, length, IfOk};
+ghost use Rattle.std.specs.Prelude.{◌≡◌, ℕ, ◌<◌, ◌≤◌, ◌^◌, map, length, slice_index, All, IfOk};
 ghost use Rattle.aql_syntax.specs.Views.{statement_of};
+ghost use Rattle.view_graph.specs.Kept.{IsIndexed};
+ghost use Rattle.view_graph.specs.Names.{AllDiffer};
 ghost use Rattle.view_graph.specs.Orders.{IsNumbering, Placed};
 
 use crate::search::Mark;
@@ -55,4 +57,30 @@ pub(crate) fn in_order(
         order.push(*place + 1)?;
     }
     Ok(order)
+}
+
+/// For the place of each view its index in the order; 0 for a statement that creates no view.
+pub(crate) fn indexes_of(
+    alloc: Global,
+    order: &[u32],
+    count: usize,
+) -> Result<Vec<u32>, OutOfMemory>
+    requires short { count < 2 ^ 32 }
+    requires within { All (λ number. (0 < number) × (number ≤ count)) order.now }
+    requires distinct { AllDiffer order.now }
+    ensures { IfOk result (λ indexes. IsIndexed order.now indexes.items) }
+{
+    let mut indexes = vec![in alloc; 0u32; count]?;
+    for (index, number) in order.iter().enumerate() {
+        indexes[*number as usize - 1] = index as u32;
+    }
+    Ok(indexes)
+}
+
+/// What is kept for the place of a view.
+pub(crate) fn index_at(indexes: &[u32], place: u32) -> u32
+    requires { place < length indexes.now }
+    ensures { result ≡ slice_index indexes.now place }
+{
+    indexes[place as usize]
 }

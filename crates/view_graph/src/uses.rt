@@ -7,14 +7,14 @@ ghost use Rattle.view_graph.specs.Mentions.{named_of};
 ghost use Rattle.view_graph.specs.Names.{looked_up_by};
 ghost use Rattle.span_token.specs.Refusals.{OfFault};
 ghost use Rattle.view_graph.specs.Answers.{IsNameFault};
-ghost use Rattle.view_graph.specs.Indexes.{entry_of, has, IndexesNames};
+ghost use Rattle.view_graph.specs.Indexes.{entry_of, IndexesNames};
 ghost use Rattle.view_graph.specs.Lookups.{LooksUp, PlacesOf, PlacesUsed, MentionsUndefined, Unknown, IsUseGraph};
 
 use crate::NameFault;
 use crate::index::Names;
 use crate::names::{Mention, Mentions, query as names_in};
 use aql_syntax::Statement;
-use indexmap::{IndexMap, IndexSet};
+use indexmap::IndexMap;
 use span_token::{Failure, OutOfMemory, OwnedList, OwnedText};
 use std::alloc::Global;
 
@@ -29,20 +29,20 @@ enum Found {
 }
 
 /// What the map has at a view's name.
-fn view_entry(views: &IndexMap<&str, Option<u32>>, name: &str) -> Option<Option<u32>>
+pub(crate) fn view_entry(views: &IndexMap<String, Option<u32>>, name: &str) -> Option<Option<u32>>
     ensures { result ≡ entry_of views.now name.now }
 {
     views.get(name).copied()
 }
 
-fn has_dictionary(dictionaries: &IndexSet<&str>, name: &str) -> bool
-    ensures { result ≡ has dictionaries.now name.now }
+pub(crate) fn dictionary_entry(dictionaries: &IndexMap<String, u32>, name: &str) -> Option<u32>
+    ensures { result ≡ entry_of dictionaries.now name.now }
 {
-    dictionaries.contains(name)
+    dictionaries.get(name).copied()
 }
 
-fn find(names: &Names<'_>, mention: Mention<'_>) -> Found
-    ensures { (program : List tree.Statement) → IndexesNames program (entry_of names.now.views) (has names.now.dictionaries) → LooksUp program (named_of mention.entry) result }
+fn find(names: &Names, mention: Mention<'_>) -> Found
+    ensures { (program : List tree.Statement) → IndexesNames program (entry_of names.now.views) (entry_of names.now.dictionaries) → LooksUp program (named_of mention.entry) result }
 {
     match mention {
         Mention::View(name) => match view_entry(&names.views, name) {
@@ -50,13 +50,10 @@ fn find(names: &Names<'_>, mention: Mention<'_>) -> Found
             Some(None) => Found::Other,
             None => Found::Nothing,
         },
-        Mention::Dictionary(name) => {
-            if has_dictionary(&names.dictionaries, name) {
-                Found::Other
-            } else {
-                Found::Nothing
-            }
-        }
+        Mention::Dictionary(name) => match dictionary_entry(&names.dictionaries, name) {
+            Some(_) => Found::Other,
+            None => Found::Nothing,
+        },
     }
 }
 
@@ -79,12 +76,12 @@ fn unknown(alloc: Global, statement: u32, mention: Mention<'_>) -> Result<NameFa
 /// The places of the views among the names that a statement mentions, or its first unknown name.
 fn places(
     alloc: Global,
-    names: &Names<'_>,
+    names: &Names,
     number: u32,
     mentions: &[Mention<'_>],
 ) -> Result<OwnedList<u32>, Failure<NameFault>>
-    ensures ok { (program : List tree.Statement) → IndexesNames program (entry_of names.now.views) (has names.now.dictionaries) → IfOk result (PlacesOf program (map named_of mentions.now)) }
-    ensures fault { (program : List tree.Statement) → IndexesNames program (entry_of names.now.views) (has names.now.dictionaries) → IfErr result (OfFault (MentionsUndefined program number (map named_of mentions.now))) }
+    ensures ok { (program : List tree.Statement) → IndexesNames program (entry_of names.now.views) (entry_of names.now.dictionaries) → IfOk result (PlacesOf program (map named_of mentions.now)) }
+    ensures fault { (program : List tree.Statement) → IndexesNames program (entry_of names.now.views) (entry_of names.now.dictionaries) → IfErr result (OfFault (MentionsUndefined program number (map named_of mentions.now))) }
 {
     let mut used = OwnedList::new(alloc);
     for mention in mentions {
@@ -103,12 +100,12 @@ fn places(
 /// statement, whose number is given. An output uses no view, and the one that it names has to be there.
 fn used_by(
     alloc: Global,
-    names: &Names<'_>,
+    names: &Names,
     number: u32,
     statement: &Statement,
 ) -> Result<OwnedList<u32>, Failure<NameFault>>
-    ensures ok { (program : List tree.Statement) → IndexesNames program (entry_of names.now.views) (has names.now.dictionaries) → IfOk result (PlacesUsed program (statement_of statement.now)) }
-    ensures fault { (program : List tree.Statement) → IndexesNames program (entry_of names.now.views) (has names.now.dictionaries) → IfErr result (OfFault (MentionsUndefined program number (looked_up_by (statement_of statement.now)))) }
+    ensures ok { (program : List tree.Statement) → IndexesNames program (entry_of names.now.views) (entry_of names.now.dictionaries) → IfOk result (PlacesUsed program (statement_of statement.now)) }
+    ensures fault { (program : List tree.Statement) → IndexesNames program (entry_of names.now.views) (entry_of names.now.dictionaries) → IfErr result (OfFault (MentionsUndefined program number (looked_up_by (statement_of statement.now)))) }
 {
     match statement {
         Statement::View { query, .. } => {
@@ -128,10 +125,10 @@ fn used_by(
 pub(crate) fn uses(
     alloc: Global,
     statements: &[Statement],
-    names: &Names<'_>,
+    names: &Names,
 ) -> Result<Vec<OwnedList<u32>>, Failure<NameFault>>
     requires short { length statements.now < 2 ^ 32 }
-    requires named { IndexesNames (map statement_of statements.now) (entry_of names.now.views) (has names.now.dictionaries) }
+    requires named { IndexesNames (map statement_of statements.now) (entry_of names.now.views) (entry_of names.now.dictionaries) }
     ensures ok { IfOk result (λ uses. IsUseGraph (map statement_of statements.now) (length statements.now) uses.items) }
     ensures fault { IfErr result (OfFault (IsNameFault (map statement_of statements.now))) }
 {

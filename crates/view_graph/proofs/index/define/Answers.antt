@@ -5,7 +5,7 @@ use Rattle.aql_syntax.specs.declared.tree.Statement as declared
 use Rattle.aql_syntax.specs.Views.{statement_of}
 use Rattle.span_token.specs.Refusals.{OfFault}
 use Rattle.view_graph.specs.Answers.{IsNameFault}
-use Rattle.view_graph.specs.Indexes.{entry_of, has, IndexesNames}
+use Rattle.view_graph.specs.Indexes.{entry_of, IndexesNames}
 use Rattle.view_graph.proofs.Splits.{map-take_more, map_split, length-map_take}
 use Rattle.view_graph.proofs.index.define.Goals as goal
 
@@ -14,7 +14,7 @@ loop-place-preserved c =
     let x = c.index-statements-place in
     let more = c.in_ok-define.ensures.ok (map statement_of (take c.loop-place.place c.args.statements.now))
     (length-map_take statement_of c.args.statements.now c.loop-place.place c.loop-place-test.true) c.loop-place.invariant in
-    subst (λ (before : List Statement). IndexesNames before (entry_of c.define.new.self.views) (has c.define.new.self.dictionaries))
+    subst (λ (before : List Statement). IndexesNames before (entry_of c.define.new.self.views) (entry_of c.define.new.self.dictionaries))
     (ap (λ (s : declared.Statement). map statement_of (take c.loop-place.place c.args.statements.now) ++ statement_of s ∷ []) x.is
     ∙ sym (map-take_more statement_of c.args.statements.now c.loop-place.place x.result c.loop-place-test.true)) more
 

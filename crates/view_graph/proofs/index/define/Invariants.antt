@@ -1,7 +1,7 @@
 use Rattle.std.proofs.Common.{map, take}
 use Rattle.aql_syntax.specs.Views.{statement_of}
-use Rattle.view_graph.specs.Indexes.{entry_of, has, IndexesNames}
+use Rattle.view_graph.specs.Indexes.{entry_of, IndexesNames}
 use Rattle.view_graph.proofs.index.define.Given as goal
 
 abbrev pub invariant-loop-place : goal.invariant-loop-place
-invariant-loop-place l = IndexesNames (map statement_of (take l.place l.statements)) (entry_of l.names.views) (has l.names.dictionaries)
+invariant-loop-place l = IndexesNames (map statement_of (take l.place l.statements)) (entry_of l.names.views) (entry_of l.names.dictionaries)
