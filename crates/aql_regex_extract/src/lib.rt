@@ -23,6 +23,3 @@ pub use find::{find_all, find_token_runs, has_match, matches_whole};
 pub use pattern::{Pattern, PatternFault, compile_pattern};
 pub use searcher::Searcher;
 pub use whole::WholeSearcher;
-
-#[cfg(test)]
-mod tests;

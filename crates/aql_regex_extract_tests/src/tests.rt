@@ -1,6 +1,8 @@
-use super::*;
-use crate::weight::weigh;
-use span_token::{Document, Failure, Span};
+use aql_regex_extract::{
+    Pattern, PatternFault, Searcher, WholeSearcher, compile_pattern, find_all, find_token_runs,
+    has_match, matches_whole,
+};
+use span_token::{Document, Failure, Span, TEXT_LIMIT};
 use std::alloc::Global;
 use std::test::Fail;
 use std::thread::{self, Threads};
@@ -40,7 +42,7 @@ fn finds(
     groups: &[u32],
     want: &[&[Place]],
 ) -> Result<bool, Fail> {
-    if text.len() > 16_777_216 {
+    if text.len() > TEXT_LIMIT {
         return Ok(false);
     }
     let pattern = compile_pattern(alloc, pattern)?;
@@ -48,37 +50,46 @@ fn finds(
     let rows = find_all(alloc, &pattern, &doc, doc.whole(), groups)?;
     let mut searcher = Searcher::new(alloc, &pattern)?;
     let mut flat = Vec::new(alloc);
-    searcher.find_all(&doc, doc.whole(), groups, &mut flat)?;
+    let number = searcher.append_matches(&doc, doc.whole(), groups, &mut flat)?;
     let mut wanted = Vec::new(alloc);
     for places in want {
         wanted.extend_from_slice(places)?;
     }
-    Ok(are_rows(&rows, want) && is_row(&flat, &wanted))
+    Ok(are_rows(&rows, want) && is_row(&flat, &wanted) && number == want.len())
 }
 
-/// The same of the token runs.
+/// The same of the token runs of a part of the text.
 fn finds_runs(
     alloc: Global,
     pattern: &str,
     text: &str,
-    low: u32,
-    high: u32,
+    part: (u32, u32),
+    bounds: (u32, u32),
+    groups: &[u32],
     want: &[&[Place]],
 ) -> Result<bool, Fail> {
-    if text.len() > 16_777_216 || low == 0 {
+    if text.len() > TEXT_LIMIT || bounds.0 == 0 || part.0 > part.1 {
         return Ok(false);
     }
+    let (low, high) = bounds;
     let pattern = compile_pattern(alloc, pattern)?;
     let doc = Document::new(alloc, text, None)?;
-    let rows = find_token_runs(alloc, &pattern, &doc, doc.whole(), low, high, &[0])?;
+    if part.1 > doc.len() {
+        return Ok(false);
+    }
+    let source = Span {
+        begin: part.0,
+        end: part.1,
+    };
+    let rows = find_token_runs(alloc, &pattern, &doc, source, low, high, groups)?;
     let mut searcher = WholeSearcher::new(alloc, &pattern)?;
     let mut flat = Vec::new(alloc);
-    searcher.find_token_runs(&doc, doc.whole(), low, high, &[0], &mut flat)?;
+    let number = searcher.append_token_runs(&doc, source, low, high, groups, &mut flat)?;
     let mut wanted = Vec::new(alloc);
     for places in want {
         wanted.extend_from_slice(places)?;
     }
-    Ok(are_rows(&rows, want) && is_row(&flat, &wanted))
+    Ok(are_rows(&rows, want) && is_row(&flat, &wanted) && number == want.len())
 }
 
 fn fault_of(alloc: Global, pattern: &str) -> Option<PatternFault> {
@@ -152,10 +163,23 @@ fn a_match_sees_its_source_alone(rt: HostRuntime) -> Result<(), Fail> {
 fn each_token_gives_its_longest_run(rt: HostRuntime) -> Result<(), Fail> {
     let alloc = rt.alloc();
     let words: &[&[Place]] = &[&[Some((0, 3))], &[Some((2, 5))], &[Some((4, 5))]];
-    assert!(rt; finds_runs(alloc, r"\w+( \w+)?", "a b c", 1, 2, words)?);
-    let caps: &[&[Place]] = &[&[Some((0, 4))], &[Some((5, 9))], &[Some((20, 23))]];
-    assert!(rt; finds_runs(alloc, "[A-Z][a-z]+", "Call John at 555 or Ann", 1, 1, caps)?);
-    assert!(rt; finds_runs(alloc, "a", "a a", 2, 3, &[])?);
+    assert!(rt; finds_runs(alloc, r"\w+( \w+)?", "a b c", (0, 5), (1, 2), &[0], words)?);
+    let names: &[&[Place]] = &[&[Some((0, 4))], &[Some((5, 9))], &[Some((20, 23))]];
+    let text = "Call John at 555 or Ann";
+    assert!(rt; finds_runs(alloc, "[A-Z][a-z]+", text, (0, 23), (1, 1), &[0], names)?);
+    assert!(rt; finds_runs(alloc, "a", "a a", (0, 3), (2, 3), &[0], &[])?);
+    Ok(())
+}
+
+#[test]
+fn token_runs_beyond_ascii_count_characters(rt: HostRuntime) -> Result<(), Fail> {
+    let alloc = rt.alloc();
+    let text = "é Zoë Åsa 漢 Bö";
+    let pairs: &[&[Place]] = &[&[Some((2, 9)), Some((6, 9)), None]];
+    let pattern = r"\p{Lu}\w+ (\p{Lu}\w+)(x)?";
+    assert!(rt; finds_runs(alloc, pattern, text, (0, 14), (2, 3), &[0, 1, 2], pairs)?);
+    assert!(rt; finds_runs(alloc, pattern, text, (3, 14), (2, 3), &[0, 1, 2], &[])?);
+    assert!(rt; finds_runs(alloc, "Bö", text, (2, 14), (1, 2), &[], &[&[]])?);
     Ok(())
 }
 
@@ -191,10 +215,37 @@ fn what_is_not_read_is_bad_and_what_is_large_is_so_first(rt: HostRuntime) -> Res
     Ok(())
 }
 
+/// So many copies of a text.
+fn copies(alloc: Global, text: &str, number: u32) -> Result<String, Fail> {
+    let mut all = String::new(alloc);
+    for _ in 0..number {
+        all.push_str(text)?;
+    }
+    Ok(all)
+}
+
+#[test]
+fn patterns_are_read_up_to_their_limits(rt: HostRuntime) -> Result<(), Fail> {
+    let alloc = rt.alloc();
+    for bytes in [1_001, 100_000] {
+        let long = copies(alloc, "a", bytes)?;
+        let large = Some(PatternFault::Large { bytes, weight: 1 });
+        assert_eq!(rt; fault_of(alloc, long.as_str()), large, "{bytes} bytes");
+    }
+    assert!(rt; fault_of(alloc, copies(alloc, "a", 1_000)?.as_str()).is_none());
+    let mut nested = copies(alloc, "(", 249)?;
+    nested.push('a')?;
+    nested.push_str(copies(alloc, ")", 249)?.as_str())?;
+    assert_eq!(rt; fault_of(alloc, nested.as_str()), Some(PatternFault::Bad));
+    Ok(())
+}
+
 #[test]
 fn the_weight_is_the_product_over_depths_of_the_greatest_chain(
     rt: HostRuntime,
 ) -> Result<(), Fail> {
+    let alloc = rt.alloc();
+    let behind = copies(alloc, "a", 1_001)?;
     for (pattern, weight) in [
         ("", 1),
         ("a", 1),
@@ -218,7 +269,13 @@ fn the_weight_is_the_product_over_depths_of_the_greatest_chain(
         ("a{3,4,5}", 1),
         ("a{99999999999999999999}", 1_000_000),
     ] {
-        assert_eq!(rt; weigh(rt.alloc(), pattern.as_bytes())?, weight, "{pattern}");
+        let mut text = String::from_str(alloc, pattern)?;
+        text.push_str(behind.as_str())?;
+        let found = match fault_of(alloc, text.as_str()) {
+            Some(PatternFault::Large { weight, .. }) => Some(weight),
+            _ => None,
+        };
+        assert_eq!(rt; found, Some(weight), "{pattern}");
     }
     Ok(())
 }
@@ -260,5 +317,64 @@ fn several_threads_search_with_one_pattern(rt: HostRuntime) -> Result<(), Fail> 
         found.push(trial.found)?;
     }
     assert_eq!(rt; found.as_slice(), [true, false, true, false].as_slice());
+    Ok(())
+}
+
+/// What a worker keeps from call to call: its searchers, and where it puts what they find.
+#[derive(Drop)]
+struct Worker<'p> {
+    searcher: Searcher<'p>,
+    whole: WholeSearcher<'p>,
+    found: Vec<Option<Span>>,
+    matches: usize,
+    runs: usize,
+}
+
+fn search_in_threads<R: Threads + Sync>(rt: &R, doc: &Document<'_>, workers: &mut [Worker<'_>]) {
+    thread::for_each_mut(
+        rt,
+        workers,
+        2,
+        &|_, worker: &mut Worker<'_>| {
+            worker.found.clear();
+            let all = doc.whole();
+            if let Ok(number) = worker
+                .searcher
+                .append_matches(doc, all, &[0], &mut worker.found)
+            {
+                worker.matches = number;
+            }
+            if let Ok(number) = worker
+                .whole
+                .append_token_runs(doc, all, 1, 2, &[0], &mut worker.found)
+            {
+                worker.runs = number;
+            }
+        },
+    );
+}
+
+#[test]
+fn workers_keep_their_searchers_from_call_to_call(rt: HostRuntime) -> Result<(), Fail> {
+    let alloc = rt.alloc();
+    let first = compile_pattern(alloc, r"[0-9]+")?;
+    let second = compile_pattern(alloc, r"[a-z]+")?;
+    let mut workers = Vec::new(alloc);
+    for pattern in [&first, &second] {
+        workers.push(Worker {
+            searcher: Searcher::new(alloc, pattern)?,
+            whole: WholeSearcher::new(alloc, pattern)?,
+            found: Vec::new(alloc),
+            matches: 0,
+            runs: 0,
+        })?;
+    }
+    for (text, want) in [("a 12 bc 3", [2, 2]), ("é 7x", [1, 1])] {
+        let doc = Document::new(alloc, text, None)?;
+        search_in_threads(&rt, &doc, &mut workers);
+        for (worker, number) in workers.iter().zip(want) {
+            assert_eq!(rt; worker.matches, number, "matches in {text:?}");
+        }
+    }
     Ok(())
 }

@@ -1,0 +1,6 @@
+//! Tests of `aql_regex_extract`, apart from it, so that it is proved once: they call its public items
+//! alone.
+#![tactic(auto)]
+
+#[cfg(test)]
+mod tests;
