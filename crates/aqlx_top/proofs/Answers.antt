@@ -1,5 +1,5 @@
 -- From what was carried out and reported to the promise of the top call.
-use Rattle.std.proofs.Common.{◌≡◌, ℕ, ◌<◌, true, false, Bool, List, [], ◌∷◌, ◌++◌, length, ap, sym, subst, ◌∙◌, refl, arith, length-append, append_assoc, Option, Some, None, Result, Ok, Err, IsErr, IfSome, IfOk, OnErr, IsSomeAnd, if◌then◌else◌, ◌||◌, All, inl, inr, ◌⊎◌}
+use Rattle.std.proofs.Common.{◌≡◌, ◌≢◌, ℕ, ◌<◌, true, false, Bool, List, [], ◌∷◌, ◌++◌, length, ap, sym, subst, ◌∙◌, refl, arith, length-append, append_assoc, Option, Some, None, Result, Ok, Err, IsErr, IfSome, IfOk, OnErr, IsSomeAnd, if◌then◌else◌, ◌||◌, All, inl, inr, ◌⊎◌}
 use Rattle.std.proofs.lemmas.List.{append-nil}
 use Rattle.std.proofs.lemmas.List.Elements.{All-append, All-head, All-tail, All-nil, All-cons}
 use Rattle.std.proofs.lemmas.Bool.{lt-ltb, ltb-true}
@@ -7,7 +7,7 @@ use Rattle.std.specs.Io.KnownBytes.{Appends, Consumes, IsAtEnd}
 use Rattle.aql_io.specs.Bytes.{Names}
 use Rattle.span_token.specs.Documents.{Doc}
 use Rattle.span_token.specs.declared.refusal.OutOfMemory.{OutOfMemory}
-use Rattle.corpus_json.specs.declared.limits.TheConstants.{LINE_LIMIT, CORPUS_LIMIT}
+use Rattle.corpus_json.specs.Limits.{line_limit, corpus_limit}
 use Rattle.corpus_json.specs.Documents.{is_bad_line}
 use Rattle.corpus_json.specs.Lines.{is_too_long, lines_of, last_line, joined, cut, HasNoLf, BeginsTooLong}
 use Rattle.corpus_json.proofs.LineCuts.{joined-cut, cut-no_lf, lines_of-joined, lines_of-too_long}
@@ -16,12 +16,13 @@ use Rattle.aqlx_top.specs.declared.status.Status.TheVariants.{Done, Program as R
 use Rattle.aqlx_top.specs.declared.status.ProgramFault.{ProgramFault}
 use Rattle.aqlx_top.specs.declared.status.CorpusFault.{CorpusFault}
 use Rattle.aqlx_top.specs.declared.status.CorpusFault.TheVariants.{BadLine, LineLong, CorpusLarge}
-use Rattle.aqlx_top.specs.Devices.{SourceEnds, SinkEnds, FilesFailed, SinkFailed, Gained, IsUntouched}
-use Rattle.aqlx_top.specs.Outcome.{Call, IsHeldAs, IsCalledFor, IsCalledWith, RanTo, WroteFront, HasCauseOf, IsAnswered, IsOfDocuments, HasNoFault, IsRefusedOrWanting, IsDoneOrWanting, Outcome}
+use Rattle.aqlx_top.specs.Devices.{SourceEnds, SinkEnds, FilesFailed, SinkFailed, SinkNeverFailed, Gained, IsUntouched}
+use Rattle.aqlx_top.specs.Endings.{InPart, Came, written_for}
+use Rattle.aqlx_top.specs.Outcome.{Call, IsReadAs, IsCalledFor, IsCalledWith, RanTo, WroteFront, HasCauseOf, IsAnswered, IsOfDocuments, HasNoFault, NoneFailed, IsRefusedOrWanting, IsDoneOrWanting, Outcome}
 use Rattle.aqlx_top.specs.ProgramFaults.{HasFault, IsFaultless}
-use Rattle.aqlx_top.specs.Progress.{InPart, Came, written_for}
 use Rattle.aqlx_top.specs.Run.{Program, line_of}
-use Rattle.aqlx_top.specs.Statuses.{IsToldAs, HasLine}
+use Rattle.aqlx_top.specs.Stages.{IsToldAs}
+use Rattle.aqlx_top.specs.Statuses.{HasLine}
 use Rattle.aqlx_top.specs.Taken.{How, at_end, failed, at_limit, left_off, is_at_end, HasNoBadLine, IsFirstBad}
 use Rattle.aqlx_top.specs.Words.{IsRun, IsNoRun}
 use Rattle.aqlx_top.proofs.Sinks.{appends_nothing}
@@ -39,7 +40,7 @@ part_of_came piece corpus out status came =
       sent = written_for piece (lines_of (is_at_end came.how) came.given);
       rest = [];
       taken = came.taken;
-      gained = came.wrote;
+      gained = came.wrote.gained;
       prefix = append-nil (written_for piece (lines_of (is_at_end came.how) came.given));
     }
 
@@ -51,7 +52,7 @@ front_of_run call status run =
 pub front_of_cause : (call : Call) (status : Status) → HasCauseOf call status → WroteFront call
 front_of_cause call Done cause = front_of_run call Done cause
 front_of_cause call (Refused fault) cause = inl (gained_nothing call.out cause.idle.untouched)
-front_of_cause call Usage cause = inl (gained_nothing call.out cause.1.untouched)
+front_of_cause call Usage cause = inl (gained_nothing call.out cause.idle.untouched)
 front_of_cause call (Corpus fault) cause = front_of_run call (Corpus fault) cause
 front_of_cause call ReadFault cause = elim cause [ inl stopped ↦ inl (gained_nothing call.out stopped.1.idle.untouched) | inr run ↦ front_of_run call ReadFault run ]
 front_of_cause call WriteFault cause = inr cause.1
@@ -82,6 +83,36 @@ front_of call err (Ok ReadFault) a = front_of_cause call ReadFault a.0
 front_of call err (Ok WriteFault) a =
     elim a [ inl itself ↦ front_of_cause call WriteFault itself.0 | inr line ↦ front_of_cause call line.replaced line.cause ]
 front_of call err (Err e) a = a.0
+
+-- where a run came to a status other than a failed read, no call failed
+quiet_run : (call : Call) (err : SinkEnds) (status : Status) → status ≢ ReadFault → RanTo call status → SinkNeverFailed err → NoneFailed call err
+quiet_run call err status not_read run line =
+    record { files = run.called.file.unfailed; corpus = run.ran.read not_read; out = run.ran.wrote.unfailed; line = line }
+
+-- a status other than a failed read or write says that no call failed
+pub told_of : (call : Call) (err : SinkEnds) (result : Result Status OutOfMemory) → IsAnswered call err result
+    → (status : Status) → result ≡ Ok status → status ≢ ReadFault → status ≢ WriteFault → NoneFailed call err
+told_of call err (Ok Done) a status is not_read not_written = quiet_run call err Done (λ e. cc) a.0 a.1.faults
+told_of call err (Ok (Refused fault)) a status is not_read not_written =
+    record { files = a.0.file.unfailed; corpus = a.0.idle.unread.faults; out = a.0.idle.untouched.faults; line = a.1.unfailed }
+told_of call err (Ok Usage) a status is not_read not_written =
+    record { files = a.0.unasked; corpus = a.0.idle.unread.faults; out = a.0.idle.untouched.faults; line = a.1.unfailed }
+told_of call err (Ok (Corpus fault)) a status is not_read not_written = quiet_run call err (Corpus fault) (λ e. cc) a.0 a.1.unfailed
+told_of call err (Ok ReadFault) a status is not_read not_written = let same : status ≡ ReadFault = cc in absurd (not_read same)
+told_of call err (Ok WriteFault) a status is not_read not_written = let same : status ≡ WriteFault = cc in absurd (not_written same)
+told_of call err (Err e) a status is not_read not_written = absurd (cc)
+
+-- with a failed read no write failed
+pub read_of : (call : Call) (err : SinkEnds) (result : Result Status OutOfMemory) → IsAnswered call err result
+    → result ≡ Ok ReadFault → SinkNeverFailed call.out × SinkNeverFailed err
+read_of call err (Ok Done) a is = absurd (cc)
+read_of call err (Ok (Refused fault)) a is = absurd (cc)
+read_of call err (Ok Usage) a is = absurd (cc)
+read_of call err (Ok (Corpus fault)) a is = absurd (cc)
+read_of call err (Ok ReadFault) a is =
+    elim a.0 [ inl stopped ↦ (stopped.1.idle.untouched.faults, a.1.unfailed) | inr run ↦ (run.ran.wrote.unfailed, a.1.unfailed) ]
+read_of call err (Ok WriteFault) a is = absurd (cc)
+read_of call err (Err e) a is = absurd (cc)
 
 -- words that ask for no run have the status of usage alone
 usage_alone : (call : Call) (status : Status) → IsNoRun call.words → HasCauseOf call status → status ≡ Usage
@@ -127,10 +158,10 @@ no_first_bad lines number long first good =
 -- what stands after the last LF is no line that is too long, where no line of a longer text is bad
 too_long_first : (rest more : List ℕ) → HasNoLf rest → is_too_long rest ≡ true → HasNoBadLine (lines_of true (rest ++ more)) → ⊥
 too_long_first rest more no_lf long good =
-    let begins : BeginsTooLong (rest ++ more) = record { front = rest; others = more; split = refl; no_lf = no_lf; long = ltb-true LINE_LIMIT (length rest) long } in
+    let begins : BeginsTooLong (rest ++ more) = record { front = rest; others = more; split = refl; no_lf = no_lf; long = ltb-true line_limit (length rest) long } in
     let first = lines_of-too_long true (rest ++ more) begins in
     let not_bad : is_bad_line first.first ≡ false = All-head IsGood first.first first.later (subst (λ (ls : List (List ℕ)). All IsGood ls) first.split good) in
-    let is_long : is_too_long first.first ≡ true = lt-ltb LINE_LIMIT (length first.first) first.long in
+    let is_long : is_too_long first.first ≡ true = lt-ltb line_limit (length first.first) first.long in
     let bad : is_bad_line first.first ≡ true = rw is_long refl in cc
 
 last_if : (rest more : List ℕ) (long : Bool) → HasNoLf rest → is_too_long rest ≡ long → HasNoBadLine (lines_of true (rest ++ more))
@@ -158,9 +189,9 @@ no_bad_in_part given rest good =
 -- what is taken from a corpus of documents is below the limit, and no line of it is bad
 taken_good : (left_before left_after : Option (List ℕ)) (given : List ℕ) (how : How)
     → Consumes left_before left_after given
-    → (how ≡ at_end → IsAtEnd left_after × (length given < CORPUS_LIMIT))
-    → IsSomeAnd left_before (λ bytes. (length bytes < CORPUS_LIMIT) × HasNoBadLine (lines_of true bytes))
-    → (length given < CORPUS_LIMIT) × HasNoBadLine (lines_of (is_at_end how) given)
+    → (how ≡ at_end → IsAtEnd left_after × (length given < corpus_limit))
+    → IsSomeAnd left_before (λ bytes. (length bytes < corpus_limit) × HasNoBadLine (lines_of true bytes))
+    → (length given < corpus_limit) × HasNoBadLine (lines_of (is_at_end how) given)
 taken_good None left_after given how taken ended of_documents = absurd of_documents
 taken_good (Some bytes) None given how taken ended of_documents = absurd taken
 taken_good (Some bytes) (Some rest) given at_end taken ended of_documents =
@@ -201,10 +232,10 @@ told_text : (told : Option Names) (name text other : List ℕ) → IsSomeAnd tol
 told_text None name text other tells held = absurd tells
 told_text (Some names) name text other tells held = let e : ◌≡◌ {A = Option (List ℕ)} (Some other) (Some text) = sym held ∙ tells in cc
 
-same_text : (call : Call) (text other name : List ℕ) → IsCalledWith call text → IsRun call.words name → IsHeldAs call.files name other → other ≡ text
+same_text : (call : Call) (text other name : List ℕ) → IsCalledWith call text → IsRun call.words name → IsReadAs call.files name other → other ≡ text
 same_text call text other name with_text run held =
     told_text call.files.told with_text.name text other with_text.file
-    (subst (λ (n : List ℕ). IsHeldAs call.files n other) (one_name call.words name with_text.name run with_text.words) held)
+    (subst (λ (n : List ℕ). IsReadAs call.files n other) (one_name call.words name with_text.name run with_text.words) held).held
 
 -- a text that holds a program isn't one with a fault
 run_has_no_fault : (call : Call) (text : List ℕ) (program : Program) → IsCalledFor call program → IsCalledWith call text → IsFaultless text
@@ -218,7 +249,7 @@ refused_cause call Done text fault with_text has cause = absurd (run_has_no_faul
 refused_cause call (Refused other) text fault with_text has cause =
     let same = same_text call text cause.text cause.name with_text cause.words cause.file in
     inl (ap Refused (sym (cause.cause.only fault (subst (λ (t : List ℕ). HasFault t fault) (sym same) has))))
-refused_cause call Usage text fault with_text has cause = absurd (cause.0 with_text.name with_text.words)
+refused_cause call Usage text fault with_text has cause = absurd (cause.words with_text.name with_text.words)
 refused_cause call (Corpus other) text fault with_text has cause = absurd (run_has_no_fault call text cause.program cause.called with_text fault has)
 refused_cause call ReadFault text fault with_text has cause =
     elim cause [
@@ -256,7 +287,7 @@ complete_of call err (Ok Done) a text with_text faultless of_documents no_fault 
 complete_of call err (Ok (Refused fault)) a text with_text faultless of_documents no_fault =
     let same = same_text call text a.0.text a.0.name with_text a.0.words a.0.file in
     absurd (faultless fault (subst (λ (t : List ℕ). HasFault t fault) same a.0.cause.has))
-complete_of call err (Ok Usage) a text with_text faultless of_documents no_fault = absurd (a.0.0 with_text.name with_text.words)
+complete_of call err (Ok Usage) a text with_text faultless of_documents no_fault = absurd (a.0.words with_text.name with_text.words)
 complete_of call err (Ok (Corpus fault)) a text with_text faultless of_documents no_fault =
     absurd (no_corpus_fault (line_of a.0.program) call.corpus call.out fault a.0.ran of_documents)
 complete_of call err (Ok ReadFault) a text with_text faultless of_documents no_fault =
@@ -272,6 +303,8 @@ pub outcome_of : (call : Call) (err : SinkEnds) (result : Result Status OutOfMem
 outcome_of call err result a = record {
   answered = a;
   front = front_of call err result a;
+  told = told_of call err result a;
+  read = read_of call err result a;
   usage = usage_of call err result a;
   refused = refused_of call err result a;
   complete = complete_of call err result a;

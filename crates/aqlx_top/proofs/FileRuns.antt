@@ -6,20 +6,22 @@ use Rattle.aql_io.specs.Bytes.{Names}
 use Rattle.row_values.specs.Outputs.{OutputNames}
 use Rattle.span_token.specs.Documents.{Doc}
 use Rattle.span_token.specs.declared.refusal.OutOfMemory.{OutOfMemory}
-use Rattle.aqlx_top.specs.declared.limits.TheConstants.{PROGRAM_LIMIT}
+use Rattle.aqlx_top.specs.Limits.{program_limit}
 use Rattle.aqlx_top.specs.declared.program.Compiled.{Compiled}
 use Rattle.aqlx_top.specs.declared.status.Status.{Status}
 use Rattle.aqlx_top.specs.declared.status.Status.TheVariants.{Done, Program as Refused, Usage, Corpus, ReadFault, WriteFault}
 use Rattle.aqlx_top.specs.declared.status.ProgramFault.{ProgramFault}
 use Rattle.aqlx_top.specs.declared.status.ProgramFault.TheVariants.{Large}
 use Rattle.aqlx_top.specs.declared.status.What.TheVariants.{Bytes}
-use Rattle.aqlx_top.specs.Devices.{FilesEnds, SourceEnds, SinkEnds}
-use Rattle.aqlx_top.specs.Outcome.{IsHeldAs, IsCalledFor, WroteFront, HasCauseOf, RanText, IsFileRunTo, IsFileInPart, IsTextRunTo, IsTextInPart, call_of}
+use Rattle.aqlx_top.specs.Devices.{FilesEnds, SourceEnds, SinkEnds, FilesNeverFailed}
+use Rattle.aqlx_top.specs.Endings.{InPart}
+use Rattle.aqlx_top.specs.Outcome.{IsReadAs, IsCalledFor, WroteFront, HasCauseOf, call_of}
 use Rattle.aqlx_top.specs.ProgramFaults.{HasOnlyFault, HoldsProgram}
 use Rattle.aqlx_top.specs.ProgramFile.{IsFrontOf}
 use Rattle.aqlx_top.specs.Programs.{IsCompiled}
-use Rattle.aqlx_top.specs.Progress.{InPart, IsRunTo}
+use Rattle.aqlx_top.specs.Progress.{IsRunTo}
 use Rattle.aqlx_top.specs.Run.{Program, line_of, line_for}
+use Rattle.aqlx_top.specs.Stages.{RanText, IsFileRunTo, IsFileInPart, IsTextRunTo, IsTextInPart}
 use Rattle.aqlx_top.specs.Words.{IsRun}
 use Rattle.aqlx_top.proofs.ProgramLaws.{only_large}
 
@@ -44,25 +46,25 @@ text_part text program piece corpus out (Err e) holds means part =
 -- ---- a front of a file
 
 -- the text that a file holds, of which this is the front, and whether the front is all of it
-whole_or_large : (held bytes : List ℕ) → bytes ≡ take (PROGRAM_LIMIT + 1) held
-    → (bytes ≡ held) ⊎ ((PROGRAM_LIMIT < length held) × (PROGRAM_LIMIT < length bytes))
+whole_or_large : (held bytes : List ℕ) → bytes ≡ take (program_limit + 1) held
+    → (bytes ≡ held) ⊎ ((program_limit < length held) × (program_limit < length bytes))
 whole_or_large held bytes front =
-    elim (cases_lt PROGRAM_LIMIT (length held)) [
-      | inl large ↦ inr (large, let e = ap length front ∙ length-take (PROGRAM_LIMIT + 1) held in omega arith)
-      | inr small ↦ inl (front ∙ take_all (PROGRAM_LIMIT + 1) held (omega arith))
+    elim (cases_lt program_limit (length held)) [
+      | inl large ↦ inr (large, let e = ap length front ∙ length-take (program_limit + 1) held in omega arith)
+      | inr small ↦ inl (front ∙ take_all (program_limit + 1) held (omega arith))
     ]
 
-fault_of_held : (held bytes : List ℕ) (fault : ProgramFault) → bytes ≡ take (PROGRAM_LIMIT + 1) held → HasOnlyFault bytes fault → HasOnlyFault held fault
+fault_of_held : (held bytes : List ℕ) (fault : ProgramFault) → bytes ≡ take (program_limit + 1) held → HasOnlyFault bytes fault → HasOnlyFault held fault
 fault_of_held held bytes fault front cause =
     elim (whole_or_large held bytes front) [
       | inl whole ↦ subst (λ (t : List ℕ). HasOnlyFault t fault) whole cause
       | inr large ↦
           subst (λ (f : ProgramFault). HasOnlyFault held f)
-          (cause.only (Large Bytes (PROGRAM_LIMIT + 1)) (only_large bytes large.1).has)
+          (cause.only (Large Bytes (program_limit + 1)) (only_large bytes large.1).has)
           (only_large held large.0)
     ]
 
-program_of_held : (held bytes : List ℕ) (program : Program) → bytes ≡ take (PROGRAM_LIMIT + 1) held → HoldsProgram bytes program → HoldsProgram held program
+program_of_held : (held bytes : List ℕ) (program : Program) → bytes ≡ take (program_limit + 1) held → HoldsProgram bytes program → HoldsProgram held program
 program_of_held held bytes program front holds =
     elim (whole_or_large held bytes front) [
       | inl whole ↦ subst (λ (t : List ℕ). HoldsProgram t program) whole holds
@@ -73,67 +75,71 @@ program_of_held held bytes program front holds =
 abbrev Held : Option (List ℕ) → (List ℕ → Type 0) → Type 0
 Held file P = (text : List ℕ) × (file ≡ Some text) × P text
 
-fault_at : (file : Option (List ℕ)) (bytes : List ℕ) (fault : ProgramFault) → IsFrontOf file (PROGRAM_LIMIT + 1) bytes → HasOnlyFault bytes fault
+fault_at : (file : Option (List ℕ)) (bytes : List ℕ) (fault : ProgramFault) → IsFrontOf file (program_limit + 1) bytes → HasOnlyFault bytes fault
     → Held file (λ text. HasOnlyFault text fault)
 fault_at None bytes fault front cause = absurd front
 fault_at (Some held) bytes fault front cause = (held, refl, fault_of_held held bytes fault front cause)
 
-program_at : (file : Option (List ℕ)) (bytes : List ℕ) (program : Program) → IsFrontOf file (PROGRAM_LIMIT + 1) bytes → HoldsProgram bytes program
+program_at : (file : Option (List ℕ)) (bytes : List ℕ) (program : Program) → IsFrontOf file (program_limit + 1) bytes → HoldsProgram bytes program
     → Held file (λ text. HoldsProgram text program)
 program_at None bytes program front holds = absurd front
 program_at (Some held) bytes program front holds = (held, refl, program_of_held held bytes program front holds)
 
-fault_of_front : (told : Option Names) (name bytes : List ℕ) (fault : ProgramFault) → IfSome told (λ names. IsFrontOf (names name) (PROGRAM_LIMIT + 1) bytes)
+fault_of_front : (told : Option Names) (name bytes : List ℕ) (fault : ProgramFault) → IfSome told (λ names. IsFrontOf (names name) (program_limit + 1) bytes)
     → HasOnlyFault bytes fault → (text : List ℕ) × IfSome told (λ names. names name ≡ Some text) × HasOnlyFault text fault
 fault_of_front None name bytes fault front cause = (bytes, tt, cause)
 fault_of_front (Some names) name bytes fault front cause = fault_at (names name) bytes fault front cause
 
-program_of_front : (told : Option Names) (name bytes : List ℕ) (program : Program) → IfSome told (λ names. IsFrontOf (names name) (PROGRAM_LIMIT + 1) bytes)
+program_of_front : (told : Option Names) (name bytes : List ℕ) (program : Program) → IfSome told (λ names. IsFrontOf (names name) (program_limit + 1) bytes)
     → HoldsProgram bytes program → (text : List ℕ) × IfSome told (λ names. names name ≡ Some text) × HoldsProgram text program
 program_of_front None name bytes program front holds = (bytes, tt, holds)
 program_of_front (Some names) name bytes program front holds = program_at (names name) bytes program front holds
 
 -- ---- a file that ran
 
+-- a text of the file, which was read without a failed call
+read_as : (files : FilesEnds) (name text : List ℕ) → IfSome files.told (λ names. names name ≡ Some text) → FilesNeverFailed files → IsReadAs files name text
+read_as files name text held unfailed = record { held = held; unfailed = unfailed }
+
 file_run_to : (name bytes : List ℕ) (files : FilesEnds) (corpus : SourceEnds) (out : SinkEnds) (status : Status)
-    → IfSome files.told (λ names. IsFrontOf (names name) (PROGRAM_LIMIT + 1) bytes)
+    → IfSome files.told (λ names. IsFrontOf (names name) (program_limit + 1) bytes) → FilesNeverFailed files
     → IsTextRunTo bytes corpus out status → IsFileRunTo name files corpus out status
-file_run_to name bytes files corpus out status front ran =
+file_run_to name bytes files corpus out status front unfailed ran =
     elim ran [
       | inl refused ↦
           let found = fault_of_front files.told name bytes refused.fault front refused.cause in
-          inr (found.0, found.1, inl (record { fault = refused.fault; told = refused.told; cause = found.2; idle = refused.idle }))
+          inr (found.0, read_as files name found.0 found.1 unfailed, inl (record { fault = refused.fault; told = refused.told; cause = found.2; idle = refused.idle }))
       | inr run ↦
           let found = program_of_front files.told name bytes run.program front run.holds in
-          inr (found.0, found.1, inr (record { program = run.program; holds = found.2; ran = run.ran }))
+          inr (found.0, read_as files name found.0 found.1 unfailed, inr (record { program = run.program; holds = found.2; ran = run.ran }))
     ]
 
 pub file_run : (name bytes : List ℕ) (files : FilesEnds) (corpus : SourceEnds) (out : SinkEnds) (r : Result Status OutOfMemory)
-    → IfSome files.told (λ names. IsFrontOf (names name) (PROGRAM_LIMIT + 1) bytes)
+    → IfSome files.told (λ names. IsFrontOf (names name) (program_limit + 1) bytes) → FilesNeverFailed files
     → IfOk r (IsTextRunTo bytes corpus out) → IfOk r (IsFileRunTo name files corpus out)
-file_run name bytes files corpus out (Ok status) front ran = file_run_to name bytes files corpus out status front ran
-file_run name bytes files corpus out (Err e) front ran = tt
+file_run name bytes files corpus out (Ok status) front unfailed ran = file_run_to name bytes files corpus out status front unfailed ran
+file_run name bytes files corpus out (Err e) front unfailed ran = tt
 
 pub file_part : (name bytes : List ℕ) (files : FilesEnds) (corpus : SourceEnds) (out : SinkEnds) (r : Result Status OutOfMemory)
-    → IfSome files.told (λ names. IsFrontOf (names name) (PROGRAM_LIMIT + 1) bytes)
+    → IfSome files.told (λ names. IsFrontOf (names name) (program_limit + 1) bytes) → FilesNeverFailed files
     → OnErr r (IsTextInPart bytes corpus out) → OnErr r (IsFileInPart name files corpus out)
-file_part name bytes files corpus out (Ok status) front part = tt
-file_part name bytes files corpus out (Err e) front part =
+file_part name bytes files corpus out (Ok status) front unfailed part = tt
+file_part name bytes files corpus out (Err e) front unfailed part =
     elim part [
       | inl nothing ↦ inl nothing
       | inr run ↦
           let found = program_of_front files.told name bytes run.program front run.holds in
-          inr (found.0, found.1, record { program = run.program; holds = found.2; ran = run.ran })
+          inr (found.0, read_as files name found.0 found.1 unfailed, record { program = run.program; holds = found.2; ran = run.ran })
     ]
 
 -- ---- words that name a file
 
 called_by : (words : List (List ℕ)) (name text : List ℕ) (files : FilesEnds) (corpus : SourceEnds) (out : SinkEnds) (program : Program)
-    → IsRun words name → IsHeldAs files name text → HoldsProgram text program → IsCalledFor (call_of words files corpus out) program
+    → IsRun words name → IsReadAs files name text → HoldsProgram text program → IsCalledFor (call_of words files corpus out) program
 called_by words name text files corpus out program run held holds = record { name = name; text = text; words = run; file = held; holds = holds }
 
 cause_of_run : (words : List (List ℕ)) (name text : List ℕ) (files : FilesEnds) (corpus : SourceEnds) (out : SinkEnds) (status : Status)
-    → IsRun words name → IsHeldAs files name text → RanText text corpus out status → HasCauseOf (call_of words files corpus out) status
+    → IsRun words name → IsReadAs files name text → RanText text corpus out status → HasCauseOf (call_of words files corpus out) status
 cause_of_run words name text files corpus out Done run held f =
     record { program = f.program; called = called_by words name text files corpus out f.program run held f.holds; ran = f.ran }
 cause_of_run words name text files corpus out (Refused fault) run held f = absurd f.ran.status_is

@@ -1,5 +1,6 @@
 pub mod Sinks
 pub mod Lists
+pub mod LimitLaws
 pub mod FileLemmas
 pub mod Documents
 pub mod Readings

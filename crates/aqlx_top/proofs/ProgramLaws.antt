@@ -7,13 +7,12 @@ use Rattle.aql_lexer.specs.Kinds.{Kind, Token}
 use Rattle.aql_lexer.specs.Reading.{IsFault, IsDecided}
 use Rattle.aql_lexer.specs.declared.token.LexFault.{LexFault}
 use Rattle.aql_parser.specs.declared.parsing.SyntaxFault.{SyntaxFault}
-use Rattle.aql_parser.specs.declared.measuring.TheConstants.{MAX_NESTING}
 use Rattle.aql_parser.specs.Faults.{kinds_in, IsSyntaxFault}
 use Rattle.aql_parser.specs.Faults as parsing
-use Rattle.aql_parser.specs.Nesting.{IsNesting, NestsWithin}
+use Rattle.aql_parser.specs.Nesting.{IsNesting, NestsWithin, nesting_limit}
 use Rattle.aql_syntax.specs.Trees.{Statement}
 use Rattle.aql_syntax.specs.Programs.{AreTokensOf, placed_in}
-use Rattle.aqlx_top.specs.declared.limits.TheConstants.{PROGRAM_LIMIT}
+use Rattle.aqlx_top.specs.Limits.{program_limit}
 use Rattle.aqlx_top.specs.declared.status.ProgramFault.{ProgramFault}
 use Rattle.aqlx_top.specs.declared.status.ProgramFault.TheVariants.{Text, Large, Lex, Syntax, Unbuilt}
 use Rattle.aqlx_top.specs.declared.status.What.TheVariants.{Bytes, Statements, Nesting}
@@ -37,8 +36,8 @@ one_place : (bytes : List ℕ) (p q : ℕ) → IsValidUpTo bytes p → IsValidUp
 one_place bytes p q stops other = sym (utf8_valid_len-IsValidUpTo bytes q other) ∙ utf8_valid_len-IsValidUpTo bytes p stops
 
 -- more bytes than a program has are that fault alone
-large_alone : (bytes : List ℕ) → PROGRAM_LIMIT < length bytes → (other : ProgramFault) → HasFault bytes other
-    → other ≡ Large Bytes (PROGRAM_LIMIT + 1)
+large_alone : (bytes : List ℕ) → program_limit < length bytes → (other : ProgramFault) → HasFault bytes other
+    → other ≡ Large Bytes (program_limit + 1)
 large_alone bytes large (Large Bytes number) h = ap (Large Bytes) h.1
 large_alone bytes large (Text place) h = let small = h.0 in absurd (omega arith)
 large_alone bytes large (Lex fault) h = let small = h.0 in absurd (omega arith)
@@ -47,10 +46,10 @@ large_alone bytes large (Large Nesting number) h = let small = h.1.small in absu
 large_alone bytes large (Syntax fault) h = let small = h.1.small in absurd (omega arith)
 large_alone bytes large (Unbuilt number) h = let small = h.1.reads.small in absurd (omega arith)
 
-pub only_large : (bytes : List ℕ) → PROGRAM_LIMIT < length bytes → HasOnlyFault bytes (Large Bytes (PROGRAM_LIMIT + 1))
+pub only_large : (bytes : List ℕ) → program_limit < length bytes → HasOnlyFault bytes (Large Bytes (program_limit + 1))
 only_large bytes large = record { has = (large, refl); only = large_alone bytes large }
 
-text_alone : (bytes : List ℕ) (place : ℕ) → length bytes ≤ PROGRAM_LIMIT → IsValidUpTo bytes place → (other : ProgramFault) → HasFault bytes other
+text_alone : (bytes : List ℕ) (place : ℕ) → length bytes ≤ program_limit → IsValidUpTo bytes place → (other : ProgramFault) → HasFault bytes other
     → other ≡ Text place
 text_alone bytes place small stops (Large Bytes number) h = let large = h.0 in absurd (omega arith)
 text_alone bytes place small stops (Text other) h = ap Text (one_place bytes place other stops h.1)
@@ -60,12 +59,12 @@ text_alone bytes place small stops (Large Nesting number) h = absurd (not_text b
 text_alone bytes place small stops (Syntax fault) h = absurd (not_text bytes place h.1.text stops)
 text_alone bytes place small stops (Unbuilt number) h = absurd (not_text bytes place h.1.reads.text stops)
 
-pub only_text : (bytes : List ℕ) (place : ℕ) → length bytes ≤ PROGRAM_LIMIT → IsValidUpTo bytes place → HasOnlyFault bytes (Text place)
+pub only_text : (bytes : List ℕ) (place : ℕ) → length bytes ≤ program_limit → IsValidUpTo bytes place → HasOnlyFault bytes (Text place)
 only_text bytes place small stops = record { has = (small, stops); only = text_alone bytes place small stops }
 
 -- ---- tokens
 
-lex_alone : (bytes : List ℕ) (fault : LexFault) → length bytes ≤ PROGRAM_LIMIT → IsUtf8 bytes → IsDecided bytes → IsFault bytes fault.place
+lex_alone : (bytes : List ℕ) (fault : LexFault) → length bytes ≤ program_limit → IsUtf8 bytes → IsDecided bytes → IsFault bytes fault.place
     → (other : ProgramFault) → HasFault bytes other → other ≡ Lex fault
 lex_alone bytes fault small text decided at (Large Bytes number) h = let large = h.0 in absurd (omega arith)
 lex_alone bytes fault small text decided at (Text place) h = absurd (not_text bytes place text h.1)
@@ -76,7 +75,7 @@ lex_alone bytes fault small text decided at (Large Nesting number) h = absurd (d
 lex_alone bytes fault small text decided at (Syntax other) h = absurd (decided.not_both h.0 fault.place h.1.reading at)
 lex_alone bytes fault small text decided at (Unbuilt number) h = absurd (decided.not_both h.1.tokens fault.place h.1.reads.reading at)
 
-pub only_lex : (bytes : List ℕ) (fault : LexFault) → length bytes ≤ PROGRAM_LIMIT → IsUtf8 bytes → IsDecided bytes → IsFault bytes fault.place
+pub only_lex : (bytes : List ℕ) (fault : LexFault) → length bytes ≤ program_limit → IsUtf8 bytes → IsDecided bytes → IsFault bytes fault.place
     → HasOnlyFault bytes (Lex fault)
 only_lex bytes fault small text decided at = record { has = (small, text, at); only = lex_alone bytes fault small text decided at }
 
@@ -111,7 +110,7 @@ token_fault bytes tokens decided reads (Unbuilt number) h =
 -- ---- sizes
 
 -- within the limit the nesting isn't past it
-not_deeper : (kinds : List Kind) (number : ℕ) → NestsWithin MAX_NESTING kinds → IsNesting kinds number → MAX_NESTING < number → ⊥
+not_deeper : (kinds : List Kind) (number : ℕ) → NestsWithin nesting_limit kinds → IsNesting kinds number → nesting_limit < number → ⊥
 not_deeper kinds number within nesting deep =
     let least : number ≤ within.0 = nesting.least within.0 within.1.within in
     let low = within.2 in

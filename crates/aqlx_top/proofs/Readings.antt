@@ -5,7 +5,7 @@ use Rattle.std.proofs.lemmas.List.Elements.{All-append, All-cons, All-nil}
 use Rattle.std.proofs.lemmas.Grind.{flat_map-append}
 use Rattle.std.specs.Io.KnownBytes.{Consumes, IsAtEnd}
 use Rattle.aql_io.specs.Causes.{Rose}
-use Rattle.corpus_json.specs.declared.limits.TheConstants.{LINE_LIMIT, CORPUS_LIMIT}
+use Rattle.corpus_json.specs.Limits.{line_limit, corpus_limit}
 use Rattle.corpus_json.specs.declared.step.Step.{Step}
 use Rattle.corpus_json.specs.declared.step.Step.TheVariants.{Line, End, Long, Failed, Limit}
 use Rattle.corpus_json.specs.Lines.{lines_of, joined, last_line, HasNoLf}
@@ -55,7 +55,7 @@ after_end left given ready more line lines now split whole unended counted ends 
     ap (lines_of true) (more_given given ready more lines split ∙ ap (λ (bs : List ℕ). joined lines ++ bs) ends.whole)
     ∙ lines_with true lines line whole unended.no_lf
     ∙ ap (λ (ls : List (List ℕ)). lines ++ ls) (last_line-ended line some) in
-    let below : length (given ++ more) < CORPUS_LIMIT = rw counted ends.below in
+    let below : length (given ++ more) < corpus_limit = rw counted ends.below in
     rw (ap (λ (r : Reading). r.last) ends.ended) (refl, all, ends.at_end, below)
 
 -- a line was given
@@ -93,14 +93,14 @@ pub end_read : (left_before left_now : Option (List ℕ)) (faults_before faults_
     → is_some left_now ≡ is_some left_before
     → IsReadTo left_before given lines (record { ready = ready; taken = taken; last = last })
     → (next : NextLine left_before left_now faults_before faults_now (record { ready = ready; taken = taken; last = last }) now line End)
-    → (lines_of true (given ++ next.more) ≡ lines) × IsAtEnd left_now × (length (given ++ next.more) < CORPUS_LIMIT)
+    → (lines_of true (given ++ next.more) ≡ lines) × IsAtEnd left_now × (length (given ++ next.more) < corpus_limit)
 end_read left_before left_now faults_before faults_now given line lines ready taken None now counted told read next =
     let all : lines_of true (given ++ next.more) ≡ lines =
     ap (lines_of true) (more_given given ready next.more lines read.0 ∙ ap (λ (bs : List ℕ). joined lines ++ bs) next.answer.0)
     ∙ lines_with true lines [] read.1 (All-nil _)
     ∙ append-nil lines in
     let many : length (given ++ next.more) ≡ now.taken = count_given given next.more taken now.taken counted next.counted in
-    let below : length (given ++ next.more) < CORPUS_LIMIT = rw many next.answer.2 in
+    let below : length (given ++ next.more) < corpus_limit = rw many next.answer.2 in
     (all, next.answer.1, below)
 end_read left_before left_now faults_before faults_now given line lines ready taken (Some last) now counted told read next =
     let none : given ++ next.more ≡ given = ap (λ (bs : List ℕ). given ++ bs) next.answer.1 ∙ append-nil given in
@@ -112,10 +112,10 @@ pub failed_read : (left_before left_now : Option (List ℕ)) (faults_before faul
     → taken ≡ length given
     → IsReadTo left_before given lines (record { ready = ready; taken = taken; last = last })
     → (next : NextLine left_before left_now faults_before faults_now (record { ready = ready; taken = taken; last = last }) now line Failed)
-    → (lines_of false (given ++ next.more) ≡ lines) × Rose faults_before faults_now × (length (given ++ next.more) < CORPUS_LIMIT)
+    → (lines_of false (given ++ next.more) ≡ lines) × Rose faults_before faults_now × (length (given ++ next.more) < corpus_limit)
 failed_read left_before left_now faults_before faults_now given line lines ready taken None now counted read next =
     let many : length (given ++ next.more) ≡ now.taken = count_given given next.more taken now.taken counted next.counted in
-    let below : length (given ++ next.more) < CORPUS_LIMIT = rw many next.answer.2 in
+    let below : length (given ++ next.more) < corpus_limit = rw many next.answer.2 in
     (unended_lines given ready next.more lines read.0 read.1 next.answer.0, next.answer.1, below)
 failed_read left_before left_now faults_before faults_now given line lines ready taken (Some last) now counted read next =
     let other : Failed ≡ End = next.answer.0 ∙ read.0 in absurd (cc)
@@ -125,7 +125,7 @@ pub limit_read : (left_before left_now : Option (List ℕ)) (faults_before fault
     → taken ≡ length given
     → IsReadTo left_before given lines (record { ready = ready; taken = taken; last = last })
     → (next : NextLine left_before left_now faults_before faults_now (record { ready = ready; taken = taken; last = last }) now line Limit)
-    → (lines_of false (given ++ next.more) ≡ lines) × (length (given ++ next.more) ≡ CORPUS_LIMIT)
+    → (lines_of false (given ++ next.more) ≡ lines) × (length (given ++ next.more) ≡ corpus_limit)
 limit_read left_before left_now faults_before faults_now given line lines ready taken None now counted read next =
     (unended_lines given ready next.more lines read.0 read.1 next.answer.0, count_given given next.more taken now.taken counted next.counted ∙ next.answer.1)
 limit_read left_before left_now faults_before faults_now given line lines ready taken (Some last) now counted read next =
@@ -135,7 +135,7 @@ limit_read left_before left_now faults_before faults_now given line lines ready 
 pub long_read : (left_before left_now : Option (List ℕ)) (faults_before faults_now : ℕ) (given line : List ℕ) (lines : List (List ℕ)) (ready : List ℕ) (taken : ℕ) (last : Option Step) (now : Reading)
     → IsReadTo left_before given lines (record { ready = ready; taken = taken; last = last })
     → (next : NextLine left_before left_now faults_before faults_now (record { ready = ready; taken = taken; last = last }) now line Long)
-    → (first : List ℕ) × (later : List (List ℕ)) × (lines_of false (given ++ next.more) ≡ lines ++ first ∷ later) × (LINE_LIMIT < length first)
+    → (first : List ℕ) × (later : List (List ℕ)) × (lines_of false (given ++ next.more) ≡ lines ++ first ∷ later) × (line_limit < length first)
 long_read left_before left_now faults_before faults_now given line lines ready taken None now read next =
     let long = lines_of-too_long false (ready ++ next.more) next.answer.0 in
     let all : lines_of false (given ++ next.more) ≡ lines ++ long.first ∷ long.later =
@@ -148,14 +148,14 @@ long_read left_before left_now faults_before faults_now given line lines ready t
 
 -- the reading is left off, or at the source's end
 pub record IsLeftOff (left : Option (List ℕ)) (given : List ℕ) (how : How) : Type 0 where
-  pub ended : how ≡ at_end → IsAtEnd left × (length given < CORPUS_LIMIT)
+  pub ended : how ≡ at_end → IsAtEnd left × (length given < corpus_limit)
   pub broken : ¬ (how ≡ failed)
   pub full : ¬ (how ≡ at_limit)
 
 left_off_is : (left : Option (List ℕ)) (given : List ℕ) → IsLeftOff left given left_off
 left_off_is left given = record { ended = λ e. absurd (cc); broken = λ e. cc; full = λ e. cc }
 
-at_end_is : (left : Option (List ℕ)) (given : List ℕ) → IsAtEnd left → length given < CORPUS_LIMIT → IsLeftOff left given at_end
+at_end_is : (left : Option (List ℕ)) (given : List ℕ) → IsAtEnd left → length given < corpus_limit → IsLeftOff left given at_end
 at_end_is left given ended below = record { ended = λ e. (ended, below); broken = λ e. cc; full = λ e. cc }
 
 -- the lines that were given are the first ones of what was taken, left off or at its end

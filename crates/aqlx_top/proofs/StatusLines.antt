@@ -1,9 +1,7 @@
--- Statuses that have a line, and the line of what isn't built.
-use Rattle.std.proofs.Common.{◌≡◌, ◌≢◌, ℕ, List, [], ◌++◌, ap, ◌∙◌, refl, codes, append_assoc}
-use Rattle.std.specs.Fmt.{decimal}
+-- Statuses that have a line.
+use Rattle.std.proofs.Common.{◌≢◌, ℕ, List, [], refl, codes}
 use Rattle.aqlx_top.specs.declared.status.Status.{Status}
 use Rattle.aqlx_top.specs.declared.status.Status.TheVariants.{Done, Program, Usage, Corpus, ReadFault, WriteFault}
-use Rattle.aqlx_top.specs.declared.status.ProgramFault.TheVariants.{Unbuilt}
 use Rattle.aqlx_top.specs.Statuses.{message_of, error_line, program_text, corpus_text}
 
 line_is_some : (text : List ℕ) → error_line text ≢ []
@@ -17,7 +15,3 @@ has_line Usage not_done not_written = line_is_some (codes "usage: aqlx MODE PROG
 has_line (Corpus fault) not_done not_written = line_is_some (corpus_text fault)
 has_line ReadFault not_done not_written = line_is_some (codes "read fault")
 has_line WriteFault not_done not_written = λ e. not_written refl
-
-pub unbuilt_line : (shown statement : ℕ) → shown ≡ statement
-    → codes "aqlx: statement " ++ decimal shown ++ codes ": not built yet\n" ≡ error_line (program_text (Unbuilt statement))
-unbuilt_line shown statement e = ap (λ (n : ℕ). codes "aqlx: statement " ++ decimal n ++ codes ": not built yet\n") e ∙ simp append_assoc

@@ -8,7 +8,7 @@ use Rattle.std.specs.Io.KnownBytes.{Appends, Consumes}
 use Rattle.std.proofs.KnownBytes.{Consumes-nil}
 use Rattle.aql_io.specs.Causes.{Rose}
 use Rattle.span_token.specs.Documents.{Doc}
-use Rattle.corpus_json.specs.declared.limits.TheConstants.{LINE_LIMIT, CORPUS_LIMIT}
+use Rattle.corpus_json.specs.Limits.{line_limit, corpus_limit}
 use Rattle.corpus_json.specs.declared.step.Step.{Step}
 use Rattle.corpus_json.specs.declared.step.Step.TheVariants.{Line, End, Long, Failed, Limit}
 use Rattle.corpus_json.specs.Documents.{is_bad_line}
@@ -22,8 +22,9 @@ use Rattle.span_token.specs.declared.refusal.OutOfMemory.{OutOfMemory}
 use Rattle.aqlx_top.specs.declared.status.Status.{Status}
 use Rattle.aqlx_top.specs.declared.status.Status.TheVariants.{Done, Program, Usage, Corpus, ReadFault, WriteFault}
 use Rattle.aqlx_top.specs.declared.status.CorpusFault.TheVariants.{BadLine, LineLong, CorpusLarge}
-use Rattle.aqlx_top.specs.Devices.{SourceEnds, SinkEnds, source_ends, IsFlushed}
-use Rattle.aqlx_top.specs.Progress.{Stands, Finished, InPart, Came, IsRunTo, IsReadTo, written_for}
+use Rattle.aqlx_top.specs.Devices.{SourceEnds, SinkEnds, source_ends, IsFlushed, SinkNeverFailed}
+use Rattle.aqlx_top.specs.Endings.{InPart, Came, written_for}
+use Rattle.aqlx_top.specs.Progress.{Stands, Finished, IsRunTo, IsReadTo}
 use Rattle.aqlx_top.specs.Taken.{How, at_end, failed, at_limit, left_off, is_at_end, IsTaken, HasNoBadLine}
 use Rattle.aqlx_top.proofs.Documents.{pieces-append, documents_from_bad}
 use Rattle.aqlx_top.proofs.Readings.{IsLeftOff, lines_so_far, line_read, end_read, failed_read, limit_read, long_read}
@@ -36,8 +37,8 @@ consumes_more (Some a) None c xs ys h k = absurd h
 consumes_more (Some a) (Some b) None xs ys h k = absurd k
 consumes_more (Some a) (Some b) (Some c) xs ys h k = h ∙ ap (λ (zs : List ℕ). xs ++ zs) k ∙ sym (append_assoc xs ys c)
 
--- a count that rose in a later call rose
-pub rose_later : (a b c : ℕ) → a ≤ b → Rose b c → Rose a c
+-- a count that stood and then rose in a later call rose
+pub rose_later : (a b c : ℕ) → b ≡ a → Rose b c → Rose a c
 rose_later a b c h k = omega arith
 
 -- a reading that is left off, or at its end, is how a run took what it took
@@ -93,7 +94,7 @@ sent_whole piece corpus held_before held_now held_next reading pending number s 
       lines = s.lines;
       sent = s.sent ++ pending;
       taken = s.taken;
-      later = s.later;
+      unfailed = s.unfailed;
       counted = s.counted;
       within = s.within;
       read = s.read;
@@ -137,28 +138,32 @@ finished_in_part piece corpus held_before held_now held_next pending status coun
 -- a finished run of which what is pending is sent whole and flushed
 came_of : (piece : Doc → List ℕ) (corpus : SourceEnds) (out : SinkEnds) (held_now : Option (List ℕ)) (pending : List ℕ) (status : Status)
     → Finished piece corpus out.held_before held_now pending status
-    → Appends held_now out.held_after pending → IsFlushed out
+    → Appends held_now out.held_after pending → IsFlushed out → SinkNeverFailed out
     → Came piece corpus out status
-came_of piece corpus out held_now pending status f h flushed =
+came_of piece corpus out held_now pending status f h flushed unfailed =
     record {
       given = f.given;
       how = f.how;
       taken = f.taken;
       status_is = f.status_is;
-      wrote = subst (λ (bs : List ℕ). Appends out.held_before out.held_after bs) f.wrote (appends_more out.held_before held_now out.held_after f.sent pending f.gained h);
-      flushed = flushed;
+      read = f.read;
+      wrote = record {
+        gained = subst (λ (bs : List ℕ). Appends out.held_before out.held_after bs) f.wrote (appends_more out.held_before held_now out.held_after f.sent pending f.gained h);
+        flushed = flushed;
+        unfailed = unfailed;
+      };
     }
 
 pub run_to : (piece : Doc → List ℕ) (corpus : SourceEnds) (out : SinkEnds) (held_now : Option (List ℕ)) (pending : List ℕ) (status : Status)
     → Finished piece corpus out.held_before held_now pending status
-    → Appends held_now out.held_after pending → IsFlushed out
+    → Appends held_now out.held_after pending → IsFlushed out → SinkNeverFailed out
     → IsRunTo piece corpus out status
-run_to piece corpus out held_now pending Done f h flushed = came_of piece corpus out held_now pending Done f h flushed
-run_to piece corpus out held_now pending (Program fault) f h flushed = came_of piece corpus out held_now pending (Program fault) f h flushed
-run_to piece corpus out held_now pending Usage f h flushed = came_of piece corpus out held_now pending Usage f h flushed
-run_to piece corpus out held_now pending (Corpus fault) f h flushed = came_of piece corpus out held_now pending (Corpus fault) f h flushed
-run_to piece corpus out held_now pending ReadFault f h flushed = came_of piece corpus out held_now pending ReadFault f h flushed
-run_to piece corpus out held_now pending WriteFault f h flushed = absurd f.status_is
+run_to piece corpus out held_now pending Done f h flushed unfailed = came_of piece corpus out held_now pending Done f h flushed unfailed
+run_to piece corpus out held_now pending (Program fault) f h flushed unfailed = came_of piece corpus out held_now pending (Program fault) f h flushed unfailed
+run_to piece corpus out held_now pending Usage f h flushed unfailed = came_of piece corpus out held_now pending Usage f h flushed unfailed
+run_to piece corpus out held_now pending (Corpus fault) f h flushed unfailed = came_of piece corpus out held_now pending (Corpus fault) f h flushed unfailed
+run_to piece corpus out held_now pending ReadFault f h flushed unfailed = came_of piece corpus out held_now pending ReadFault f h flushed unfailed
+run_to piece corpus out held_now pending WriteFault f h flushed unfailed = absurd f.status_is
 
 -- nothing is meant by what stands from a bad line on
 ended_before : (piece : Doc → List ℕ) (sent pending : List ℕ) (lines : List (List ℕ)) (line : List ℕ) (after all : List (List ℕ)) → HasNoBadLine lines
@@ -176,20 +181,19 @@ ended_before piece sent pending lines line after all good bad wrote split =
 pub next_line_good : (piece : Doc → List ℕ) (left_before left_now left_next : Option (List ℕ)) (faults_before faults_now faults_next : ℕ) (held_before held_now : Option (List ℕ)) (reading next_reading : Reading) (pending gain line : List ℕ) (number next_number : ℕ)
     → Stands piece (source_ends left_before left_now faults_before faults_now) held_before held_now reading pending number
     → NextLine left_now left_next faults_now faults_next reading next_reading line Line
-    → faults_now ≤ faults_next
-    → next_reading.taken ≤ CORPUS_LIMIT
+    → next_reading.taken ≤ corpus_limit
     → is_bad_line line ≡ false
     → gain ≡ written_for piece (line ∷ [])
     → next_number ≡ number + 1
     → Stands piece (source_ends left_before left_next faults_before faults_next) held_before held_now next_reading (pending ++ gain) next_number
-next_line_good piece left_before left_now left_next faults_before faults_now faults_next held_before held_now reading next_reading pending gain line number next_number s next later within good gains counts =
+next_line_good piece left_before left_now left_next faults_before faults_now faults_next held_before held_now reading next_reading pending gain line number next_number s next within good gains counts =
     record {
       within = within;
       given = s.given ++ next.more;
       lines = s.lines ++ line ∷ [];
       sent = s.sent;
       taken = consumes_more left_before left_now left_next s.given next.more s.taken next.consumed;
-      later = let before = s.later in omega arith;
+      unfailed = next.stands (λ e. cc) ∙ s.unfailed;
       counted = let e = length-append s.given next.more in let before = s.counted in let counted = next.counted in omega arith;
       read = line_read left_now left_next faults_now faults_next s.given line s.lines reading.ready reading.taken reading.last next_reading s.counted s.read next;
       good = All-append (λ (each : List ℕ). is_bad_line each ≡ false) s.lines (line ∷ []) s.good (All-cons (λ (each : List ℕ). is_bad_line each ≡ false) line [] good (All-nil (λ (each : List ℕ). is_bad_line each ≡ false)));
@@ -239,6 +243,7 @@ ended_bad piece left_before left_now left_next faults_before faults_now faults_n
         reason = short;
         numbered = counts ∙ ap (λ (n : ℕ). n + 1) s.numbered;
       };
+      read = λ other. next.stands (λ e. cc) ∙ s.unfailed;
       gained = s.gained;
       wrote = ended_before piece s.sent pending s.lines line so_far.1 (lines_of (is_at_end so_far.0) (s.given ++ next.more)) s.good bad s.wrote all;
     }
@@ -251,7 +256,7 @@ pub ended_long : (piece : Doc → List ℕ) (left_before left_now left_next : Op
     → Finished piece (source_ends left_before left_next faults_before faults_next) held_before held_now pending (Corpus (LineLong next_number))
 ended_long piece left_before left_now left_next faults_before faults_now faults_next held_before held_now reading next_reading pending line number next_number s next counts =
     let long = long_read left_now left_next faults_now faults_next s.given line s.lines reading.ready reading.taken reading.last next_reading s.read next in
-    let is_long : is_too_long long.0 ≡ true = lt-ltb LINE_LIMIT (length long.0) long.3 in
+    let is_long : is_too_long long.0 ≡ true = lt-ltb line_limit (length long.0) long.3 in
     let bad : is_bad_line long.0 ≡ true = rw is_long refl in
     record {
       given = s.given ++ next.more;
@@ -273,6 +278,7 @@ ended_long piece left_before left_now left_next faults_before faults_now faults_
         reason = is_long;
         numbered = counts ∙ ap (λ (n : ℕ). n + 1) s.numbered;
       };
+      read = λ other. next.stands (λ e. cc) ∙ s.unfailed;
       gained = s.gained;
       wrote = ended_before piece s.sent pending s.lines long.0 long.1 (lines_of false (s.given ++ next.more)) s.good bad s.wrote long.2;
     }
@@ -296,6 +302,7 @@ ended_done piece left_before left_now left_next faults_before faults_now faults_
         full = λ e. absurd (cc);
       };
       status_is = (refl, subst HasNoBadLine (sym end.0) s.good);
+      read = λ other. next.stands (λ e. cc) ∙ s.unfailed;
       gained = s.gained;
       wrote = s.wrote ∙ ap (written_for piece) (sym end.0);
     }
@@ -314,10 +321,11 @@ ended_failed piece left_before left_now left_next faults_before faults_now fault
       taken = record {
         taken = consumes_more left_before left_now left_next s.given next.more s.taken next.consumed;
         ended = λ e. absurd (cc);
-        broken = λ e. (rose_later faults_before faults_now faults_next s.later end.1, end.2);
+        broken = λ e. (rose_later faults_before faults_now faults_next s.unfailed end.1, end.2);
         full = λ e. absurd (cc);
       };
       status_is = (refl, subst HasNoBadLine (sym end.0) s.good);
+      read = λ other. absurd (other refl);
       gained = s.gained;
       wrote = s.wrote ∙ ap (written_for piece) (sym end.0);
     }
@@ -340,6 +348,7 @@ ended_limit piece left_before left_now left_next faults_before faults_now faults
         full = λ e. end.1;
       };
       status_is = (refl, subst HasNoBadLine (sym end.0) s.good);
+      read = λ other. next.stands (λ e. cc) ∙ s.unfailed;
       gained = s.gained;
       wrote = s.wrote ∙ ap (written_for piece) (sym end.0);
     }
@@ -384,7 +393,7 @@ pending_for_bad piece pending after line bad gains =
 pub line_is_short : (left_now left_next : Option (List ℕ)) (faults_now faults_next : ℕ) (ready : List ℕ) (taken : ℕ) (last : Option Step) (next_reading : Reading) (line : List ℕ)
     → IfSome last (λ step. step ≡ End)
     → NextLine left_now left_next faults_now faults_next (record { ready = ready; taken = taken; last = last }) next_reading line Line
-    → length line ≤ LINE_LIMIT
+    → length line ≤ line_limit
 line_is_short left_now left_next faults_now faults_next ready taken None next_reading line going next = next.answer.0.short
 line_is_short left_now left_next faults_now faults_next ready taken (Some last) next_reading line going next =
     let other : Line ≡ End = next.answer.0 ∙ going in absurd (cc)
@@ -403,8 +412,8 @@ goes_on left_now left_next faults_now faults_next ready taken (Some last) next_r
     let other : Line ≡ End = next.answer.0 ∙ going in absurd (cc)
 
 -- a line that is short is bad just where it is neither blank nor a document
-pub short_is : (line : List ℕ) → length line ≤ LINE_LIMIT → is_too_long line ≡ false
-short_is line short = le-ltb LINE_LIMIT (length line) short
+pub short_is : (line : List ℕ) → length line ≤ line_limit → is_too_long line ≡ false
+short_is line short = le-ltb line_limit (length line) short
 
 -- at the beginning nothing was taken, looked at, sent or pending
 pub begins : (piece : Doc → List ℕ) (left held : Option (List ℕ)) (faults : ℕ) → Stands piece (source_ends left left faults faults) held held (record { ready = []; taken = 0; last = None }) [] 0
@@ -414,7 +423,7 @@ begins piece left held faults =
       lines = [];
       sent = [];
       taken = Consumes-nil left;
-      later = omega arith;
+      unfailed = refl;
       counted = refl;
       within = omega arith;
       read = (refl, All-nil HasNoLf);
@@ -461,7 +470,7 @@ count_read left given lines ready taken (Some last) read =
 -- no more lines were looked at than bytes may be taken
 pub number_within : (piece : Doc → List ℕ) (left_before left_now : Option (List ℕ)) (faults_before faults_now : ℕ) (held_before held_now : Option (List ℕ)) (reading : Reading) (pending : List ℕ) (number : ℕ)
     → Stands piece (source_ends left_before left_now faults_before faults_now) held_before held_now reading pending number
-    → number ≤ CORPUS_LIMIT
+    → number ≤ corpus_limit
 number_within piece left_before left_now faults_before faults_now held_before held_now reading pending number s =
     let a = count_read left_now s.given s.lines reading.ready reading.taken reading.last s.read in
     let b = s.counted in

@@ -44,6 +44,17 @@ sink_ends held_before held_after flushed_before flushed_after faults_before faul
       faults_after = faults_after;
     }
 
+-- what a call did to files, a source and a sink, by what their traits tell of them
+abbrev pub files_between : {F : Type 0} → (F → Option Names) → (F → ℕ) → F → F → FilesEnds
+files_between told faults before after = files_ends (told before) (faults before) (faults after)
+
+abbrev pub source_between : {S : Type 0} → (S → Option (List ℕ)) → (S → ℕ) → S → S → SourceEnds
+source_between left faults before after = source_ends (left before) (left after) (faults before) (faults after)
+
+abbrev pub sink_between : {O : Type 0} → (O → Option (List ℕ)) → (O → ℕ) → (O → ℕ) → O → O → SinkEnds
+sink_between held flushed faults before after =
+    sink_ends (held before) (held after) (flushed before) (flushed after) (faults before) (faults after)
+
 -- a call of the files, of the source or of the sink failed
 abbrev pub FilesFailed : FilesEnds → Type 0
 FilesFailed files = Rose files.faults_before files.faults_after
@@ -54,6 +65,16 @@ SourceFailed source = Rose source.faults_before source.faults_after
 abbrev pub SinkFailed : SinkEnds → Type 0
 SinkFailed sink = Rose sink.faults_before sink.faults_after
 
+-- no call of the files, of the source or of the sink failed: their count of faults is as it was
+abbrev pub FilesNeverFailed : FilesEnds → Type 0
+FilesNeverFailed files = files.faults_after ≡ files.faults_before
+
+abbrev pub SourceNeverFailed : SourceEnds → Type 0
+SourceNeverFailed source = source.faults_after ≡ source.faults_before
+
+abbrev pub SinkNeverFailed : SinkEnds → Type 0
+SinkNeverFailed sink = sink.faults_after ≡ sink.faults_before
+
 -- the sink gained these bytes, and no others
 abbrev pub Gained : SinkEnds → List ℕ → Type 0
 Gained sink bytes = Appends sink.held_before sink.held_after bytes
@@ -61,6 +82,12 @@ Gained sink bytes = Appends sink.held_before sink.held_after bytes
 -- all bytes that the sink holds are flushed
 abbrev pub IsFlushed : SinkEnds → Type 0
 IsFlushed sink = IfSome sink.held_after (λ bytes. sink.flushed_after ≡ length bytes)
+
+-- the sink gained these bytes and no others, all that it holds is flushed, and no call of it failed
+pub record HasSent (sink : SinkEnds) (bytes : List ℕ) : Type 0 where
+  pub gained : Gained sink bytes
+  pub flushed : IsFlushed sink
+  pub unfailed : SinkNeverFailed sink
 
 -- the sink is as it was
 pub record IsUntouched (sink : SinkEnds) : Type 0 where

@@ -1,21 +1,29 @@
--- the command words, and the program that they name
+-- Words of public clauses
+-- the command words that ask for a run
 pub mod Words
-pub mod ProgramFile
 -- what a call did to its objects
 pub mod Devices
-pub mod Prefixes
 -- statuses and their lines on standard error
 pub mod Statuses
--- what was taken from the corpus, and a run under way
+-- what was taken from the corpus, and how a run ends
 pub mod Taken
-pub mod Progress
+pub mod Endings
 -- what a program means
 pub mod Run
-pub mod Turns
 -- what a program file holds, and its faults
+pub mod Limits
 pub mod OneForm
 pub mod ProgramTexts
 pub mod ProgramFaults
-pub mod Programs
 -- what the top call promises
 pub mod Outcome
+-- Words of private clauses
+-- what is read of a program file, and what it is compiled to
+pub mod ProgramFile
+pub mod Programs
+-- a run under way
+pub mod Prefixes
+pub mod Progress
+pub mod Turns
+-- what the stages of a call come to
+pub mod Stages

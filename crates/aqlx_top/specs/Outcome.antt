@@ -1,15 +1,14 @@
 -- The promise of the top call: what each answer says of the words, the files, the corpus and what was written.
 use Rattle.std.specs.Prelude.{◌≡◌, ◌≢◌, ℕ, ◌<◌, ◌⊎◌, true, List, [], length, Some, Result, Ok, Err, IfSome, IsSomeAnd, IsErr}
 use Rattle.span_token.specs.declared.refusal.OutOfMemory.{OutOfMemory}
-use Rattle.corpus_json.specs.declared.limits.TheConstants.{CORPUS_LIMIT}
+use Rattle.corpus_json.specs.Limits.{corpus_limit}
 use Rattle.corpus_json.specs.Lines.{lines_of}
 use Rattle.aqlx_top.specs.declared.status.Status.{Status}
 use Rattle.aqlx_top.specs.declared.status.Status.TheVariants.{Done, Program as Refused, Usage, Corpus, ReadFault, WriteFault}
 use Rattle.aqlx_top.specs.declared.status.ProgramFault.{ProgramFault}
-use Rattle.aqlx_top.specs.Devices.{FilesEnds, SourceEnds, SinkEnds, FilesFailed, SourceFailed, SinkFailed, Gained, IsUntouched, IsUnread}
+use Rattle.aqlx_top.specs.Devices.{FilesEnds, SourceEnds, SinkEnds, FilesFailed, SourceFailed, SinkFailed, FilesNeverFailed, SourceNeverFailed, SinkNeverFailed, Gained, IsUntouched, IsUnread}
 use Rattle.aqlx_top.specs.ProgramFaults.{HasFault, HasOnlyFault, IsFaultless, HoldsProgram}
-use Rattle.aqlx_top.specs.Progress.{IsRunTo}
-use Rattle.aqlx_top.specs.Run.{Program, Ran, RanInPart, line_of}
+use Rattle.aqlx_top.specs.Run.{Program, Ran, RanInPart}
 use Rattle.aqlx_top.specs.Statuses.{HasLine, HasLinePart, message_of}
 use Rattle.aqlx_top.specs.Taken.{HasNoBadLine}
 use Rattle.aqlx_top.specs.Words.{IsRun, IsNoRun}
@@ -25,16 +24,17 @@ pub record Call : Type 0 where
 abbrev pub call_of : List (List ℕ) → FilesEnds → SourceEnds → SinkEnds → Call
 call_of words files corpus out = record { words = words; files = files; corpus = corpus; out = out }
 
--- the file of this name holds this text, where the files tell what they hold
-abbrev pub IsHeldAs : FilesEnds → List ℕ → List ℕ → Type 0
-IsHeldAs files name text = IfSome files.told (λ names. names name ≡ Some text)
+-- the file of this name was read without a failed call, and holds this text, where the files tell what they hold
+pub record IsReadAs (files : FilesEnds) (name text : List ℕ) : Type 0 where
+  pub held : IfSome files.told (λ names. names name ≡ Some text)
+  pub unfailed : FilesNeverFailed files
 
 -- the words name a program file that holds this program
 pub record IsCalledFor (call : Call) (program : Program) : Type 0 where
   pub name : List ℕ
   pub text : List ℕ
   pub words : IsRun call.words name
-  pub file : IsHeldAs call.files name text
+  pub file : IsReadAs call.files name text
   pub holds : HoldsProgram text program
 
 -- the called program ran to this status, and all that it means before it is written and flushed
@@ -54,42 +54,6 @@ pub record IsIdle (corpus : SourceEnds) (out : SinkEnds) : Type 0 where
   pub unread : IsUnread corpus
   pub untouched : IsUntouched out
 
--- the text holds a program, and it ran
-pub record RanText (text : List ℕ) (corpus : SourceEnds) (out : SinkEnds) (status : Status) : Type 0 where
-  pub program : Program
-  pub holds : HoldsProgram text program
-  pub ran : IsRunTo (line_of program) corpus out status
-
--- the text holds a program, and it ran in part
-pub record RanTextInPart (text : List ℕ) (corpus : SourceEnds) (out : SinkEnds) : Type 0 where
-  pub program : Program
-  pub holds : HoldsProgram text program
-  pub ran : RanInPart program corpus out
-
--- the text is refused for its fault, and nothing is done
-pub record RefusedText (text : List ℕ) (corpus : SourceEnds) (out : SinkEnds) (status : Status) : Type 0 where
-  pub fault : ProgramFault
-  pub told : status ≡ Refused fault
-  pub cause : HasOnlyFault text fault
-  pub idle : IsIdle corpus out
-
--- what a program text comes to: it is refused, or it ran
-abbrev pub IsTextRunTo : List ℕ → SourceEnds → SinkEnds → Status → Type 0
-IsTextRunTo text corpus out status = RefusedText text corpus out status ⊎ RanText text corpus out status
-
-abbrev pub IsTextInPart : List ℕ → SourceEnds → SinkEnds → Type 0
-IsTextInPart text corpus out = Gained out [] ⊎ RanTextInPart text corpus out
-
--- what a program file comes to: it can't be read, or it holds a text, which came to this
-abbrev pub IsFileRunTo : List ℕ → FilesEnds → SourceEnds → SinkEnds → Status → Type 0
-IsFileRunTo name files corpus out status =
-    ((status ≡ ReadFault) × FilesFailed files × IsIdle corpus out)
-    ⊎ ((text : List ℕ) × IsHeldAs files name text × IsTextRunTo text corpus out status)
-
-abbrev pub IsFileInPart : List ℕ → FilesEnds → SourceEnds → SinkEnds → Type 0
-IsFileInPart name files corpus out =
-    Gained out [] ⊎ ((text : List ℕ) × IsHeldAs files name text × RanTextInPart text corpus out)
-
 -- whatever a call answers: what it wrote is nothing, or a prefix of what the called program means
 abbrev pub WroteFront : Call → Type 0
 WroteFront call = Gained call.out [] ⊎ RanTowards call
@@ -105,15 +69,21 @@ pub record RefusedFor (call : Call) (fault : ProgramFault) : Type 0 where
   pub name : List ℕ
   pub text : List ℕ
   pub words : IsRun call.words name
-  pub file : IsHeldAs call.files name text
+  pub file : IsReadAs call.files name text
   pub cause : HasOnlyFault text fault
+  pub idle : IsIdle call.corpus call.out
+
+-- the words ask for no run, and nothing is asked of the files, of the corpus and of the output
+pub record AsksForNoRun (call : Call) : Type 0 where
+  pub words : IsNoRun call.words
+  pub unasked : FilesNeverFailed call.files
   pub idle : IsIdle call.corpus call.out
 
 -- the cause of each status, before its line is written
 abbrev pub HasCauseOf : Call → Status → Type 0
 HasCauseOf call Done = RanTo call Done
 HasCauseOf call (Refused fault) = RefusedFor call fault
-HasCauseOf call Usage = IsNoRun call.words × IsIdle call.corpus call.out
+HasCauseOf call Usage = AsksForNoRun call
 HasCauseOf call (Corpus fault) = RanTo call (Corpus fault)
 HasCauseOf call ReadFault = (FilesFailed call.files × StoppedBefore call) ⊎ RanTo call ReadFault
 HasCauseOf call WriteFault = SinkFailed call.out × RanTowards call
@@ -134,14 +104,21 @@ IsAnswered call err (Err _) = WroteFront call × IsUntouched err
 
 -- every line of a corpus below the limit is blank or a document
 abbrev pub IsOfDocuments : SourceEnds → Type 0
-IsOfDocuments corpus = IsSomeAnd corpus.left_before (λ bytes. (length bytes < CORPUS_LIMIT) × HasNoBadLine (lines_of true bytes))
+IsOfDocuments corpus = IsSomeAnd corpus.left_before (λ bytes. (length bytes < corpus_limit) × HasNoBadLine (lines_of true bytes))
 
--- no call of any object failed
+-- no call of any object failed, and no count of faults stands at its last value
 pub record HasNoFault (call : Call) (err : SinkEnds) : Type 0 where
   pub files : ¬ FilesFailed call.files
   pub corpus : ¬ SourceFailed call.corpus
   pub out : ¬ SinkFailed call.out
   pub line : ¬ SinkFailed err
+
+-- no call of any object failed: no count of faults is other than it was
+pub record NoneFailed (call : Call) (err : SinkEnds) : Type 0 where
+  pub files : FilesNeverFailed call.files
+  pub corpus : SourceNeverFailed call.corpus
+  pub out : SinkNeverFailed call.out
+  pub line : SinkNeverFailed err
 
 -- the words name a file that tells its text
 pub record IsCalledWith (call : Call) (text : List ℕ) : Type 0 where
@@ -165,6 +142,10 @@ pub record Outcome (call : Call) (err : SinkEnds) (result : Result Status OutOfM
   pub answered : IsAnswered call err result
   -- whatever the answer is
   pub front : WroteFront call
+  -- a call that failed is told, as a failed read or a failed write, or memory is wanting
+  pub told : (status : Status) → result ≡ Ok status → status ≢ ReadFault → status ≢ WriteFault → NoneFailed call err
+  -- with a failed read no write failed
+  pub read : result ≡ Ok ReadFault → SinkNeverFailed call.out × SinkNeverFailed err
   -- words that ask for no run have the status of usage, or memory or the line's writing failed
   pub usage : IsNoRun call.words → (result ≡ Ok Usage) ⊎ ((result ≡ Ok WriteFault) × SinkFailed err) ⊎ IsErr result
   -- a program text that has a fault is refused for it, or the file, the line's writing or memory failed

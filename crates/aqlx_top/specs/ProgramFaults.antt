@@ -7,10 +7,9 @@ use Rattle.aql_lexer.specs.Kinds.{Kind, Token}
 use Rattle.aql_lexer.specs.Reading.{IsFault}
 use Rattle.aql_syntax.specs.Trees.{Statement}
 use Rattle.aql_syntax.specs.Programs.{runs_of}
-use Rattle.aql_parser.specs.declared.measuring.TheConstants.{MAX_NESTING}
 use Rattle.aql_parser.specs.Faults.{kinds_in, IsSyntaxFault}
-use Rattle.aql_parser.specs.Nesting.{IsNesting}
-use Rattle.aqlx_top.specs.declared.limits.TheConstants.{PROGRAM_LIMIT, STATEMENT_LIMIT}
+use Rattle.aql_parser.specs.Nesting.{IsNesting, nesting_limit}
+use Rattle.aqlx_top.specs.Limits.{program_limit, statement_limit}
 use Rattle.aqlx_top.specs.declared.status.ProgramFault.{ProgramFault}
 use Rattle.aqlx_top.specs.declared.status.ProgramFault.TheVariants.{Text, Large, Lex, Syntax, Unbuilt}
 use Rattle.aqlx_top.specs.declared.status.What.TheVariants.{Bytes, Statements, Nesting}
@@ -20,17 +19,17 @@ use Rattle.aqlx_top.specs.Run.{Program}
 
 -- more statements than a program may have
 abbrev pub HasTooMany : List Kind → ℕ → Type 0
-HasTooMany kinds number = (number ≡ length (runs_of kinds)) × (STATEMENT_LIMIT < number)
+HasTooMany kinds number = (number ≡ length (runs_of kinds)) × (statement_limit < number)
 
 -- no more statements than that, and deeper parentheses than they may be
 abbrev pub IsTooDeep : List Kind → ℕ → Type 0
-IsTooDeep kinds number = (length (runs_of kinds) ≤ STATEMENT_LIMIT) × IsNesting kinds number × (MAX_NESTING < number)
+IsTooDeep kinds number = (length (runs_of kinds) ≤ statement_limit) × IsNesting kinds number × (nesting_limit < number)
 
 -- the bytes of a program file have the fault
 abbrev pub HasFault : List ℕ → ProgramFault → Type 0
-HasFault bytes (Large Bytes number) = (PROGRAM_LIMIT < length bytes) × (number ≡ PROGRAM_LIMIT + 1)
-HasFault bytes (Text place) = (length bytes ≤ PROGRAM_LIMIT) × IsValidUpTo bytes place
-HasFault bytes (Lex fault) = (length bytes ≤ PROGRAM_LIMIT) × IsUtf8 bytes × IsFault bytes fault.place
+HasFault bytes (Large Bytes number) = (program_limit < length bytes) × (number ≡ program_limit + 1)
+HasFault bytes (Text place) = (length bytes ≤ program_limit) × IsValidUpTo bytes place
+HasFault bytes (Lex fault) = (length bytes ≤ program_limit) × IsUtf8 bytes × IsFault bytes fault.place
 HasFault bytes (Large Statements number) = (tokens : List Token) × ReadsAs bytes tokens × HasTooMany (kinds_in tokens) number
 HasFault bytes (Large Nesting number) = (tokens : List Token) × ReadsAs bytes tokens × IsTooDeep (kinds_in tokens) number
 HasFault bytes (Syntax fault) =

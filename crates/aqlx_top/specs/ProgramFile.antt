@@ -1,4 +1,4 @@
--- What is read of a program file.
+-- What is read of a program file. Only private clauses cite this.
 use Rattle.std.specs.Prelude.{◌≡◌, ℕ, ◌<◌, ◌≤◌, ◌+◌, List, [], take, length, Option, Some, None, IsSomeAnd}
 use Rattle.aqlx_top.specs.declared.program_file.Reach.{Reach}
 use Rattle.aqlx_top.specs.declared.program_file.Reach.TheVariants.{More, End, Failed}

@@ -1,4 +1,4 @@
--- A compiled program, and what it was compiled from.
+-- A compiled program, and what it was compiled from. Only private clauses cite this.
 use Rattle.std.specs.Prelude.{◌≡◌, ℕ, List, [], ◌∷◌, ⊤}
 use Rattle.span_token.specs.declared.refusal.Failure.{Failure}
 use Rattle.span_token.specs.declared.refusal.Failure.TheVariants.{OutOfMemory, Fault}

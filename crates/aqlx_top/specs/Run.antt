@@ -8,7 +8,7 @@ use Rattle.aql_regex_extract.specs.Matches.{match_rows}
 use Rattle.corpus_json.specs.Outputs.{output_line}
 use Rattle.aqlx_top.specs.declared.status.Status.{Status}
 use Rattle.aqlx_top.specs.Devices.{SourceEnds, SinkEnds}
-use Rattle.aqlx_top.specs.Progress.{written_for, Came, InPart}
+use Rattle.aqlx_top.specs.Endings.{Came, InPart}
 
 -- a program of one view: its name, its pattern, and the name of its one column
 pub record Program : Type 0 where
@@ -42,10 +42,6 @@ pub record IsOneColumn (outputs : List OutputNames) : Type 0 where
   pub name : List ℕ
   pub column : List ℕ
   pub outputs_are : outputs ≡ (record { name = name; columns = column ∷ [] }) ∷ []
-
--- the bytes that a program means on the lines of a corpus: a line for each document before the first bad line, in order
-abbrev pub meaning_of : Program → List (List ℕ) → List ℕ
-meaning_of program lines = written_for (line_of program) lines
 
 -- a run of a program that came to this status
 abbrev pub Ran : Program → SourceEnds → SinkEnds → Status → Type 0

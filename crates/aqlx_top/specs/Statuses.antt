@@ -1,7 +1,7 @@
 -- The exit status of each status, and its line on standard error.
-use Rattle.std.specs.Prelude.{◌≡◌, ◌≢◌, ℕ, ◌⊎◌, List, [], ◌∷◌, ◌++◌, take, codes}
+use Rattle.std.specs.Prelude.{ℕ, List, [], ◌∷◌, ◌++◌, take, codes}
 use Rattle.std.specs.Fmt.{decimal}
-use Rattle.aqlx_top.specs.Devices.{SinkEnds, Gained, IsFlushed, IsUntouched, SinkFailed}
+use Rattle.aqlx_top.specs.Devices.{SinkEnds, Gained, HasSent, IsUntouched}
 use Rattle.aqlx_top.specs.declared.status.Status.{Status}
 use Rattle.aqlx_top.specs.declared.status.Status.TheVariants.{Done, Program, Usage, Corpus, ReadFault, WriteFault}
 use Rattle.aqlx_top.specs.declared.status.ProgramFault.{ProgramFault}
@@ -50,28 +50,13 @@ message_of (Corpus fault) = error_line (corpus_text fault)
 message_of ReadFault = error_line (codes "read fault")
 message_of WriteFault = []
 
--- the status's line is written on standard error and flushed; with `Done` and `WriteFault` nothing is written there
+-- the status's line is written on standard error and flushed, and no call failed; with `Done` and `WriteFault` nothing
+-- is written there
 abbrev pub HasLine : SinkEnds → Status → Type 0
 HasLine err Done = IsUntouched err
 HasLine err WriteFault = IsUntouched err
-HasLine err status = Gained err (message_of status) × IsFlushed err
+HasLine err status = HasSent err (message_of status)
 
 -- a beginning of the status's line is written on standard error
 abbrev pub HasLinePart : SinkEnds → Status → Type 0
 HasLinePart err status = (count : ℕ) × Gained err (take count (message_of status))
-
--- a status has a line, and its writing failed, so that a failed write is told in its place
-pub record LineIsCut (err : SinkEnds) (status told : Status) : Type 0 where
-  pub told_is : told ≡ WriteFault
-  pub has_line : message_of status ≢ []
-  pub failed : SinkFailed err
-  pub part : HasLinePart err status
-
--- what is answered for a status once its line is written: the status, or a failed write in its place
-abbrev pub IsToldAs : SinkEnds → Status → Status → Type 0
-IsToldAs err status told = ((told ≡ status) × HasLine err status) ⊎ LineIsCut err status told
-
--- the same of a status that has a line
-abbrev pub IsWrittenAs : SinkEnds → Status → Status → Type 0
-IsWrittenAs err status told =
-    ((told ≡ status) × Gained err (message_of status) × IsFlushed err) ⊎ LineIsCut err status told

@@ -1,7 +1,7 @@
 -- What a run took from the corpus, how the reading ended, and which line is the first bad one.
 use Rattle.std.specs.Prelude.{◌≡◌, ℕ, ◌+◌, ◌<◌, Bool, true, false, List, ◌∷◌, ◌++◌, length, All}
 use Rattle.std.specs.Io.KnownBytes.{Consumes, IsAtEnd}
-use Rattle.corpus_json.specs.declared.limits.TheConstants.{CORPUS_LIMIT}
+use Rattle.corpus_json.specs.Limits.{corpus_limit}
 use Rattle.corpus_json.specs.Documents.{is_bad_line}
 use Rattle.corpus_json.specs.Lines.{is_too_long}
 use Rattle.aqlx_top.specs.declared.status.Status.{Status}
@@ -25,9 +25,9 @@ is_at_end left_off = false
 -- the source gave these bytes in the call, and the reading ended so
 pub record IsTaken (corpus : SourceEnds) (given : List ℕ) (how : How) : Type 0 where
   pub taken : Consumes corpus.left_before corpus.left_after given
-  pub ended : how ≡ at_end → IsAtEnd corpus.left_after × (length given < CORPUS_LIMIT)
-  pub broken : how ≡ failed → SourceFailed corpus × (length given < CORPUS_LIMIT)
-  pub full : how ≡ at_limit → length given ≡ CORPUS_LIMIT
+  pub ended : how ≡ at_end → IsAtEnd corpus.left_after × (length given < corpus_limit)
+  pub broken : how ≡ failed → SourceFailed corpus × (length given < corpus_limit)
+  pub full : how ≡ at_limit → length given ≡ corpus_limit
 
 -- no line is bad
 abbrev pub HasNoBadLine : List (List ℕ) → Type 0

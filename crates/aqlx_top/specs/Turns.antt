@@ -1,4 +1,4 @@
--- What one turn of a run comes to.
+-- What one turn of a run comes to. Only private clauses cite this.
 use Rattle.std.specs.Prelude.{◌≡◌, ℕ, List, [], Option, None, Result, Ok, Err}
 use Rattle.span_token.specs.Documents.{Doc}
 use Rattle.span_token.specs.declared.refusal.OutOfMemory.{OutOfMemory}
@@ -8,7 +8,8 @@ use Rattle.aqlx_top.specs.declared.run.Work.{Work}
 use Rattle.aqlx_top.specs.declared.run.Turn.{Turn}
 use Rattle.aqlx_top.specs.declared.run.Turn.TheVariants.{Next, Ended}
 use Rattle.aqlx_top.specs.Devices.{SourceEnds}
-use Rattle.aqlx_top.specs.Progress.{Stands, Finished, InPart}
+use Rattle.aqlx_top.specs.Endings.{InPart}
+use Rattle.aqlx_top.specs.Progress.{Stands, Finished}
 
 -- the run stands one line further, or it is finished; where memory is wanting a prefix is sent
 abbrev pub Turned : (Doc → List ℕ) → SourceEnds → Option (List ℕ) → Option (List ℕ) → Reading → List ℕ → ℕ → Result Turn OutOfMemory → Type 0

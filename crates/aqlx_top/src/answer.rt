@@ -1,7 +1,7 @@
 ghost use Rattle.std.specs.Prelude.{◌≡◌, ◌≤◌, [], ◌∷◌, ◌++◌, not, IfOk, OnOk, length, option_map};
 ghost use Rattle.corpus_json.specs.Documents.{is_bad_line};
 ghost use Rattle.corpus_json.specs.Inputs.{doc_of};
-ghost use Rattle.aqlx_top.specs.Progress.{written_for};
+ghost use Rattle.aqlx_top.specs.Endings.{written_for};
 ghost use Rattle.corpus_json.specs.Outputs.{output_line, RowsLieIn};
 ghost use Rattle.aqlx_top.specs.Run.{line_for, rows_for, IsOneColumn};
 

@@ -1,4 +1,4 @@
-ghost use Rattle.std.specs.Prelude.{◌≡◌, [], ◌∷◌, IfOk, OnOk, OnErr, map, option_map};
+ghost use Rattle.std.specs.Prelude.{◌≡◌, [], ◌∷◌, IfOk, map, option_map};
 ghost use Rattle.span_token.specs.Extents.{extent_of};
 ghost use Rattle.aql_regex_extract.specs.Matches.{extents_of};
 ghost use Rattle.aqlx_top.specs.Run.{extent_datum};
@@ -13,19 +13,17 @@ pub(crate) fn rows_of<'d>(alloc: Global, found: &[Option<Span>]) -> Result<Rows<
 {
     let mut rows = Rows::new(alloc, 1);
     for span in found {
-        rows.push(row_of(alloc, *span)?)?;
+        rows.push(row_of(alloc, *span))?;
     }
     Ok(rows)
 }
 
-fn row_of<'d>(alloc: Global, span: Option<Span>) -> Result<Row<'d>, OutOfMemory>
-    ensures { IfOk result (λ row. row ≡ extent_datum (option_map extent_of span) ∷ []) }
+fn row_of<'d>(alloc: Global, span: Option<Span>) -> Row<'d>
+    ensures { result ≡ extent_datum (option_map extent_of span) ∷ [] }
 {
     let value = match span {
         Some(span) => Value::Span(span),
         None => Value::Null,
     };
-    let mut values = Vec::with_capacity(alloc, 1)?;
-    values.push(value)?;
-    Ok(Row::new(values))
+    Row::single(alloc, value)
 }

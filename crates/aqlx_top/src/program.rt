@@ -1,11 +1,10 @@
 ghost use Rattle.std.specs.Prelude.{◌≡◌, [], ◌∷◌, ◌≤◌, IfErr, IfOk, IfNone, IfSome, length, map};
 ghost use Rattle.std.specs.Str.{IsUtf8};
-ghost use Rattle.aql_regex_extract.specs.Faults.{IsPattern};
 ghost use Rattle.aql_syntax.specs.Views.{statement_of};
-ghost use Rattle.aqlx_top.specs.declared.limits.TheConstants.{PROGRAM_LIMIT};
+ghost use Rattle.aqlx_top.specs.Limits.{program_limit};
 ghost use Rattle.aqlx_top.specs.OneForm.{IsViewIn};
 ghost use Rattle.aqlx_top.specs.ProgramFaults.{HasCause};
-ghost use Rattle.aqlx_top.specs.Programs.{IsBuiltFrom, IsCompiled, IsCompiledFrom, IsUnbuiltFor, program_of};
+ghost use Rattle.aqlx_top.specs.Programs.{IsBuiltFrom, IsCompiledFrom, IsUnbuiltFor, program_of};
 ghost use Rattle.aqlx_top.specs.Run.{Program, output_of};
 
 use crate::ProgramFault;
@@ -35,7 +34,7 @@ pub(crate) fn compile(alloc: Global, bytes: &[u8]) -> Result<Compiled, Failure<P
 }
 
 fn compile_text(alloc: Global, text: &str) -> Result<Compiled, Failure<ProgramFault>>
-    requires small { length text.now ≤ PROGRAM_LIMIT }
+    requires small { length text.now ≤ program_limit }
     requires utf8 { IsUtf8 text.now }
     ensures compiled { IfOk result (IsCompiledFrom text.now) }
     ensures fault { IfErr result (HasCause text.now) }

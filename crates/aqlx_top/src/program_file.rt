@@ -1,4 +1,4 @@
-ghost use Rattle.std.specs.Prelude.{◌≡◌, ℕ, ◌<◌, ◌≤◌, ◌^◌, ◌+◌, IfOk, IfSome, Ok, None, OnOk, vec_len, length};
+ghost use Rattle.std.specs.Prelude.{◌≡◌, ◌≢◌, ℕ, ◌<◌, ◌≤◌, ◌^◌, IfOk, IfSome, Ok, None, vec_len, length};
 ghost use Rattle.aql_io.specs.Causes.{Rose};
 ghost use Rattle.aqlx_top.specs.ProgramFile.{IsFrontOf, IsSoFar, Goes};
 
@@ -26,6 +26,7 @@ pub(crate) fn read_file<F: Files>(
     requires some { 0 < most }
     requires small { most < 2 ^ 40 }
     ensures bytes { IfOk result (λ read. IfSome read (λ bytes. IfSome (F.told files.old) (λ names. IsFrontOf (names name.now) most bytes.items))) }
+    ensures stands { IfOk result (λ read. IfSome read (λ _. F.faults files.new ≡ F.faults files.old)) }
     ensures failed { result ≡ Ok None → Rose (F.faults files.old) (F.faults files.new) }
     ensures told { F.told files.new ≡ F.told files.old }
     ensures later { F.faults files.old ≤ F.faults files.new }
@@ -45,6 +46,7 @@ fn read_by_pieces<F: Files>(
     requires small { most < 2 ^ 40 }
     requires room { 0 < length piece.old }
     ensures bytes { IfOk result (λ read. IfSome read (λ bytes. IfSome (F.told files.old) (λ names. IsFrontOf (names name.now) most bytes.items))) }
+    ensures stands { IfOk result (λ read. IfSome read (λ _. F.faults files.new ≡ F.faults files.old)) }
     ensures failed { result ≡ Ok None → Rose (F.faults files.old) (F.faults files.new) }
     ensures told { F.told files.new ≡ F.told files.old }
     ensures later { F.faults files.old ≤ F.faults files.new }
@@ -73,6 +75,7 @@ fn read_next<F: Files>(
     ensures bytes { IfOk result (λ reach. IfSome (F.told files.old) (λ names. IsSoFar (names name.now) bytes.new.items)) }
     ensures goes { IfOk result (λ reach. Goes reach (vec_len bytes.old) (vec_len bytes.new) (length piece.old)) }
     ensures end { IfOk result (λ reach. reach ≡ Reach.End → IfSome (F.told files.old) (λ names. (most : ℕ) → vec_len bytes.old ≤ most → IsFrontOf (names name.now) most bytes.new.items)) }
+    ensures stands { IfOk result (λ reach. reach ≢ Reach.Failed → F.faults files.new ≡ F.faults files.old) }
     ensures failed { IfOk result (λ reach. reach ≡ Reach.Failed → Rose (F.faults files.old) (F.faults files.new)) }
     ensures told { F.told files.new ≡ F.told files.old }
     ensures later { F.faults files.old ≤ F.faults files.new }

@@ -1,8 +1,8 @@
-ghost use Rattle.std.specs.Prelude.{◌≡◌, ◌≤◌, ◌<◌, ◌^◌, IfErr, IfOk, List, MatchResult, OnOk, length, map, vec_len};
+ghost use Rattle.std.specs.Prelude.{◌≡◌, ◌≤◌, ◌<◌, ◌^◌, IfErr, IfOk, OnOk, length, map, vec_len};
 ghost use Rattle.std.specs.Str.{IsUtf8};
 ghost use Rattle.aql_lexer.specs.Kinds.{kinds_of, token_of};
 ghost use Rattle.aql_lexer.specs.Reading.{IsDecided};
-ghost use Rattle.aqlx_top.specs.declared.limits.TheConstants.{PROGRAM_LIMIT};
+ghost use Rattle.aqlx_top.specs.Limits.{program_limit};
 ghost use Rattle.aqlx_top.specs.ProgramFaults.{HasCause, IsTooLargeFor};
 ghost use Rattle.aqlx_top.specs.ProgramTexts.{IsWithinLimits, ReadsAs};
 
@@ -16,7 +16,7 @@ use std::alloc::Global;
 /// The text that the bytes of a program file are, where they aren't too many.
 pub(crate) fn text_of(bytes: &[u8]) -> Result<&str, Failure<ProgramFault>>
     ensures text { IfOk result (λ text. (text.now ≡ bytes.now) × IsUtf8 bytes.now) }
-    ensures small { OnOk result (length bytes.now ≤ PROGRAM_LIMIT) }
+    ensures small { OnOk result (length bytes.now ≤ program_limit) }
     ensures fault { IfErr result (HasCause bytes.now) }
 {
     if bytes.len() > PROGRAM_LIMIT {
@@ -35,10 +35,10 @@ pub(crate) fn text_of(bytes: &[u8]) -> Result<&str, Failure<ProgramFault>>
 
 /// The tokens of a program text.
 pub(crate) fn tokens_of(alloc: Global, text: &str) -> Result<Vec<Tok>, Failure<ProgramFault>>
-    requires small { length text.now ≤ PROGRAM_LIMIT }
+    requires small { length text.now ≤ program_limit }
     requires utf8 { IsUtf8 text.now }
     ensures tokens { IfOk result (λ toks. ReadsAs text.now (map token_of toks.items)) }
-    ensures few { IfOk result (λ toks. vec_len toks ≤ PROGRAM_LIMIT) }
+    ensures few { IfOk result (λ toks. vec_len toks ≤ program_limit) }
     ensures fault { IfErr result (HasCause text.now) }
     ensures decided { IsDecided text.now }
 {

@@ -1,4 +1,4 @@
-ghost use Rattle.std.specs.Prelude.{◌≡◌, ◌≤◌, OnErr, OnOk, IfSome, is_some, length, MatchResult};
+ghost use Rattle.std.specs.Prelude.{◌≡◌, ◌≤◌, OnErr, OnOk, IfSome, is_some, length};
 ghost use Rattle.aql_io.specs.Causes.{Rose};
 ghost use Rattle.aqlx_top.specs.Prefixes.{AppendsFront};
 
@@ -10,6 +10,7 @@ pub(crate) fn put<O: Sink>(out: &mut O, piece: &[u8]) -> Result<(), Failed>
     ensures bytes { AppendsFront (O.held out.old) (O.held out.new) result piece.now }
     ensures told { is_some (O.held out.new) ≡ is_some (O.held out.old) }
     ensures flushed { O.flushed out.new ≡ O.flushed out.old }
+    ensures stands { OnOk result (O.faults out.new ≡ O.faults out.old) }
     ensures later { O.faults out.old ≤ O.faults out.new }
     ensures cause { OnErr result (Rose (O.faults out.old) (O.faults out.new)) }
 {
@@ -26,6 +27,7 @@ pub(crate) fn put_and_flush<O: Sink>(out: &mut O, piece: &[u8]) -> Result<(), Fa
     ensures bytes { AppendsFront (O.held out.old) (O.held out.new) result piece.now }
     ensures told { is_some (O.held out.new) ≡ is_some (O.held out.old) }
     ensures flushed { OnOk result (IfSome (O.held out.new) (λ bytes. O.flushed out.new ≡ length bytes)) }
+    ensures stands { OnOk result (O.faults out.new ≡ O.faults out.old) }
     ensures later { O.faults out.old ≤ O.faults out.new }
     ensures cause { OnErr result (Rose (O.faults out.old) (O.faults out.new)) }
 {

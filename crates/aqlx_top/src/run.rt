@@ -1,9 +1,9 @@
-ghost use Rattle.std.specs.Prelude.{◌≡◌, ℕ, ◌+◌, ◌≤◌, [], ◌++◌, not, IfOk, OnOk, OnErr, Option, List, is_some, length, MatchResult, ◌<◌, ◌^◌};
+ghost use Rattle.std.specs.Prelude.{◌≡◌, ℕ, ◌+◌, IfOk, OnOk, OnErr, Option, List, MatchResult, ◌<◌, ◌^◌};
 ghost use Rattle.aql_io.specs.Causes.{Rose};
 ghost use Rattle.span_token.specs.Documents.{Doc};
-ghost use Rattle.aqlx_top.specs.Devices.{SourceEnds, source_ends, sink_ends};
-ghost use Rattle.aqlx_top.specs.Prefixes.{AppendsFront};
-ghost use Rattle.aqlx_top.specs.Progress.{Stands, Finished, InPart, IsGoing, IsRunTo};
+ghost use Rattle.aqlx_top.specs.Devices.{SourceEnds, source_ends, sink_ends, source_between, sink_between};
+ghost use Rattle.aqlx_top.specs.Endings.{InPart};
+ghost use Rattle.aqlx_top.specs.Progress.{Stands, Finished, IsGoing, IsRunTo};
 ghost use Rattle.aqlx_top.specs.Run.{line_for, IsOneColumn};
 ghost use Rattle.aqlx_top.specs.Turns.{Turned, Begins, IsKept};
 
@@ -38,46 +38,6 @@ pub(crate) enum Turn {
     Ended(Status),
 }
 
-/// Looks at the next line, and puts what is written for it after what is pending.
-fn take_turn<S: Source>(
-    alloc: Global,
-    work: &mut Work<'_>,
-    corpus: &mut S,
-) -> Result<Turn, OutOfMemory>
-    requires one { IsOneColumn work.old.layout }
-    requires room { work.old.number < 2 ^ 63 }
-    requires going { IsGoing work.old.reader }
-    ensures turned { (left : Option (List ℕ)) (faults : ℕ) (before now : Option (List ℕ)) →
-        Stands (line_for work.old.layout work.old.searcher) (source_ends left (S.left corpus.old) faults (S.faults corpus.old)) before now work.old.reader work.old.pending.items work.old.number →
-        Turned (line_for work.old.layout work.old.searcher) (source_ends left (S.left corpus.new) faults (S.faults corpus.new)) before now work.new.reader work.new.pending.items work.new.number result }
-    ensures counts { IfOk result (λ came. came ≡ Turn.Next → work.new.number ≡ work.old.number + 1) }
-    ensures going { IfOk result (λ came. came ≡ Turn.Next → IsGoing work.new.reader) }
-    ensures same { (work.new.layout ≡ work.old.layout) × (work.new.searcher ≡ work.old.searcher) }
-{
-    match work.reader.next_line(corpus, &mut work.line)? {
-        Step::Line => {
-            work.number += 1;
-            let _taken = work.reader.taken();
-            if answer(
-                alloc,
-                &work.layout,
-                &mut work.searcher,
-                &mut work.found,
-                &work.line,
-                &mut work.pending,
-            )? {
-                Ok(Turn::Next)
-            } else {
-                Ok(Turn::Ended(Status::Corpus(CorpusFault::BadLine(work.number))))
-            }
-        }
-        Step::End => Ok(Turn::Ended(Status::Done)),
-        Step::Long => Ok(Turn::Ended(Status::Corpus(CorpusFault::LineLong(work.number + 1)))),
-        Step::Failed => Ok(Turn::Ended(Status::ReadFault)),
-        Step::Limit => Ok(Turn::Ended(Status::Corpus(CorpusFault::CorpusLarge))),
-    }
-}
-
 /// Runs a pattern over a corpus: writes the line of each document, until a line is bad, the corpus
 /// ends, or it can't be read or written any more. What is written is flushed at the end.
 pub(crate) fn run<S: Source, O: Sink>(
@@ -89,10 +49,10 @@ pub(crate) fn run<S: Source, O: Sink>(
 ) -> Result<Status, OutOfMemory>
     requires one { IsOneColumn outputs.now }
     ensures ran { IfOk result (IsRunTo (line_for outputs.now pattern.now)
-        (source_ends (S.left corpus.old) (S.left corpus.new) (S.faults corpus.old) (S.faults corpus.new))
-        (sink_ends (O.held out.old) (O.held out.new) (O.flushed out.old) (O.flushed out.new) (O.faults out.old) (O.faults out.new))) }
+        (source_between S.left S.faults corpus.old corpus.new)
+        (sink_between O.held O.flushed O.faults out.old out.new)) }
     ensures part { OnErr result (InPart (line_for outputs.now pattern.now)
-        (source_ends (S.left corpus.old) (S.left corpus.new) (S.faults corpus.old) (S.faults corpus.new))
+        (source_between S.left S.faults corpus.old corpus.new)
         (O.held out.old) (O.held out.new)) }
 {
     let mut work = begin(alloc, outputs, pattern)?;
@@ -126,7 +86,8 @@ fn begin<'p>(
     })
 }
 
-/// Writes what is pending, where it is a piece or where no input is waiting.
+/// Writes what is pending, where it is a piece or where the next line isn't whole yet, so that what is
+/// there stands on the output before the corpus is waited for.
 fn send_in_time<O: Sink>(out: &mut O, work: &mut Work<'_>) -> Result<(), Failed>
     ensures sent { (piece : Doc → List ℕ) (left_before left_now : Option (List ℕ)) (faults_before faults_now : ℕ) (before : Option (List ℕ)) →
         Stands piece (source_ends left_before left_now faults_before faults_now) before (O.held out.old) work.old.reader work.old.pending.items work.old.number →
@@ -134,20 +95,61 @@ fn send_in_time<O: Sink>(out: &mut O, work: &mut Work<'_>) -> Result<(), Failed>
         (λ _. Stands piece (source_ends left_before left_now faults_before faults_now) before (O.held out.new) work.new.reader work.new.pending.items work.new.number)
         (λ _. InPart piece (source_ends left_before left_now faults_before faults_now) before (O.held out.new)) }
     ensures same { IsKept work.old work.new }
-    ensures later { O.faults out.old ≤ O.faults out.new }
+    ensures stands { OnOk result (O.faults out.new ≡ O.faults out.old) }
     ensures cause { OnErr result (Rose (O.faults out.old) (O.faults out.new)) }
 {
-    if work.pending.len() >= PIECE || work.reader.is_empty() {
+    if work.pending.len() >= PIECE || !work.reader.has_line() {
         put(out, &work.pending)?;
         work.pending.clear();
     }
     Ok(())
 }
 
+/// Looks at the next line, and puts what is written for it after what is pending.
+fn take_turn<S: Source>(
+    alloc: Global,
+    work: &mut Work<'_>,
+    corpus: &mut S,
+) -> Result<Turn, OutOfMemory>
+    requires one { IsOneColumn work.old.layout }
+    requires room { work.old.number < 2 ^ 63 }
+    requires going { IsGoing work.old.reader }
+    ensures turned { (left : Option (List ℕ)) (faults : ℕ) (before now : Option (List ℕ)) →
+        Stands (line_for work.old.layout work.old.searcher) (source_ends left (S.left corpus.old) faults (S.faults corpus.old)) before now work.old.reader work.old.pending.items work.old.number →
+        Turned (line_for work.old.layout work.old.searcher) (source_ends left (S.left corpus.new) faults (S.faults corpus.new)) before now work.new.reader work.new.pending.items work.new.number result }
+    ensures counts { IfOk result (λ came. came ≡ Turn.Next → work.new.number ≡ work.old.number + 1) }
+    ensures going { IfOk result (λ came. came ≡ Turn.Next → IsGoing work.new.reader) }
+    ensures same { (work.new.layout ≡ work.old.layout) × (work.new.searcher ≡ work.old.searcher) }
+{
+    match work.reader.next_line(corpus, &mut work.line)? {
+        Step::Line => {
+            work.number += 1;
+            // no more bytes were taken than a corpus has, which bounds the number of lines
+            let _taken = work.reader.taken();
+            if answer(
+                alloc,
+                &work.layout,
+                &mut work.searcher,
+                &mut work.found,
+                &work.line,
+                &mut work.pending,
+            )? {
+                Ok(Turn::Next)
+            } else {
+                Ok(Turn::Ended(Status::Corpus(CorpusFault::BadLine(work.number))))
+            }
+        }
+        Step::End => Ok(Turn::Ended(Status::Done)),
+        Step::Long => Ok(Turn::Ended(Status::Corpus(CorpusFault::LineLong(work.number + 1)))),
+        Step::Failed => Ok(Turn::Ended(Status::ReadFault)),
+        Step::Limit => Ok(Turn::Ended(Status::Corpus(CorpusFault::CorpusLarge))),
+    }
+}
+
 /// Writes what is pending and flushes it.
 fn finish<O: Sink>(out: &mut O, pending: &[u8], status: Status) -> Status
     ensures { (piece : Doc → List ℕ) (corpus : SourceEnds) (before : Option (List ℕ)) (flushed faults : ℕ) →
-        faults ≤ O.faults out.old →
+        O.faults out.old ≡ faults →
         Finished piece corpus before (O.held out.old) pending.now status →
         IsRunTo piece corpus (sink_ends before (O.held out.new) flushed (O.flushed out.new) faults (O.faults out.new)) result }
 {

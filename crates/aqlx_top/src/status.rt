@@ -9,7 +9,7 @@ use aql_parser::SyntaxFault;
 pub enum Status {
     /// The corpus was read to its end and every line was written.
     Done,
-    /// The program has a fault; nothing was written.
+    /// The program has a fault; nothing was written to the output.
     Program(ProgramFault),
     /// The command words are none of the forms that they may have.
     Usage,

@@ -1,6 +1,7 @@
-ghost use Rattle.std.specs.Prelude.{◌≡◌, map, string_bytes, IfOk, OnErr};
-ghost use Rattle.aqlx_top.specs.Devices.{files_ends, source_ends, sink_ends};
-ghost use Rattle.aqlx_top.specs.Outcome.{Outcome, call_of, HasCauseOf, WroteFront, IsFileRunTo, IsFileInPart, IsTextRunTo, IsTextInPart};
+ghost use Rattle.std.specs.Prelude.{map, string_bytes, IfOk, OnErr};
+ghost use Rattle.aqlx_top.specs.Devices.{files_between, source_between, sink_between};
+ghost use Rattle.aqlx_top.specs.Outcome.{Outcome, call_of, HasCauseOf, WroteFront};
+ghost use Rattle.aqlx_top.specs.Stages.{IsFileRunTo, IsFileInPart, IsTextRunTo, IsTextInPart};
 
 use crate::Status;
 use crate::limits::PROGRAM_LIMIT;
@@ -36,10 +37,10 @@ pub fn aqlx<F: Files, S: Source, O: Sink, E: Sink>(
     err: &mut E,
 ) -> Result<Status, OutOfMemory>
     ensures { Outcome
-        (call_of (map string_bytes words.now.items) (files_ends (F.told files.old) (F.faults files.old) (F.faults files.new))
-        (source_ends (S.left corpus.old) (S.left corpus.new) (S.faults corpus.old) (S.faults corpus.new))
-        (sink_ends (O.held out.old) (O.held out.new) (O.flushed out.old) (O.flushed out.new) (O.faults out.old) (O.faults out.new)))
-        (sink_ends (E.held err.old) (E.held err.new) (E.flushed err.old) (E.flushed err.new) (E.faults err.old) (E.faults err.new))
+        (call_of (map string_bytes words.now.items) (files_between F.told F.faults files.old files.new)
+        (source_between S.left S.faults corpus.old corpus.new)
+        (sink_between O.held O.flushed O.faults out.old out.new))
+        (sink_between E.held E.flushed E.faults err.old err.new)
         result }
 {
     let status = carry_out(alloc, words, files, corpus, out)?;
@@ -55,13 +56,13 @@ fn carry_out<F: Files, S: Source, O: Sink>(
     out: &mut O,
 ) -> Result<Status, OutOfMemory>
     ensures cause { IfOk result (HasCauseOf
-        (call_of (map string_bytes words.now.items) (files_ends (F.told files.old) (F.faults files.old) (F.faults files.new))
-        (source_ends (S.left corpus.old) (S.left corpus.new) (S.faults corpus.old) (S.faults corpus.new))
-        (sink_ends (O.held out.old) (O.held out.new) (O.flushed out.old) (O.flushed out.new) (O.faults out.old) (O.faults out.new)))) }
+        (call_of (map string_bytes words.now.items) (files_between F.told F.faults files.old files.new)
+        (source_between S.left S.faults corpus.old corpus.new)
+        (sink_between O.held O.flushed O.faults out.old out.new))) }
     ensures front { OnErr result (WroteFront
-        (call_of (map string_bytes words.now.items) (files_ends (F.told files.old) (F.faults files.old) (F.faults files.new))
-        (source_ends (S.left corpus.old) (S.left corpus.new) (S.faults corpus.old) (S.faults corpus.new))
-        (sink_ends (O.held out.old) (O.held out.new) (O.flushed out.old) (O.flushed out.new) (O.faults out.old) (O.faults out.new)))) }
+        (call_of (map string_bytes words.now.items) (files_between F.told F.faults files.old files.new)
+        (source_between S.left S.faults corpus.old corpus.new)
+        (sink_between O.held O.flushed O.faults out.old out.new))) }
 {
     match run_of(words) {
         Some(name) => run_file(alloc, name, files, corpus, out),
@@ -77,12 +78,12 @@ fn run_file<F: Files, S: Source, O: Sink>(
     corpus: &mut S,
     out: &mut O,
 ) -> Result<Status, OutOfMemory>
-    ensures ran { IfOk result (IsFileRunTo name.now (files_ends (F.told files.old) (F.faults files.old) (F.faults files.new))
-        (source_ends (S.left corpus.old) (S.left corpus.new) (S.faults corpus.old) (S.faults corpus.new))
-        (sink_ends (O.held out.old) (O.held out.new) (O.flushed out.old) (O.flushed out.new) (O.faults out.old) (O.faults out.new))) }
-    ensures part { OnErr result (IsFileInPart name.now (files_ends (F.told files.old) (F.faults files.old) (F.faults files.new))
-        (source_ends (S.left corpus.old) (S.left corpus.new) (S.faults corpus.old) (S.faults corpus.new))
-        (sink_ends (O.held out.old) (O.held out.new) (O.flushed out.old) (O.flushed out.new) (O.faults out.old) (O.faults out.new))) }
+    ensures ran { IfOk result (IsFileRunTo name.now (files_between F.told F.faults files.old files.new)
+        (source_between S.left S.faults corpus.old corpus.new)
+        (sink_between O.held O.flushed O.faults out.old out.new)) }
+    ensures part { OnErr result (IsFileInPart name.now (files_between F.told F.faults files.old files.new)
+        (source_between S.left S.faults corpus.old corpus.new)
+        (sink_between O.held O.flushed O.faults out.old out.new)) }
 {
     match read_file(alloc, files, name, MOST)? {
         Some(bytes) => run_text(alloc, &bytes, corpus, out),
@@ -98,11 +99,11 @@ fn run_text<S: Source, O: Sink>(
     out: &mut O,
 ) -> Result<Status, OutOfMemory>
     ensures ran { IfOk result (IsTextRunTo bytes.now
-        (source_ends (S.left corpus.old) (S.left corpus.new) (S.faults corpus.old) (S.faults corpus.new))
-        (sink_ends (O.held out.old) (O.held out.new) (O.flushed out.old) (O.flushed out.new) (O.faults out.old) (O.faults out.new))) }
+        (source_between S.left S.faults corpus.old corpus.new)
+        (sink_between O.held O.flushed O.faults out.old out.new)) }
     ensures part { OnErr result (IsTextInPart bytes.now
-        (source_ends (S.left corpus.old) (S.left corpus.new) (S.faults corpus.old) (S.faults corpus.new))
-        (sink_ends (O.held out.old) (O.held out.new) (O.flushed out.old) (O.flushed out.new) (O.faults out.old) (O.faults out.new))) }
+        (source_between S.left S.faults corpus.old corpus.new)
+        (sink_between O.held O.flushed O.faults out.old out.new)) }
 {
     match compile(alloc, bytes) {
         Ok(program) => run(alloc, &program.outputs, &program.pattern, corpus, out),

@@ -1,4 +1,4 @@
-ghost use Rattle.std.specs.Prelude.{◌≡◌, IfSome, IfNone, map, string_bytes, List, ℕ};
+ghost use Rattle.std.specs.Prelude.{IfSome, IfNone, map, string_bytes, List, ℕ};
 ghost use Rattle.aqlx_top.specs.Words.{IsRun};
 
 /// The program file's name, where the command words are `run` and that name; None for all others.

@@ -1,4 +1,4 @@
-use Rattle.std.proofs.Common.{rules, length, ◌≤◌, drop, arith, length-drop}
+use Rattle.std.proofs.Common.{rules, ◌∙◌, length, ◌≤◌, drop, arith, length-drop}
 use Rattle.std.proofs.lemmas.List.{take_rest}
 use Rattle.aqlx_top.proofs.Sinks.{appends_next}
 use Rattle.aqlx_top.proofs.put.put.Goals as goal
@@ -12,5 +12,5 @@ loop-written-preserved g c =
       appends_next _ _ _ c.args.piece.now c.loop-written.written c.in_ok-taken.taken before.1 h.bytes,
       search rules,
       search rules,
-      omega (arith, h.cause.later),
+      h.cause.stands ∙ before.4,
     )

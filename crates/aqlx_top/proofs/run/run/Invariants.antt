@@ -1,5 +1,5 @@
-use Rattle.std.proofs.Common.{◌≡◌, ◌-◌, ◌≤◌}
-use Rattle.corpus_json.specs.declared.limits.TheConstants.{CORPUS_LIMIT}
+use Rattle.std.proofs.Common.{◌≡◌, ◌-◌}
+use Rattle.corpus_json.specs.Limits.{corpus_limit}
 use Rattle.aqlx_top.specs.Devices.{source_ends}
 use Rattle.aqlx_top.specs.Progress.{Stands, IsGoing}
 use Rattle.aqlx_top.specs.Run.{line_for}
@@ -13,8 +13,8 @@ invariant-lines g l = record {
   layout : l.work.layout ≡ l.fn.outputs;
   searches : l.work.searcher ≡ l.fn.pattern;
   going : IsGoing l.work.reader;
-  later : g.O.Sink.faults l.initial.out ≤ g.O.Sink.faults l.out;
+  unfailed : g.O.Sink.faults l.out ≡ g.O.Sink.faults l.initial.out;
 }
 
 abbrev pub decreases-lines : goal.decreases-lines
-decreases-lines g l = CORPUS_LIMIT - l.work.number
+decreases-lines g l = corpus_limit - l.work.number

@@ -1,7 +1,7 @@
 use Rattle.std.proofs.Common.{◌≡◌, ◌+◌, ℕ, List, [], ◌∷◌, not, refl, sym, ap, ◌∙◌}
 use Rattle.corpus_json.specs.Documents.{is_bad_line}
 use Rattle.std.proofs.lemmas.Result.{err_from_is_err_and}
-use Rattle.aqlx_top.specs.Progress.{written_for}
+use Rattle.aqlx_top.specs.Endings.{written_for}
 use Rattle.aqlx_top.specs.Run.{line_for}
 use Rattle.aqlx_top.proofs.Turns as law
 use Rattle.aqlx_top.proofs.run.take_turn.Goals as goal
@@ -36,7 +36,7 @@ returns-then-branch-clause-turned g c = λ left faults before now s.
     let piece = line_for c.args.work.now.layout c.args.work.now.searcher in
     rw c.in_ok-answer-in-Line.ensures.bytes
     (law.next_line_good (line_for c.args.work.now.layout c.args.work.now.searcher) left (g.S.Source.left c.args.corpus.now) (g.S.Source.left c.next_line.new.source) faults (g.S.Source.faults c.args.corpus.now) (g.S.Source.faults c.next_line.new.source) before now c.args.work.now.reader c.next_line.new.self c.args.work.now.pending.items (written_for piece (c.deref.result.now ∷ [])) c.next_line.new.line.items c.args.work.now.number (c.args.work.now.number + 1)
-    s next c.in_ok-next_line.ensures.later c.taken-taken.ensures.below good (ap (λ (each : List ℕ). written_for piece (each ∷ [])) c.deref.ensures.value) refl)
+    s next c.taken-taken.ensures.below good (ap (λ (each : List ℕ). written_for piece (each ∷ [])) c.deref.ensures.value) refl)
 
 pub returns-else-branch-clause-turned : goal.returns-else-branch-clause-turned
 returns-else-branch-clause-turned g c = λ left faults before now s.
