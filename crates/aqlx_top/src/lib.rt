@@ -18,8 +18,6 @@ mod put;
 mod run;
 mod status;
 mod status_line;
-#[cfg(test)]
-mod tests;
 mod top;
 mod words;
 

@@ -1,0 +1,281 @@
+//! Words, lines and calls that fail: each with its very status, its output and its line.
+use crate::setup::{NO_NUMBERS, NUMBERS, Ran, Setup, run, usual};
+use aqlx_top::{CorpusFault, ProgramFault, Status};
+use std::alloc::Global;
+use std::test::Fail;
+
+const USAGE: &str = "aqlx: usage: aqlx MODE PROGRAM [--workers N]\n";
+
+const READ_FAULT: &str = "aqlx: read fault\n";
+
+/// The line of a document whose text is one digit.
+const DIGIT: &str = "{\"views\":{\"P\":[{\"num\":{\"begin\":0,\"end\":1,\"text\":\"1\"}}]}}\n";
+
+#[test]
+fn refusals_have_their_status_and_their_line(rt: HostRuntime) -> Result<(), Fail> {
+    let rows: [(&[&str], &str, Status, &str, &str); 7] = [
+        (&["run"], NO_NUMBERS, Status::Usage, "", USAGE),
+        (
+            &["run", "p.aql", "p.aql"],
+            NO_NUMBERS,
+            Status::Usage,
+            "",
+            USAGE,
+        ),
+        (&["walk", "p.aql"], NO_NUMBERS, Status::Usage, "", USAGE),
+        (&[], NO_NUMBERS, Status::Usage, "", USAGE),
+        (
+            &["run", "q.aql"],
+            NO_NUMBERS,
+            Status::ReadFault,
+            "",
+            READ_FAULT,
+        ),
+        (
+            &["run", "p.aql"],
+            "{\"text\":\"1\"}\n{\"text\":1}\n{\"text\":\"2\"}\n",
+            Status::Corpus(CorpusFault::BadLine(2)),
+            DIGIT,
+            "aqlx: corpus line 2 is not a document\n",
+        ),
+        (
+            &["run", "p.aql"],
+            "\n{\"text\":\"1\"}",
+            Status::Done,
+            DIGIT,
+            "",
+        ),
+    ];
+    for (words, corpus, status, out, err) in &rows {
+        let ran = run(
+            rt.alloc(),
+            &Setup {
+                words,
+                ..usual(NUMBERS, corpus)
+            },
+        )?;
+        assert_eq!(rt; ran.status, *status, "over {corpus}");
+        assert_eq!(rt; ran.out.bytes(), out.as_bytes(), "over {corpus}");
+        assert_eq!(rt; ran.err.bytes(), err.as_bytes(), "over {corpus}");
+    }
+    Ok(())
+}
+
+/// Each row: a corpus, its output, and in how many writes and flushes of ten bytes it goes out.
+const WRITTEN: [(&str, &str, u64); 3] = [
+    ("", "", 1),
+    ("{\"text\":\"1\"}\n", DIGIT, 7),
+    (
+        "{\"label\":\"a\",\"text\":\"x 12 345\"}\n",
+        "{\"label\":\"a\",\"views\":{\"P\":[{\"num\":{\"begin\":2,\"end\":4,\"text\":\"12\"}},{\"num\":{\"begin\":5,\"end\":8,\"text\":\"345\"}}]}}\n",
+        13,
+    ),
+];
+
+#[test]
+fn a_failed_write_or_flush_is_told_and_leaves_what_was_written(
+    rt: HostRuntime,
+) -> Result<(), Fail> {
+    for (corpus, whole, calls) in &WRITTEN {
+        for call in 1..calls.saturating_add(3) {
+            let fails = [call];
+            let ran = run(
+                rt.alloc(),
+                &Setup {
+                    out_fails: &fails,
+                    ..usual(NUMBERS, corpus)
+                },
+            )?;
+            let cut = call <= *calls;
+            let status = if cut {
+                Status::WriteFault
+            } else {
+                Status::Done
+            };
+            let written = if cut {
+                (call as usize - 1).saturating_mul(10)
+            } else {
+                whole.len()
+            };
+            let front = &whole.as_bytes()[..written.min(whole.len())];
+            assert_eq!(rt;
+                ran.status,
+                status,
+                "with call {call} failing over {corpus}"
+            );
+            assert_eq!(rt;
+                ran.out.bytes(),
+                front,
+                "with call {call} failing over {corpus}"
+            );
+            assert_eq!(rt;
+                ran.err.bytes().len(),
+                0,
+                "with call {call} failing over {corpus}"
+            );
+        }
+    }
+    Ok(())
+}
+
+/// Each row: a corpus, and after how many bytes of output each read of ten bytes stands, the read of
+/// the end among them: the lines that were taken whole before it.
+const READ: [(&str, &[usize]); 5] = [
+    ("", &[0]),
+    ("{\"text\":\"1\"}", &[0, 0, 0]),
+    ("{\"text\":\"1\"}\n", &[0, 0, 57]),
+    ("\n\n\n\n\n\n\n\n\n\n", &[0, 0]),
+    (
+        "{\"text\":\"1\"}\n{\"text\":\"1\"}\n\n{\"text\":\"1 \"}",
+        &[0, 0, 57, 114, 114],
+    ),
+];
+
+#[test]
+fn a_failed_read_is_told_after_the_lines_before_it(rt: HostRuntime) -> Result<(), Fail> {
+    for (corpus, lines) in &READ {
+        let whole = run(rt.alloc(), &usual(NUMBERS, corpus))?;
+        assert_eq!(rt; whole.status, Status::Done, "over {corpus}");
+        for call in 1..lines.len() + 3 {
+            let fails = [call as u64];
+            let ran = run(
+                rt.alloc(),
+                &Setup {
+                    source_fails: &fails,
+                    ..usual(NUMBERS, corpus)
+                },
+            )?;
+            let (status, line, length) = match lines.get(call - 1) {
+                Some(length) => (Status::ReadFault, READ_FAULT, *length),
+                None => (Status::Done, "", whole.out.bytes().len()),
+            };
+            assert_eq!(rt;
+                ran.status,
+                status,
+                "with read {call} failing over {corpus}"
+            );
+            assert_eq!(rt;
+                ran.err.bytes(),
+                line.as_bytes(),
+                "with read {call} failing over {corpus}"
+            );
+            assert_eq!(rt;
+                ran.out.bytes().len(),
+                length,
+                "with read {call} failing over {corpus}"
+            );
+            assert!(rt; whole.out.bytes().starts_with(ran.out.bytes()));
+        }
+    }
+    Ok(())
+}
+
+#[test]
+fn a_failed_read_of_the_program_is_told(rt: HostRuntime) -> Result<(), Fail> {
+    let alloc = rt.alloc();
+    let mut long = String::from_str(alloc, NUMBERS)?;
+    for _ in 0..4096 {
+        long.push_str(" ")?;
+    }
+    let rows = [(NUMBERS, 2u64), (long.as_str(), 3)];
+    for (program, reads) in &rows {
+        for call in 1..reads.saturating_add(3) {
+            let fails = [call];
+            let ran = run(
+                alloc,
+                &Setup {
+                    file_fails: &fails,
+                    ..usual(program, "{\"text\":\"1\"}\n")
+                },
+            )?;
+            let (status, out, line) = if call <= *reads {
+                (Status::ReadFault, "", READ_FAULT)
+            } else {
+                (Status::Done, DIGIT, "")
+            };
+            assert_eq!(rt; ran.status, status, "with read {call} of {reads} failing");
+            assert_eq!(rt;
+                ran.out.bytes(),
+                out.as_bytes(),
+                "with read {call} of {reads} failing"
+            );
+            assert_eq!(rt;
+                ran.err.bytes(),
+                line.as_bytes(),
+                "with read {call} of {reads} failing"
+            );
+        }
+    }
+    Ok(())
+}
+
+/// What a run with one failing call of standard error came to.
+fn run_with_err(alloc: Global, setup: Setup<'_>, call: u64) -> Result<Ran, Fail> {
+    let fails = [call];
+    run(
+        alloc,
+        &Setup {
+            err_fails: &fails,
+            ..setup
+        },
+    )
+}
+
+#[test]
+fn a_line_that_cannot_be_written_is_a_write_fault(rt: HostRuntime) -> Result<(), Fail> {
+    let rows: [(&[&str], &str, &str, &[u64], Status, &str); 4] = [
+        (&[], NUMBERS, "", &[], Status::Usage, USAGE),
+        (
+            &["run", "p.aql"],
+            "",
+            "",
+            &[],
+            Status::Program(ProgramFault::Unbuilt { statement: 1 }),
+            "aqlx: statement 1: not built yet\n",
+        ),
+        (
+            &["run", "p.aql"],
+            NUMBERS,
+            "[]",
+            &[],
+            Status::Corpus(CorpusFault::BadLine(1)),
+            "aqlx: corpus line 1 is not a document\n",
+        ),
+        (
+            &["run", "p.aql"],
+            NUMBERS,
+            "",
+            &[1],
+            Status::ReadFault,
+            READ_FAULT,
+        ),
+    ];
+    for (words, program, corpus, source_fails, status, line) in &rows {
+        // the line is one write, and then a flush
+        let wanted = [
+            (1u64, Status::WriteFault, ""),
+            (2, Status::WriteFault, line),
+            (3, *status, line),
+        ];
+        for (call, status, err) in &wanted {
+            let setup = Setup {
+                words,
+                source_fails,
+                ..usual(program, corpus)
+            };
+            let ran = run_with_err(rt.alloc(), setup, *call)?;
+            assert_eq!(rt; ran.status, *status, "with call {call} failing for {line}");
+            assert_eq!(rt;
+                ran.err.bytes(),
+                err.as_bytes(),
+                "with call {call} failing for {line}"
+            );
+            assert_eq!(rt;
+                ran.out.bytes().len(),
+                0,
+                "with call {call} failing for {line}"
+            );
+        }
+    }
+    Ok(())
+}

@@ -1,0 +1,15 @@
+//! Tests of the top call, over files, sources and sinks in memory.
+//!
+//! It has no functions of its own: its tests call public items of `aqlx_top` and `aql_io` alone.
+#![tactic(auto)]
+
+#[cfg(test)]
+mod devices;
+#[cfg(test)]
+mod documents;
+#[cfg(test)]
+mod programs;
+#[cfg(test)]
+mod setup;
+#[cfg(test)]
+mod streaming;
