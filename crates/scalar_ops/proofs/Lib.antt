@@ -1,0 +1,2 @@
+-- a call is seen through the list of its arguments
+pub mod Viewing

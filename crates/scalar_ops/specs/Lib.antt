@@ -1,0 +1,11 @@
+-- Words of public clauses
+pub mod Expressions
+pub mod Views
+pub mod Tables
+pub mod Operators
+pub mod Values
+-- laws of them for the crates above
+pub mod ValueLaws
+-- Words of private clauses: how models keep terms, and what a worker keeps
+pub mod Searchers
+pub mod Codes
