@@ -35,7 +35,7 @@ pub struct Setup<'a> {
 }
 
 /// A run of a program over a corpus, in pieces of ten bytes, without a call that fails.
-pub fn usual<'a>(program: &'a str, corpus: &'a str) -> Setup<'a> {
+pub(crate) fn usual<'a>(program: &'a str, corpus: &'a str) -> Setup<'a> {
     Setup {
         words: &["run", "p.aql"],
         program: program.as_bytes(),
@@ -50,7 +50,7 @@ pub fn usual<'a>(program: &'a str, corpus: &'a str) -> Setup<'a> {
 }
 
 /// Runs it over objects in memory.
-pub fn run(alloc: Global, setup: &Setup<'_>) -> Result<Ran, Fail> {
+pub(crate) fn run(alloc: Global, setup: &Setup<'_>) -> Result<Ran, Fail> {
     let mut words = Vec::new(alloc);
     for word in setup.words {
         words.push(String::from_str(alloc, word)?)?;
