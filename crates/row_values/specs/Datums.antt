@@ -1,10 +1,11 @@
 -- Values as definitions see them: a text is its bytes, wherever they lie.
 use Rattle.std.specs.Prelude.{ℕ, ℤ, Bool, true, false, List, Option, Some, None, ⊤}
 use Rattle.std.specs.Cmp.Lexicographic.{slice_cmp}
-use Rattle.std.specs.Ordering.{nat_cmp, int_cmp, bool_cmp, ordering_then}
+use Rattle.std.specs.Ordering.{nat_cmp, int_cmp, bool_cmp}
 use Rattle.std.specs.declared.cmp.Ordering.{Ordering}
 use Rattle.span_token.specs.Documents.{Doc, LiesIn}
 use Rattle.span_token.specs.Extents.{Extent, extent_of}
+use Rattle.span_token.specs.SpanOrder.{extent_cmp}
 use Rattle.row_values.specs.declared.value.Value.{Value}
 use Rattle.row_values.specs.declared.value.Value.TheVariants.{Null, Int, Bool as Truth, Text, Span}
 
@@ -54,10 +55,6 @@ kind_of (int n) = 1
 kind_of (truth b) = 2
 kind_of (text t) = 3
 kind_of (span e) = 4
-
--- spans by begin and then by end
-abbrev pub extent_cmp : Extent → Extent → Ordering
-extent_cmp d e = ordering_then (nat_cmp d.begin e.begin) (nat_cmp d.end e.end)
 
 -- values by kind; numbers by size, false before true, texts by bytes, spans by begin and then by end
 abbrev pub datum_cmp : Datum → Datum → Ordering
