@@ -7,6 +7,7 @@ use Rattle.std.specs.declared.cmp.Ordering.{Ordering}
 use Rattle.std.specs.declared.cmp.Ordering.TheVariants.{Less, Equal, Greater}
 use Rattle.std.proofs.lemmas.Cmp.{nat_cmp_total, int_cmp_total, nat_list_cmp_total, on_total, then_total, tied_itself, ranked, int_ranked}
 use Rattle.span_token.specs.Extents.{Extent}
+use Rattle.span_token.specs.SpanOrder.{extent_cmp}
 use Rattle.row_values.specs.Datums.{Datum, null, int, truth, text, span, kind_of, datum_cmp}
 use Rattle.row_values.specs.Rows.{row_cmp}
 
