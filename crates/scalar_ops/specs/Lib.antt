@@ -4,6 +4,7 @@ pub mod Views
 pub mod Tables
 pub mod Operators
 pub mod Values
+pub mod Kinds
 -- laws of them for the crates above
 pub mod ValueLaws
 -- Words of private clauses: how models keep terms, and what a worker keeps

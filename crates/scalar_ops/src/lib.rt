@@ -10,6 +10,7 @@ mod apply;
 mod dicts;
 mod evaluation;
 mod expr;
+mod kind;
 mod op;
 mod predicates;
 mod spans;
@@ -19,6 +20,7 @@ mod tools;
 
 pub use evaluation::{eval, holds};
 pub use expr::{Expr, Exprs};
+pub use kind::Kind;
 pub use op::Op;
 pub use tables::Tables;
 pub use tools::Tools;
