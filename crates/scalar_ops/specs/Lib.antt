@@ -7,6 +7,7 @@ pub mod Values
 pub mod Kinds
 -- laws of them for the crates above
 pub mod ValueLaws
+pub mod KindLaws
 -- Words of private clauses: how models keep terms, and what a worker keeps
 pub mod Searchers
 pub mod Codes
