@@ -1,0 +1,82 @@
+-- Which queries give rows of one width: the sides of a union have one, each aggregate names a key or an argument, each
+-- order key a column, and a run of tokens has one token or more.
+use Rattle.std.specs.Prelude.{ℕ, ◌+◌, ◌<◌, ◌≤◌, ◌≡◌, List, [], ◌∷◌, ◌++◌, length, All, slice_index_or}
+use Rattle.group_agg.specs.Groups.{HasKey, HasColumn}
+use Rattle.aql_typed.specs.Trees.{Projection, plain, grouped_by, SelectClauses, Extraction, regex, token_regex, dict, blocks, ExtractClauses, Query, select, extract, union, minus, Queries, no_queries, more_queries, Source, document, view, nested, Sources, no_sources, more_sources}
+
+-- the number of columns that a projection gives
+abbrev pub projection_width : Projection → ℕ
+projection_width (plain items) = length items
+projection_width (grouped_by keys arguments aggregates) = length aggregates
+
+-- the number of columns that are found
+abbrev pub found_width : Extraction → ℕ
+found_width (regex column p groups) = length groups
+found_width (token_regex column low high p groups) = length groups
+found_width (dict column d) = 1
+found_width (blocks column low high from to tokens) = 1
+
+-- blocks have no items
+abbrev pub extract_width : ExtractClauses → ℕ
+extract_width clauses = length clauses.items + found_width clauses.extraction
+
+abbrev pub FitsProjection : Projection → Type 0
+FitsProjection (plain items) = Unit {0}
+FitsProjection (grouped_by keys arguments aggregates) =
+    All (HasKey (length keys)) aggregates × All (HasColumn (length (keys ++ arguments))) aggregates
+
+abbrev pub FitsExtraction : ExtractClauses → Extraction → Type 0
+FitsExtraction clauses (token_regex column low high p groups) = 1 ≤ low
+FitsExtraction clauses (blocks column low high from to tokens) = clauses.items ≡ []
+FitsExtraction clauses extraction = Unit {0}
+
+abbrev pub FitsSelect : SelectClauses → Type 0
+FitsSelect clauses = FitsProjection clauses.projection × All (λ column. column < projection_width clauses.projection) clauses.order
+
+module _ (widths : List ℕ) where
+  abbrev mutual
+    -- the number of columns of a query, where `widths` has those of the views by their numbers
+    pub width_of : Query → ℕ
+    width_of (select _ clauses) = projection_width clauses.projection
+    width_of (extract _ clauses) = extract_width clauses
+    width_of (union sides) = first_width sides
+    width_of (minus left _) = width_of left
+
+    -- the number of columns of the first side
+    pub first_width : Queries → ℕ
+    first_width no_queries = 0
+    first_width (more_queries side sides) = width_of side
+
+    pub source_width : Source → ℕ
+    source_width document = 1
+    source_width (view n) = slice_index_or widths n 0
+    source_width (nested query) = width_of query
+
+  abbrev pub all_widths : Sources → ℕ
+  all_widths no_sources = 0
+  all_widths (more_sources source sources) = source_width source + all_widths sources
+
+  abbrev mutual
+    pub Fits : Query → Type 0
+    Fits (select sources clauses) = AllSourcesFit sources × FitsSelect clauses
+    Fits (extract source clauses) = SourceFits source × FitsExtraction clauses clauses.extraction
+    Fits (union sides) = SidesFit (first_width sides) sides
+    Fits (minus left right) = Fits left × Fits right
+
+    pub SidesFit : ℕ → Queries → Type 0
+    SidesFit width no_queries = Unit {0}
+    SidesFit width (more_queries side sides) = Fits side × (width_of side ≡ width) × SidesFit width sides
+
+    pub SourceFits : Source → Type 0
+    SourceFits document = Unit {0}
+    SourceFits (view n) = n < length widths
+    SourceFits (nested query) = Fits query
+
+    pub AllSourcesFit : Sources → Type 0
+    AllSourcesFit no_sources = Unit {0}
+    AllSourcesFit (more_sources source sources) = SourceFits source × AllSourcesFit sources
+
+-- each view fits where the views before it have their widths
+abbrev pub AllFit : List ℕ → List Query → Type 0
+AllFit widths [] = Unit {0}
+AllFit widths (body ∷ bodies) = Fits widths body × AllFit (widths ++ width_of widths body ∷ []) bodies

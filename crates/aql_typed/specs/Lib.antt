@@ -1,0 +1,10 @@
+-- Words of public clauses
+-- the typed tree, and how definitions see that of the code
+pub mod Trees
+pub mod Views
+-- what a view means on a document
+pub mod Meaning
+-- which outputs a program may have
+pub mod Programs
+-- which queries have a meaning without a gap: widths, columns and bounds
+pub mod Fitting

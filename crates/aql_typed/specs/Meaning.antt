@@ -1,0 +1,133 @@
+-- What a query and a view mean on a document: a list of rows. No plan, no operator and no order of evaluation
+-- occurs here; as a bag, it is what is asked of every way to come to it.
+use Rattle.std.specs.Prelude.{ℕ, List, [], ◌∷◌, ◌++◌, Option, Some, None, map, length, slice_get, slice_index_or}
+use Rattle.std.specs.List.{filter, filter_map, flat_map, range_with_len}
+use Rattle.span_token.specs.Documents.{Doc, len_of}
+use Rattle.span_token.specs.Extents.{Extent}
+use Rattle.row_values.specs.Datums.{Datum, null, span, span_of}
+use Rattle.row_values.specs.Rows.{span_in, sorted, product, minus as without}
+use Rattle.aql_regex_extract.specs.Matches.{match_rows}
+use Rattle.aql_regex_extract.specs.TokenRuns.{run_rows}
+use Rattle.dict_match.specs.DictMatches.{dict_matches}
+use Rattle.span_sets.specs.Blocks.{is_neighbour, blocks_of}
+use Rattle.span_sets.specs.KeptPlaces.{consolidated}
+use Rattle.group_agg.specs.Groups.{grouped}
+use Rattle.group_agg.specs.Limits.{limited}
+use Rattle.scalar_ops.specs.Expressions.{Term}
+use Rattle.scalar_ops.specs.Tables.{Lists}
+use Rattle.scalar_ops.specs.Values.{value, holding}
+use Rattle.aql_typed.specs.Trees.{Consolidation, Projection, plain, grouped_by, SelectClauses, Extraction, regex, token_regex, dict, blocks, ExtractClauses, Query, select, extract, union, minus, Queries, no_queries, more_queries, Source, document, view, nested, Sources, no_sources, more_sources}
+
+-- a row is a list of values, a result a list of rows
+abbrev pub Rows : Type 0
+Rows = List (List Datum)
+
+-- the span of a group, Null for a group that takes no part
+abbrev pub group_value : Option Extent → Datum
+group_value None = null
+group_value (Some e) = span e
+
+-- one row for each span
+abbrev pub one_column : List Extent → Rows
+one_column = map (λ e. span e ∷ [])
+
+-- what there is of something that may not be there
+abbrev pub of_some : {A : Type 0} → (A → Rows) → Option A → Rows
+of_some f None = []
+of_some f (Some x) = f x
+
+module _ (lists : Lists) (doc : Doc) where
+  -- the values of expressions for a row
+  abbrev pub row_of : List Term → List Datum → List Datum
+  row_of items row = map (value lists doc row) items
+
+  -- the rows on which every condition holds
+  abbrev pub selected : List Term → Rows → Rows
+  selected conds rows = filter (holding lists doc conds) rows
+
+  -- the rows that a consolidation keeps, in row order
+  abbrev pub kept : Option Consolidation → Rows → Rows
+  kept None rows = rows
+  kept (Some c) rows = consolidated c.policy (λ row. span_of (value lists doc row c.target)) rows
+
+  -- one row for each row, or for each group of rows, in row order
+  abbrev pub projected : Projection → Rows → Rows
+  projected (plain items) rows = map (row_of items) rows
+  projected (grouped_by keys arguments aggregates) rows =
+      sorted (grouped (range_with_len 0 (length keys)) aggregates (map (row_of (keys ++ arguments)) rows))
+
+  -- the first rows, in row order
+  abbrev pub cut : List ℕ → Option ℕ → Rows → Rows
+  cut order None rows = rows
+  cut order (Some n) rows = sorted (limited order (Some n) rows)
+
+  -- what a pattern's number, a dictionary's number, and the span in a column stand for
+  abbrev pub with_pattern : ℕ → (List ℕ → Rows) → Rows
+  with_pattern p f = of_some f (slice_get lists.patterns p)
+
+  -- the rows that are found in one row of the source
+  abbrev pub found_in : Extraction → List Datum → Rows
+  found_in (regex column p groups) row =
+      of_some (λ source. with_pattern p (λ pattern. map (map group_value) (match_rows pattern doc source groups))) (span_in column row)
+  found_in (token_regex column low high p groups) row =
+      of_some (λ source. with_pattern p (λ pattern. map (map group_value) (run_rows pattern doc source low high groups))) (span_in column row)
+  found_in (dict column d) row =
+      of_some (λ source. of_some (λ dictionary. one_column (dict_matches dictionary doc source)) (slice_get lists.dicts d)) (span_in column row)
+  found_in (blocks column low high from to tokens) row = []
+
+  -- for each row of the source the items' values, followed by what is found; blocks stand for all rows together
+  abbrev pub extracted : List Term → Extraction → Rows → Rows
+  extracted items (blocks column low high from to tokens) rows =
+      one_column (blocks_of (is_neighbour doc tokens from to) low high (filter_map (span_in column) rows))
+  extracted items extraction rows = flat_map (λ row. map (λ found. row_of items row ++ found) (found_in extraction row)) rows
+
+  -- a selection: of the combinations of its sources' rows
+  abbrev pub select_rows : SelectClauses → Rows → Rows
+  select_rows clauses rows =
+      cut clauses.order clauses.limit (projected clauses.projection (kept clauses.consolidate (selected clauses.conds rows)))
+
+  -- an extraction: of the rows of its source
+  abbrev pub extract_rows : ExtractClauses → Rows → Rows
+  extract_rows clauses rows =
+      cut [] clauses.limit (kept clauses.consolidate (selected clauses.conds (extracted clauses.items clauses.extraction rows)))
+
+  -- the document as a view: one row, the span of the whole text
+  abbrev pub document_rows : Rows
+  document_rows = (span (record { begin = 0; end = len_of doc }) ∷ []) ∷ []
+
+  module _ (below : List Rows) where
+    abbrev mutual
+      -- what a query means, where `below` has what the views mean by their numbers
+      pub meaning_of : Query → Rows
+      meaning_of (select sources clauses) = select_rows clauses (combinations sources)
+      meaning_of (extract source clauses) = extract_rows clauses (source_rows source)
+      meaning_of (union sides) = all_sides sides
+      meaning_of (minus left right) = without (meaning_of left) (meaning_of right)
+
+      -- the rows of all sides, with their multiplicities
+      pub all_sides : Queries → Rows
+      all_sides no_queries = []
+      all_sides (more_queries side sides) = meaning_of side ++ all_sides sides
+
+      pub source_rows : Source → Rows
+      source_rows document = document_rows
+      source_rows (view n) = slice_index_or below n []
+      source_rows (nested query) = meaning_of query
+
+      -- one row of each source, side by side
+      pub combinations : Sources → Rows
+      combinations no_sources = [] ∷ []
+      combinations (more_sources source sources) = product (source_rows source) (combinations sources)
+
+  -- what the views mean, by their numbers: each stands on those before it
+  abbrev pub meanings_from : List Rows → List Query → List Rows
+  meanings_from below [] = below
+  meanings_from below (body ∷ bodies) = meanings_from (below ++ meaning_of below body ∷ []) bodies
+
+  abbrev pub meanings : List Query → List Rows
+  meanings bodies = meanings_from [] bodies
+
+  -- what an output means: a view by its number, or the document
+  abbrev pub output_rows : List Query → Option ℕ → Rows
+  output_rows bodies None = document_rows
+  output_rows bodies (Some n) = slice_index_or (meanings bodies) n []
