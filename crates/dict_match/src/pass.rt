@@ -1,4 +1,4 @@
-ghost use Rattle.std.specs.Prelude.{◌≡◌, ◌<◌, ◌↔◌, ◌++◌, List, ℕ, [], length, replicate, slice_index_or, map, slice_get, Some, IfOk, OnOk, IsTrue, All};
+ghost use Rattle.std.specs.Prelude.{◌≡◌, ◌<◌, ◌↔◌, ◌++◌, List, ℕ, [], length, replicate, slice_index_or, map, slice_get, Some, None, false, IfOk, OnOk, IsTrue, All};
 ghost use Rattle.span_token.specs.Documents.{LiesIn};
 ghost use Rattle.span_token.specs.Extents.{Extent, extent_of};
 ghost use Rattle.span_token.specs.Relations.{ContainsExtent};
@@ -128,7 +128,8 @@ impl DictPass {
         push_matches(&self.trie, &tokens, scratch.words.as_slice(), into)
     }
 
-    /// Whether the dictionary at place `dict` of the pass has a match wholly in `source`.
+    /// Whether the dictionary at place `dict` of the pass has a match wholly in `source`; false where the
+    /// pass has no such dictionary.
     ///
     /// Ends at the first match. Takes memory only where `scratch` has no room.
     ///
@@ -141,10 +142,14 @@ impl DictPass {
         scratch: &mut DictScratch,
     ) -> Result<bool, OutOfMemory>
         requires in_document { LiesIn (extent_of source) doc.now }
+        ensures missing { slice_get self.now dict ≡ None → IfOk result (λ found. found ≡ false) }
         ensures test { (the : DictUse) → slice_get self.now dict ≡ Some the → IfOk result (λ found. found ≡ does_match the doc.now (extent_of source)) }
         ensures meaning { (the : DictUse) → slice_get self.now dict ≡ Some the
             → IfOk result (λ found. IsTrue found ↔ (e : Extent) × IsMatch the doc.now (tokens_in doc.now (extent_of source)) e) }
     {
+        if dict >= self.dicts.len() {
+            return Ok(false);
+        }
         let tokens = SourceTokens::of(&mut scratch.room, doc, source)?;
         has_run(
             &self.trie,
@@ -156,7 +161,8 @@ impl DictPass {
     }
 
     /// Whether the tokens wholly in `source`, all of them together, agree with an entry of the
-    /// dictionary at place `dict` of the pass; false where there is no token.
+    /// dictionary at place `dict` of the pass; false where there is no token, or the pass has no such
+    /// dictionary.
     ///
     /// Reads no more tokens than there are, and none behind one with which no entry goes on. Takes
     /// memory only where `scratch` has no room.
@@ -170,11 +176,15 @@ impl DictPass {
         scratch: &mut DictScratch,
     ) -> Result<bool, OutOfMemory>
         requires in_document { LiesIn (extent_of source) doc.now }
+        ensures missing { slice_get self.now dict ≡ None → IfOk result (λ found. found ≡ false) }
         ensures test { (the : DictUse) → slice_get self.now dict ≡ Some the
             → IfOk result (λ found. found ≡ does_agree the (texts_of doc.now (tokens_in doc.now (extent_of source)))) }
         ensures meaning { (the : DictUse) → slice_get self.now dict ≡ Some the
             → IfOk result (λ found. IsTrue found ↔ AgreesWith the (texts_of doc.now (tokens_in doc.now (extent_of source)))) }
     {
+        if dict >= self.dicts.len() {
+            return Ok(false);
+        }
         let tokens = SourceTokens::of(&mut scratch.room, doc, source)?;
         is_entry(&self.trie, dict, &tokens, &mut scratch.folded)
     }

@@ -14,18 +14,14 @@ use std::marker::Model;
 pub struct Tables {
     pub(crate) patterns: Vec<Pattern>,
     pub(crate) pass: DictPass,
-    pub(crate) dict_count: usize,
 }
 
 impl Model for Tables {
-    ghost use Rattle.std.specs.Prelude.{◌≡◌, length};
     ghost use Rattle.scalar_ops.specs.Tables.{Lists};
 
     ghost Value = { Lists };
 
     ghost view = { λ tables. record { patterns = tables.patterns.items; dicts = tables.pass } };
-
-    ghost invariant = { λ tables. tables.dict_count ≡ length tables.pass };
 }
 
 impl Tables {
@@ -40,10 +36,6 @@ impl Tables {
         ensures dicts { IfOk result (λ tables. tables.dicts ≡ dicts.now) }
     {
         let pass = DictPass::new(alloc, dicts)?;
-        Ok(Tables {
-            patterns,
-            pass,
-            dict_count: dicts.len(),
-        })
+        Ok(Tables { patterns, pass })
     }
 }

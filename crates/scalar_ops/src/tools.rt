@@ -105,12 +105,9 @@ impl<'t> Tools<'t> {
         ensures same { self.new ≡ self.old }
     {
         let tables = self.tables;
-        let place = dict as usize;
-        if place < tables.dict_count {
-            tables.pass.has_match(place, doc, span, &mut self.scratch)
-        } else {
-            Ok(false)
-        }
+        tables
+            .pass
+            .has_match(dict as usize, doc, span, &mut self.scratch)
     }
 
     /// Whether the tokens of the span, all together, agree with an entry of the dictionary with that
@@ -126,14 +123,9 @@ impl<'t> Tools<'t> {
         ensures same { self.new ≡ self.old }
     {
         let tables = self.tables;
-        let place = dict as usize;
-        if place < tables.dict_count {
-            tables
-                .pass
-                .matches_whole(place, doc, span, &mut self.scratch)
-        } else {
-            Ok(false)
-        }
+        tables
+            .pass
+            .matches_whole(dict as usize, doc, span, &mut self.scratch)
     }
 }
 
