@@ -1,2 +1,4 @@
 -- a call is seen through the list of its arguments
 pub mod Viewing
+-- what is found of a pattern or a dictionary that may not be there
+pub mod Extracting

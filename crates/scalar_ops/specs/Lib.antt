@@ -2,6 +2,7 @@
 pub mod Expressions
 pub mod Views
 pub mod Tables
+pub mod Extractions
 pub mod Operators
 pub mod Values
 pub mod Kinds

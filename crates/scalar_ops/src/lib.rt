@@ -10,6 +10,7 @@ mod apply;
 mod dicts;
 mod evaluation;
 mod expr;
+mod extraction;
 mod kind;
 mod op;
 mod predicates;

@@ -10,7 +10,7 @@ ghost use Rattle.scalar_ops.specs.Tables.{Lists, holds_of_pattern, holds_of_dict
 
 use crate::Tables;
 use aql_regex_extract::{Pattern, Searcher, WholeSearcher};
-use dict_match::DictScratch;
+use dict_match::{DictMatch, DictScratch};
 use span_token::{Document, OutOfMemory, Span};
 use std::alloc::Global;
 use std::marker::Model;
@@ -21,11 +21,12 @@ use std::marker::Model;
 /// Contracts see the tables that it was made for.
 #[derive(Drop)]
 pub struct Tools<'t> {
-    tables: &'t Tables,
-    plain: Vec<Option<Searcher<'t>>>,
-    whole: Vec<Option<WholeSearcher<'t>>>,
-    scratch: DictScratch,
-    alloc: Global,
+    pub(crate) tables: &'t Tables,
+    pub(crate) plain: Vec<Option<Searcher<'t>>>,
+    pub(crate) whole: Vec<Option<WholeSearcher<'t>>>,
+    pub(crate) scratch: DictScratch,
+    pub(crate) found: Vec<DictMatch>,
+    pub(crate) alloc: Global,
 }
 
 impl<'t> Model for Tools<'t> {
@@ -62,6 +63,7 @@ impl<'t> Tools<'t> {
             plain,
             whole,
             scratch: DictScratch::new(alloc),
+            found: Vec::new(alloc),
             alloc,
         })
     }

@@ -1,0 +1,178 @@
+ghost use Rattle.std.specs.Prelude.{◌≡◌, ◌≤◌, ◌++◌, map, IfOk, OnOk, IfSome, All};
+ghost use Rattle.span_token.specs.Documents.{LiesIn};
+ghost use Rattle.span_token.specs.Extents.{extent_of};
+ghost use Rattle.span_token.specs.Relations.{ContainsExtent};
+ghost use Rattle.aql_regex_extract.specs.Matches.{match_rows, PutsRows, extents_of, IsInside};
+ghost use Rattle.aql_regex_extract.specs.TokenRuns.{run_rows};
+ghost use Rattle.dict_match.specs.DictMatches.{dict_matches};
+ghost use Rattle.dict_match.specs.Rows.{dict_and_extent, extents_for};
+ghost use Rattle.scalar_ops.specs.Extractions.{of_pattern, of_dict};
+
+use crate::Tools;
+use aql_regex_extract::{Pattern, Searcher, WholeSearcher};
+use dict_match::DictMatch;
+use span_token::{Document, OutOfMemory, Span};
+use std::alloc::Global;
+
+impl<'t> Tools<'t> {
+    /// The successive matches of the pattern with that number in `source`, put after what `into` holds:
+    /// for each match one entry for each number in `groups`, None for a group that takes no part. Gives
+    /// the number of matches. A pattern that isn't there has none.
+    ///
+    /// After want of memory no clause says what `into` holds.
+    pub fn append_matches(
+        &mut self,
+        pattern: u32,
+        doc: &Document<'_>,
+        source: Span,
+        groups: &[u32],
+        into: &mut Vec<Option<Span>>,
+    ) -> Result<usize, OutOfMemory>
+        requires in_document { LiesIn (extent_of source) doc.now }
+        ensures rows { IfOk result (PutsRows (of_pattern self.old pattern (λ p. match_rows p doc.now (extent_of source) groups.now))
+            (extents_of into.old.items) (extents_of into.new.items)) }
+        ensures within { All (IsInside (extent_of source)) into.old.items → OnOk result (All (IsInside (extent_of source)) into.new.items) }
+        ensures same { self.new ≡ self.old }
+    {
+        let place = pattern as usize;
+        let tables = self.tables;
+        match tables.patterns.get(place) {
+            Some(pattern) => {
+                let kept = &mut self.plain[place];
+                append_found(self.alloc, kept, pattern, doc, source, groups, into)
+            }
+            None => Ok(0),
+        }
+    }
+
+    /// The token-bounded matches of the pattern with that number in `source`, put after what `into`
+    /// holds: for each token that has a run of `low` to `high` tokens one entry for each number in
+    /// `groups`. Gives the number of runs. A pattern that isn't there has none.
+    ///
+    /// After want of memory no clause says what `into` holds.
+    pub fn append_token_runs(
+        &mut self,
+        pattern: u32,
+        doc: &Document<'_>,
+        source: Span,
+        low: u32,
+        high: u32,
+        groups: &[u32],
+        into: &mut Vec<Option<Span>>,
+    ) -> Result<usize, OutOfMemory>
+        requires in_document { LiesIn (extent_of source) doc.now }
+        requires at_least_one { 1 ≤ low }
+        ensures rows { IfOk result (PutsRows (of_pattern self.old pattern (λ p. run_rows p doc.now (extent_of source) low high groups.now))
+            (extents_of into.old.items) (extents_of into.new.items)) }
+        ensures within { All (IsInside (extent_of source)) into.old.items → OnOk result (All (IsInside (extent_of source)) into.new.items) }
+        ensures same { self.new ≡ self.old }
+    {
+        let place = pattern as usize;
+        let tables = self.tables;
+        match tables.patterns.get(place) {
+            Some(pattern) => {
+                let kept = &mut self.whole[place];
+                append_runs(
+                    self.alloc, kept, pattern, doc, source, low, high, groups, into,
+                )
+            }
+            None => Ok(0),
+        }
+    }
+
+    /// The matches of the dictionary with that number in `source`, put after what `into` holds, by begin
+    /// and then by end. A dictionary that isn't there has none.
+    ///
+    /// After want of memory no clause says what `into` holds.
+    pub fn append_dict_matches(
+        &mut self,
+        dict: u32,
+        doc: &Document<'_>,
+        source: Span,
+        into: &mut Vec<Span>,
+    ) -> Result<(), OutOfMemory>
+        requires in_document { LiesIn (extent_of source) doc.now }
+        ensures matches { OnOk result (map extent_of into.new.items ≡ map extent_of into.old.items
+            ++ of_dict self.old dict (λ the. dict_matches the doc.now (extent_of source))) }
+        ensures within { All (λ s. ContainsExtent (extent_of source) (extent_of s)) into.old.items
+            → OnOk result (All (λ s. ContainsExtent (extent_of source) (extent_of s)) into.new.items) }
+        ensures same { self.new ≡ self.old }
+    {
+        let tables = self.tables;
+        let place = dict as usize;
+        if place >= tables.dict_count {
+            return Ok(());
+        }
+        self.found.clear();
+        tables
+            .pass
+            .append_matches(doc, source, &mut self.scratch, &mut self.found)?;
+        push_for(self.found.as_slice(), place, into)
+    }
+}
+
+/// Puts the matches of a pattern after what `into` holds, by the searcher that is kept or is made now.
+fn append_found<'t>(
+    alloc: Global,
+    kept: &mut Option<Searcher<'t>>,
+    pattern: &'t Pattern,
+    doc: &Document<'_>,
+    source: Span,
+    groups: &[u32],
+    into: &mut Vec<Option<Span>>,
+) -> Result<usize, OutOfMemory>
+    requires made { IfSome kept.old (λ searcher. searcher ≡ pattern.now) }
+    requires in_document { LiesIn (extent_of source) doc.now }
+    ensures rows { IfOk result (PutsRows (match_rows pattern.now doc.now (extent_of source) groups.now) (extents_of into.old.items) (extents_of into.new.items)) }
+    ensures within { All (IsInside (extent_of source)) into.old.items → OnOk result (All (IsInside (extent_of source)) into.new.items) }
+    ensures made { IfSome kept.new (λ searcher. searcher ≡ pattern.now) }
+{
+    if kept.is_none() {
+        *kept = Some(Searcher::new(alloc, pattern)?);
+    }
+    match kept {
+        Some(searcher) => searcher.append_matches(doc, source, groups, into),
+        None => unreachable!(),
+    }
+}
+
+/// Puts the token-bounded matches of a pattern after what `into` holds, by the searcher that is kept or is
+/// made now.
+fn append_runs<'t>(
+    alloc: Global,
+    kept: &mut Option<WholeSearcher<'t>>,
+    pattern: &'t Pattern,
+    doc: &Document<'_>,
+    source: Span,
+    low: u32,
+    high: u32,
+    groups: &[u32],
+    into: &mut Vec<Option<Span>>,
+) -> Result<usize, OutOfMemory>
+    requires made { IfSome kept.old (λ searcher. searcher ≡ pattern.now) }
+    requires in_document { LiesIn (extent_of source) doc.now }
+    requires at_least_one { 1 ≤ low }
+    ensures rows { IfOk result (PutsRows (run_rows pattern.now doc.now (extent_of source) low high groups.now) (extents_of into.old.items) (extents_of into.new.items)) }
+    ensures within { All (IsInside (extent_of source)) into.old.items → OnOk result (All (IsInside (extent_of source)) into.new.items) }
+    ensures made { IfSome kept.new (λ searcher. searcher ≡ pattern.now) }
+{
+    if kept.is_none() {
+        *kept = Some(WholeSearcher::new(alloc, pattern)?);
+    }
+    match kept {
+        Some(searcher) => searcher.append_token_runs(doc, source, low, high, groups, into),
+        None => unreachable!(),
+    }
+}
+
+/// Puts the spans of one dictionary's matches after what `into` holds.
+fn push_for(found: &[DictMatch], dict: usize, into: &mut Vec<Span>) -> Result<(), OutOfMemory>
+    ensures { OnOk result (map extent_of into.new.items ≡ map extent_of into.old.items ++ extents_for dict (map dict_and_extent found.now)) }
+{
+    for one in found {
+        if one.dict == dict {
+            into.push(one.span)?;
+        }
+    }
+    Ok(())
+}
