@@ -1,0 +1,108 @@
+-- Items: output columns of a selection, which may be aggregates, and of an extraction.
+use Rattle.std.specs.Prelude.{ℕ, not, List, [], ◌∷◌, ◌++◌, Option, Some, None, map, flat_map, codes}
+use Rattle.std.specs.Str.{bytes_eq}
+use Rattle.aql_syntax.specs.Trees.{Name, Term, int, str, regex, column, bare, call, star, Item}
+use Rattle.aql_syntax.specs.Naming.{item_name}
+use Rattle.aql_typed.specs.declared.tree.Column.{Column}
+use Rattle.scalar_ops.specs.declared.kind.Kind.TheVariants as kind
+use Rattle.aql_types.specs.declared.fault.Breach.{Breach}
+use Rattle.aql_types.specs.declared.fault.TypeRule.TheVariants.{DuplicateColumn, UnknownFunction}
+use Rattle.aql_types.specs.declared.function.Aggregate.{Aggregate}
+use Rattle.aql_types.specs.declared.function.Wanted.TheVariants.{OfKind}
+use Rattle.aql_types.specs.Faults.{broken, duplicate}
+use Rattle.aql_types.specs.Functions.{aggregate_named, wanted_by_aggregate, kind_told}
+use Rattle.aql_types.specs.Known.{Known}
+use Rattle.aql_types.specs.Typings.{Typing, faults_of, expression, row_count, aggregated, ItemTyping, column_of_item}
+use Rattle.aql_types.specs.Scopes.{Visible, no_names}
+use Rattle.aql_types.specs.Calls.{wrong_argument, wrong_arguments}
+use Rattle.aql_types.specs.Expressions.{typing, typings}
+
+-- the number of an expression's first token
+abbrev pub place_of : Term → ℕ
+place_of (int at n) = at
+place_of (str at text) = at
+place_of (regex at text) = at
+place_of (column at alias name) = at
+place_of (bare at name) = at
+place_of (call at name args) = at
+place_of (star at name) = at
+
+-- an item's output name, with its place: the name that is given, or the column's, at the item
+abbrev pub named_as : Option Name → ℕ → Option Name → Name
+named_as (Some name) at own = name
+named_as None at (Some own) = record { text = own.text; at = at }
+named_as None at None = record { text = []; at = at }
+
+abbrev pub output_name : Item → Name
+output_name item = named_as item.name (place_of item.expr) (item_name item)
+
+-- DuplicateColumn: an output name equals an earlier one; at the name, or at the item
+abbrev pub duplicate_columns : List Name → List Breach
+duplicate_columns names = duplicate DuplicateColumn names
+
+abbrev pub faults_of_items : List ItemTyping → List Breach
+faults_of_items items = flat_map (λ item. item.faults) items
+
+abbrev pub columns_of_items : List ItemTyping → List Column
+columns_of_items items = map column_of_item items
+
+abbrev pub names_of_items : List ItemTyping → List Name
+names_of_items items = map (λ item. item.name) items
+
+module _ (known : Known) where
+  -- an expression as a whole item: it is wanted Any
+  abbrev pub plain_item : Name → Typing → ItemTyping
+  plain_item name t = record {
+    at = t.at;
+    name = name;
+    faults = t.faults ++ wrong_argument known (OfKind kind.Any) t;
+    kind = t.kind;
+    content = expression t.meant;
+  }
+
+  -- an aggregate of one argument
+  abbrev pub kind_of_first : List Typing → Aggregate → ItemTyping → ItemTyping
+  kind_of_first [] a item = item
+  kind_of_first (t ∷ ts) a item = record item { kind = kind_told a t.kind; content = aggregated a t.meant }
+
+  abbrev pub aggregate_item : Name → ℕ → Aggregate → List Typing → ItemTyping
+  aggregate_item name at a args = kind_of_first args a (record {
+    at = at;
+    name = name;
+    faults = faults_of args ++ wrong_arguments known at (OfKind (wanted_by_aggregate a) ∷ []) args;
+    kind = kind.Nothing;
+    content = row_count;
+  })
+
+  -- the rows of a group are counted by `Count(*)`; UnknownFunction: a `*` stands in another call; at the call
+  abbrev pub star_item : Name → ℕ → List ℕ → ItemTyping
+  star_item name at word = record {
+    at = at;
+    name = name;
+    faults = broken (not (bytes_eq word (codes "Count"))) at (UnknownFunction word);
+    kind = kind.Integer;
+    content = row_count;
+  }
+
+  module _ (sources : List Visible) where
+    -- in an item no bare name stands for anything
+    abbrev pub typing_in_item : Term → Typing
+    typing_in_item expr = typing known (record { sources = sources; names = no_names }) expr
+
+    abbrev pub item_of_call : Name → ℕ → List ℕ → List Typing → Typing → Option Aggregate → ItemTyping
+    item_of_call name at word args whole None = plain_item name whole
+    item_of_call name at word args whole (Some a) = aggregate_item name at a args
+
+    abbrev pub item_of_expr : Name → Term → ItemTyping
+    item_of_expr name (call at word args) =
+        item_of_call name at word (typings known (record { sources = sources; names = no_names }) args) (typing_in_item (call at word args)) (aggregate_named word)
+    item_of_expr name (star at word) = star_item name at word
+    item_of_expr name expr = plain_item name (typing_in_item expr)
+
+    -- an item of a selection
+    abbrev pub select_item : Item → ItemTyping
+    select_item item = item_of_expr (output_name item) item.expr
+
+    -- an item of an extraction: an aggregate is no function there
+    abbrev pub extract_item : Item → ItemTyping
+    extract_item item = plain_item (output_name item) (typing_in_item item.expr)

@@ -1,0 +1,104 @@
+-- Queries: sources, selections, extractions, unions and differences.
+use Rattle.std.specs.Prelude.{ℕ, suc, Bool, true, false, not, ◌&&◌, List, [], ◌∷◌, ◌++◌, map, flat_map, codes, if◌then◌else◌}
+use Rattle.std.specs.Str.{bytes_eq}
+use Rattle.aql_syntax.specs.Trees.{Name, Query, select, extract, union, minus, Queries, no_queries, more_queries, Source, view, nested, Sources, no_sources, more_sources}
+use Rattle.aql_syntax.specs.Naming.{alias_of}
+use Rattle.aql_typed.specs.Trees as typed
+use Rattle.aql_typed.specs.declared.tree.Column.{Column}
+use Rattle.scalar_ops.specs.declared.kind.Kind.{Kind}
+use Rattle.scalar_ops.specs.declared.kind.Kind.TheVariants as kind
+use Rattle.aql_types.specs.declared.fault.Breach.{Breach}
+use Rattle.aql_types.specs.declared.fault.TypeRule.TheVariants.{SchemaMismatch}
+use Rattle.aql_types.specs.Faults.{broken}
+use Rattle.aql_types.specs.Known.{Known}
+use Rattle.aql_types.specs.Selections.{QueryTyping, SourceTyping, selection}
+use Rattle.aql_types.specs.Extractions.{extraction}
+
+-- a view that stands below: its name, its columns and what it is
+pub record View : Type 0 where
+  pub name : List ℕ
+  pub columns : List Column
+  pub body : typed.Query
+
+-- what a view's name stands for
+pub record Below : Type 0 where
+  pub columns : List Column
+  pub body : typed.Source
+
+-- the document has one column, the span of its text
+abbrev pub document_below : Below
+document_below = record { columns = record { name = codes "text"; kind = kind.Span } ∷ []; body = typed.document }
+
+-- the view with this name, where the views count from `number`; `Document` is none of them, and each other name that a
+-- query uses is one
+abbrev pub view_named : List ℕ → ℕ → List View → Below
+view_named name number [] = document_below
+view_named name number (v ∷ views) =
+    if bytes_eq v.name name then record { columns = v.columns; body = typed.view number } else view_named name (suc number) views
+
+-- the kinds that a column can have are told apart
+abbrev pub same_kind : Kind → Kind → Bool
+same_kind kind.Integer kind.Integer = true
+same_kind kind.Boolean kind.Boolean = true
+same_kind kind.Text kind.Text = true
+same_kind kind.Span kind.Span = true
+same_kind k other = false
+
+-- equal names and kinds, place by place
+abbrev pub same_columns : List Column → List Column → Bool
+same_columns [] [] = true
+same_columns (c ∷ columns) (d ∷ others) = bytes_eq c.name d.name && (same_kind c.kind d.kind && same_columns columns others)
+same_columns columns others = false
+
+abbrev pub faults_of_sides : List QueryTyping → List Breach
+faults_of_sides sides = flat_map (λ side. side.faults) sides
+
+-- SchemaMismatch: a later side differs from the first in a column's name, kind or place; at its first `select` or `extract`
+abbrev pub mismatched : List QueryTyping → List Breach
+mismatched [] = []
+mismatched (side ∷ sides) = flat_map (λ later. broken (not (same_columns side.columns later.columns)) later.at SchemaMismatch) sides
+
+abbrev pub first_at : List QueryTyping → ℕ
+first_at [] = 0
+first_at (side ∷ sides) = side.at
+
+abbrev pub first_columns : List QueryTyping → List Column
+first_columns [] = []
+first_columns (side ∷ sides) = side.columns
+
+-- the sides from the left, and then their columns
+abbrev pub typing_of_sides : List QueryTyping → typed.Query → QueryTyping
+typing_of_sides sides body = record {
+  at = first_at sides;
+  faults = faults_of_sides sides ++ mismatched sides;
+  columns = first_columns sides;
+  body = body;
+}
+
+abbrev pub typing_of_view : Name → Below → SourceTyping
+typing_of_view alias below = record { alias = alias; faults = []; columns = below.columns; body = below.body }
+
+abbrev pub typing_of_nested : Name → QueryTyping → SourceTyping
+typing_of_nested alias query = record { alias = alias; faults = query.faults; columns = query.columns; body = typed.nested query.body }
+
+module _ (known : Known) (below : List View) where
+  abbrev mutual
+    pub typing_of_query : Query → QueryTyping
+    typing_of_query (select at items sources clauses) = selection known (typings_of_sources sources) items clauses at
+    typing_of_query (extract at items spec source tail) = extraction known (typing_of_source source) items spec tail at
+    typing_of_query (union sides) =
+        let typings = typings_of_queries sides in typing_of_sides typings (typed.union (typed.as_queries (map (λ t. t.body) typings)))
+    typing_of_query (minus left right) =
+        let a = typing_of_query left in let b = typing_of_query right in typing_of_sides (a ∷ b ∷ []) (typed.minus a.body b.body)
+
+    pub typings_of_queries : Queries → List QueryTyping
+    typings_of_queries no_queries = []
+    typings_of_queries (more_queries query queries) = typing_of_query query ∷ typings_of_queries queries
+
+    pub typing_of_source : Source → SourceTyping
+    typing_of_source (view name alias) = typing_of_view (alias_of (view name alias)) (view_named name.text 0 below)
+    typing_of_source (nested query alias) = typing_of_nested alias (typing_of_query query)
+
+    pub typings_of_sources : Sources → List SourceTyping
+    typings_of_sources no_sources = []
+    typings_of_sources (more_sources source sources) = typing_of_source source ∷ typings_of_sources sources
