@@ -1,0 +1,11 @@
+-- ---- words of public clauses
+-- what a program mentions, in the order of the text
+pub mod Mentions
+-- lists with each value once, and places in them
+pub mod Places
+-- what a text is as a pattern
+pub mod Verdicts
+-- the patterns and dictionaries of a program
+pub mod Programs
+-- ---- words of private clauses
+pub mod Kept

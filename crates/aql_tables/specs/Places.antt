@@ -1,0 +1,13 @@
+-- Lists in which each value stands once, and the places of values in them.
+use Rattle.std.specs.Prelude.{ℕ, Bool, not, List, [], ◌∷◌, filter}
+use Rattle.std.specs.List.{position_or_len}
+
+module _ {X : Type 0} (same : X → X → Bool) where
+  -- each value once, where it stands first
+  abbrev pub each_once : List X → List X
+  each_once [] = []
+  each_once (x ∷ xs) = x ∷ filter (λ y. not (same x y)) (each_once xs)
+
+  -- how many stand before the first that is equal to `x`; all, where none is
+  abbrev pub place_of : X → List X → ℕ
+  place_of x xs = position_or_len (same x) xs

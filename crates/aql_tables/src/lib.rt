@@ -1,0 +1,8 @@
+//! The patterns and dictionaries of a program, each compiled once, before its expressions are typed.
+//!
+//! Stands on `aql_syntax` and `view_graph` for programs with known names, on `aql_regex_extract` for
+//! patterns and on `scalar_ops` for the tables that expressions count in.
+#![tactic(auto)]
+
+mod mention;
+mod walk;
