@@ -1,5 +1,5 @@
 -- What is found of a pattern or of a dictionary that may not be there.
-use Rattle.std.proofs.Common.{◌≡◌, ◌∙◌, ◌<◌, ◌≤◌, ◌++◌, ◌==◌, ℕ, List, [], ◌∷◌, Option, Some, None, map, length, slice_get, get_or, refl, sym, ap, subst, ◌⊎◌, inl, inr, arith}
+use Rattle.std.proofs.Common.{◌≡◌, ◌∙◌, ◌<◌, ◌≤◌, ◌++◌, ◌==◌, ℕ, List, [], ◌∷◌, Option, Some, None, map, length, slice_get, get_or, refl, sym, ap, subst, false, ne_eqb, ◌⊎◌, inl, inr, arith}
 use Rattle.std.proofs.lemmas.List.{append-nil}
 use Rattle.std.proofs.lemmas.Option.{slice_get_cases, slice_get_past}
 use Rattle.std.specs.List.{All, filter}
@@ -20,20 +20,24 @@ pub puts_none : {A : Type 0} (f : A → List (List (Option Extent))) (xs : List 
 puts_none {A} f xs i old past =
     let P : Option A → Type 0 = λ o. PutsRows (of_some f o) old old 0 in subst P (sym (slice_get_past xs i past)) (refl, sym (append-nil old))
 
--- nor for a dictionary
-pub none_after : {A B : Type 0} (f : A → List B) (xs : List A) (i : ℕ) (old : List B) → length xs ≤ i → old ≡ old ++ of_some f (slice_get xs i)
-none_after {A} {B} f xs i old past =
-    let P : Option A → Type 0 = λ o. old ≡ old ++ of_some f o in subst P (sym (slice_get_past xs i past)) (sym (append-nil old))
+-- nothing is found for a dictionary that isn't there
+none_for : (n i : ℕ) (ms : List (ℕ × Extent)) → n ≤ i → All (λ (m : ℕ × Extent). m.0 < n) ms → extents_for i ms ≡ []
+none_for n i [] past all = refl
+none_for n i (m ∷ ms) past all =
+    let below = All-head (λ (m : ℕ × Extent). m.0 < n) m ms all in
+    let other : (m.0 == i) ≡ false = ne_eqb m.0 i (omega (arith, below, past)) in
+    rw other (none_for n i ms past (All-tail (λ (m : ℕ × Extent). m.0 < n) m ms all))
 
 module _ (dicts : List DictUse) (d : Doc) (source : Extent) (new : List (ℕ × Extent)) (appends : AppendsMatches dicts d source [] new) where
   -- of what all dictionaries match, those of one are its matches
-  pub for_dict : (i : ℕ) → i < length dicts → extents_for i new ≡ of_some (λ dict. dict_matches dict d source) (slice_get dicts i)
-  for_dict i below = there (slice_get_cases dicts i).1
+  pub for_dict : (i : ℕ) → extents_for i new ≡ of_some (λ dict. dict_matches dict d source) (slice_get dicts i)
+  for_dict i = there (slice_get_cases dicts i).1
     where
       there : ((dict : DictUse) × (i < length dicts) × (slice_get dicts i ≡ Some dict) × (get_or dicts i dict ≡ dict)) ⊎ ((length dicts ≤ i) × (slice_get dicts i ≡ None))
           → extents_for i new ≡ of_some (λ dict. dict_matches dict d source) (slice_get dicts i)
       there (inl at) = ap (extents_for i) appends.after ∙ (appends.listed i at.0 at.2 ∙ ap (of_some (λ dict. dict_matches dict d source)) (sym at.2))
-      there (inr past) = absurd (omega (arith, past.0, below))
+      there (inr past) =
+          ap (extents_for i) appends.after ∙ (none_for (length dicts) i appends.added past.0 appends.places ∙ ap (of_some (λ dict. dict_matches dict d source)) (sym past.1))
 
   -- and lie in the source
   pub all_within : All (λ (m : ℕ × Extent). ContainsExtent source m.1) new

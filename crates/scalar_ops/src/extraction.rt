@@ -99,15 +99,11 @@ impl<'t> Tools<'t> {
         ensures same { self.new ≡ self.old }
     {
         let tables = self.tables;
-        let place = dict as usize;
-        if place >= tables.dict_count {
-            return Ok(());
-        }
         self.found.clear();
         tables
             .pass
             .append_matches(doc, source, &mut self.scratch, &mut self.found)?;
-        push_for(self.found.as_slice(), place, into)
+        push_for(self.found.as_slice(), dict as usize, into)
     }
 }
 

@@ -1,16 +1,12 @@
-use Rattle.std.proofs.Common.{rules, ◌≡◌, ◌∙◌, ◌++◌, ◌<◌, ℕ, List, [], map, length, ap, arith, sym, subst, slice_get}
+use Rattle.std.proofs.Common.{rules, ◌≡◌, ◌∙◌, ◌++◌, ℕ, List, [], map, ap, sym, subst, slice_get}
 use Rattle.std.proofs.lemmas.Result.{on_ok_weaker}
 use Rattle.span_token.specs.Extents.{Extent, extent_of}
 use Rattle.dict_match.specs.declared.dict_use.DictUse.{DictUse}
 use Rattle.scalar_ops.specs.Extractions.{of_some}
 use Rattle.dict_match.specs.DictMatches.{dict_matches}
 use Rattle.dict_match.specs.Rows.{dict_and_extent, AppendsMatches}
-use Rattle.scalar_ops.proofs.Extracting.{none_after, for_dict, all_within, within_for}
+use Rattle.scalar_ops.proofs.Extracting.{for_dict, all_within, within_for}
 use Rattle.scalar_ops.proofs.tools.Tools.append_dict_matches.Goals as goal
-
-pub returns-then-place-tables-clause-matches : goal.returns-then-place-tables-clause-matches
-returns-then-place-tables-clause-matches c =
-    none_after (λ the. dict_matches the c.args.doc.now (extent_of c.args.source)) c.args.self.now.dicts c.args.dict (map extent_of c.args.into.now.items) (search rules)
 
 -- what the pass put into the cleared list
 appends : (c : goal.After-push_for) → AppendsMatches c.tables.inside.pass c.args.doc.now (extent_of c.args.source) [] (map dict_and_extent c.as_slice.result.now)
@@ -21,8 +17,7 @@ appends c =
 
 pub returns-clause-matches : goal.returns-clause-matches
 returns-clause-matches c =
-    let there : c.args.dict < length c.tables.inside.pass = omega (arith, c.if-place-tables.false, c.tables.invariant) in
-    let listed = for_dict c.tables.inside.pass c.args.doc.now (extent_of c.args.source) (map dict_and_extent c.as_slice.result.now) (appends c) c.args.dict there in
+    let listed = for_dict c.tables.inside.pass c.args.doc.now (extent_of c.args.source) (map dict_and_extent c.as_slice.result.now) (appends c) c.args.dict in
     let is : c.tables.inside.pass ≡ c.args.self.now.dicts = search rules in
     on_ok_weaker c.push_for.result
     (λ put. put ∙ ap (λ (found : List Extent). map extent_of c.args.into.now.items ++ found)
