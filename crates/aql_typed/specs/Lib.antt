@@ -8,3 +8,5 @@ pub mod Meaning
 pub mod Programs
 -- which queries have a meaning without a gap: widths, columns and bounds
 pub mod Fitting
+-- laws of them for the crates above: nodes that are made of a list are seen through its elements
+pub mod Nodes

@@ -1,6 +1,6 @@
 -- What a query and a view mean on a document: a list of rows. No plan, no operator and no order of evaluation
 -- occurs here; as a bag, it is what is asked of every way to come to it.
-use Rattle.std.specs.Prelude.{ℕ, List, [], ◌∷◌, ◌++◌, Option, Some, None, map, length, slice_get, slice_index_or}
+use Rattle.std.specs.Prelude.{ℕ, List, [], ◌∷◌, ◌++◌, Option, Some, None, map, length, slice_index_or}
 use Rattle.std.specs.List.{filter, filter_map, flat_map, range_with_len}
 use Rattle.span_token.specs.Documents.{Doc, len_of}
 use Rattle.span_token.specs.Extents.{Extent}
@@ -14,6 +14,7 @@ use Rattle.span_sets.specs.KeptPlaces.{consolidated}
 use Rattle.group_agg.specs.Groups.{grouped}
 use Rattle.group_agg.specs.Limits.{limited}
 use Rattle.scalar_ops.specs.Expressions.{Term}
+use Rattle.scalar_ops.specs.Extractions.{of_some, of_pattern, of_dict}
 use Rattle.scalar_ops.specs.Tables.{Lists}
 use Rattle.scalar_ops.specs.Values.{value, holding}
 use Rattle.aql_typed.specs.Trees.{Consolidation, Projection, plain, grouped_by, SelectClauses, Extraction, regex, token_regex, dict, blocks, ExtractClauses, Query, select, extract, union, minus, Queries, no_queries, more_queries, Source, document, view, nested, Sources, no_sources, more_sources}
@@ -30,11 +31,6 @@ group_value (Some e) = span e
 -- one row for each span
 abbrev pub one_column : List Extent → Rows
 one_column = map (λ e. span e ∷ [])
-
--- what there is of something that may not be there
-abbrev pub of_some : {A : Type 0} → (A → Rows) → Option A → Rows
-of_some f None = []
-of_some f (Some x) = f x
 
 module _ (lists : Lists) (doc : Doc) where
   -- the values of expressions for a row
@@ -61,18 +57,15 @@ module _ (lists : Lists) (doc : Doc) where
   cut order None rows = rows
   cut order (Some n) rows = sorted (limited order (Some n) rows)
 
-  -- what a pattern's number, a dictionary's number, and the span in a column stand for
-  abbrev pub with_pattern : ℕ → (List ℕ → Rows) → Rows
-  with_pattern p f = of_some f (slice_get lists.patterns p)
-
-  -- the rows that are found in one row of the source
+  -- the rows that are found in one row of the source: one for each match in the span of the column, nothing where it has
+  -- no span
   abbrev pub found_in : Extraction → List Datum → Rows
   found_in (regex column p groups) row =
-      of_some (λ source. with_pattern p (λ pattern. map (map group_value) (match_rows pattern doc source groups))) (span_in column row)
+      of_some (λ source. map (map group_value) (of_pattern lists p (λ pattern. match_rows pattern doc source groups))) (span_in column row)
   found_in (token_regex column low high p groups) row =
-      of_some (λ source. with_pattern p (λ pattern. map (map group_value) (run_rows pattern doc source low high groups))) (span_in column row)
+      of_some (λ source. map (map group_value) (of_pattern lists p (λ pattern. run_rows pattern doc source low high groups))) (span_in column row)
   found_in (dict column d) row =
-      of_some (λ source. of_some (λ dictionary. one_column (dict_matches dictionary doc source)) (slice_get lists.dicts d)) (span_in column row)
+      of_some (λ source. one_column (of_dict lists d (λ dictionary. dict_matches dictionary doc source))) (span_in column row)
   found_in (blocks column low high from to tokens) row = []
 
   -- for each row of the source the items' values, followed by what is found; blocks stand for all rows together

@@ -1,5 +1,5 @@
 -- How definitions see the typed tree of the code.
-use Rattle.std.specs.Prelude.{ℕ, List, map, option_map, Option}
+use Rattle.std.specs.Prelude.{option_map}
 use Rattle.scalar_ops.specs.Views.{term_of}
 use Rattle.aql_typed.specs.declared.tree.Consolidate.{Consolidate}
 use Rattle.aql_typed.specs.declared.tree.Projection as declared_projection

@@ -126,7 +126,10 @@ pub enum Extraction {
         groups: Vec<u32>,
     },
     /// Runs of tokens that agree with an entry of a dictionary.
-    Dict { column: u32, dict: u32 },
+    Dict {
+        column: u32,
+        dict: u32,
+    },
     /// Runs of `low` to `high` neighbours among the spans of the column in all rows, with `gap_low` to
     /// `gap_high` characters, or tokens, between two of them.
     Blocks {
