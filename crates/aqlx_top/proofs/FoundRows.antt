@@ -6,10 +6,9 @@ use Rattle.regex.specs.Patterns.{Match}
 use Rattle.span_token.specs.Documents.{Doc, whole_of, len_of, text_in}
 use Rattle.span_token.specs.Extents.{Extent, extent_of}
 use Rattle.span_token.specs.declared.span.Span.{Span}
-use Rattle.row_values.specs.Datums.{Datum}
-use Rattle.row_values.specs.Rows.{RowList}
+use Rattle.row_values.specs.Datums.{Datum, IsOfDocument}
+use Rattle.row_values.specs.Rows.{RowList, RowsLieIn}
 use Rattle.aql_regex_extract.specs.Matches.{row_of, match_rows, flat_rows, matches_of, extents_of, IsInside}
-use Rattle.corpus_json.specs.Outputs.{IsOfDocument, RowsLieIn}
 use Rattle.aqlx_top.specs.Run.{extent_datum, rows_for}
 
 -- one row for each match

@@ -2,7 +2,8 @@ ghost use Rattle.std.specs.Prelude.{◌≡◌, ◌≤◌, [], ◌∷◌, ◌++�
 ghost use Rattle.corpus_json.specs.Documents.{is_bad_line};
 ghost use Rattle.corpus_json.specs.Inputs.{doc_of};
 ghost use Rattle.aqlx_top.specs.Endings.{written_for};
-ghost use Rattle.corpus_json.specs.Outputs.{output_line, RowsLieIn};
+ghost use Rattle.corpus_json.specs.Outputs.{output_line};
+ghost use Rattle.row_values.specs.Rows.{RowsLieIn};
 ghost use Rattle.aqlx_top.specs.Run.{line_for, rows_for, IsOneColumn};
 
 use crate::extraction::rows_of;

@@ -4,16 +4,15 @@ use Rattle.std.proofs.Math.ListN.{get_or-map}
 use Rattle.std.proofs.lemmas.List.{length-map}
 use Rattle.std.proofs.lemmas.List.Sorted.{All-permutation}
 use Rattle.span_token.specs.Documents.{Doc}
-use Rattle.row_values.specs.Datums.{Datum, datum_of}
+use Rattle.row_values.specs.Datums.{Datum, IsOfDocument, datum_of}
 use Rattle.row_values.specs.Rows.{sorted}
-use Rattle.row_values.proofs.Sorted.{SameBag-sorted}
+use Rattle.row_values.specs.SortedRows.{SameBag-sorted}
 use Rattle.row_values.specs.declared.value.Value.{Value}
 use Rattle.corpus_json.specs.Places.{Place, place_of, places_of}
 use Rattle.corpus_json.specs.Sections.{HasColumns}
 use Rattle.corpus_json.specs.declared.write.order.Named.{Named}
 use Rattle.corpus_json.proofs.Objects.{places_within}
 use Rattle.corpus_json.proofs.Sections.{All-unmap}
-use Rattle.corpus_json.specs.Outputs.{IsOfDocument}
 
 mapped_lie_in : (document : Doc) (values : List Value) → All (IsOfDocument document) (map datum_of values) → All (λ value. IsOfDocument document (datum_of value)) values
 mapped_lie_in document values all = λ k d within.

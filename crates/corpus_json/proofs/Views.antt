@@ -14,7 +14,7 @@ use Rattle.span_token.specs.Documents.{Doc}
 use Rattle.row_values.specs.Datums.{Datum, null}
 use Rattle.row_values.specs.Outputs.{OutputNames}
 use Rattle.row_values.specs.Rows.{RowList, sorted}
-use Rattle.row_values.proofs.Sorted.{SameBag-sorted}
+use Rattle.row_values.specs.SortedRows.{SameBag-sorted}
 use Rattle.corpus_json.specs.Outputs.{value_data, object_of, array_of, row_data, rows_data, views_data, label_pair, line_data}
 use Rattle.json.specs.Token.{Token, begin_array, begin_object, end_object, key}
 use Rattle.json.specs.Tree.{json_tokens}

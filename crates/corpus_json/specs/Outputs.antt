@@ -1,12 +1,12 @@
 -- What is written for a document: one line of JSON.
-use Rattle.std.specs.Prelude.{ℕ, List, [], ◌∷◌, ◌++◌, codes, map, fold, All, ⊤, Option, None, Some}
+use Rattle.std.specs.Prelude.{ℕ, List, [], ◌∷◌, ◌++◌, codes, map, fold, Option, None, Some}
 use Rattle.std.specs.List.{zip}
 use Rattle.serde_json.specs.Data.{Data, null, boolean, number, string, array, object, unsigned, Members, no_members, member, put}
 use Rattle.serde_json.specs.Find.{of_integer}
 use Rattle.serde_json.specs.View.{items_of}
 use Rattle.serde_json.specs.Written.{compact_text}
 use Rattle.span_token.specs.Extents.{Extent}
-use Rattle.span_token.specs.Documents.{Doc, text_in, LiesIn}
+use Rattle.span_token.specs.Documents.{Doc, text_in}
 use Rattle.row_values.specs.Datums.{Datum, int, truth, text, span}
 use Rattle.row_values.specs.Datums as datum
 use Rattle.row_values.specs.Outputs.{OutputNames}
@@ -60,18 +60,6 @@ line_data document outputs rows = object_of (label_pair document.label ++ (codes
 -- the output line of a document, given the rows of each output: serde_json's compact text of the object, and LF
 unfoldable pub output_line : Doc → List OutputNames → List (List (List Datum)) → List ℕ
 output_line document outputs rows = compact_text (line_data document outputs rows) ++ 10 ∷ []
-
--- a span lies in the document
-abbrev pub IsOfDocument : Doc → Datum → Type 0
-IsOfDocument document datum.null = ⊤
-IsOfDocument document (int n) = ⊤
-IsOfDocument document (truth b) = ⊤
-IsOfDocument document (text t) = ⊤
-IsOfDocument document (span extent) = LiesIn extent document
-
--- the spans of all rows lie in the document
-abbrev pub RowsLieIn : Doc → List (List Datum) → Type 0
-RowsLieIn document rows = All (All (IsOfDocument document)) rows
 
 abbrev pub rows_of : RowList → List (List Datum)
 rows_of list = list.rows

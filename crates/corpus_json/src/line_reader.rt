@@ -1,5 +1,5 @@
-ghost use Rattle.std.specs.Prelude.{◌≡◌, ◌≤◌, [], None, Ok, IfOk, IfSome, OnErr, is_some};
-ghost use Rattle.corpus_json.specs.Given.{GoesOn};
+ghost use Rattle.std.specs.Prelude.{◌≡◌, ◌≤◌, [], None, Ok, IfOk, IfSome, IsOkAnd, OnErr, is_some};
+ghost use Rattle.corpus_json.specs.Given.{GoesOn, HasGiven};
 ghost use Rattle.corpus_json.specs.Reading.{NextLine, Took};
 
 use crate::{LineBuffer, Step};
@@ -42,12 +42,14 @@ impl<S> Model for LineReader<S> {
 impl<S: Source> LineReader<S> {
     ghost use Rattle.corpus_json.specs.Readers.{step_of, line_in};
 
-    /// A reader of the lines of `source`, which took nothing yet. It takes its buffer's memory.
+    /// A reader of the lines of `source`, which took and gave nothing yet. It takes its buffer's memory.
     pub fn new(alloc: Global, source: S) -> Result<LineReader<S>, OutOfMemory>
     where
         S: Drop,
-        ensures { IfOk result (λ reader.
+        ensures new { IfOk result (λ reader.
             reader ≡ record { reading = record { ready = []; taken = 0; last = None }; source = source }) }
+        ensures given { IfOk result (λ reader. HasGiven (S.left source) (S.left source)
+            (S.faults source) (S.faults source) reader.reading []) }
     {
         let buffer = LineBuffer::new(alloc)?;
         Ok(LineReader {
@@ -59,7 +61,9 @@ impl<S: Source> LineReader<S> {
 
     /// The next line of the source, or why there is none.
     ///
-    /// Lines and answers are those of `LineBuffer::next_line`. The line is a new `Vec`.
+    /// Lines and answers are those of `LineBuffer::next_line`. The line is a new `Vec`. Once the reader
+    /// has ended or failed, a further call gives the same answer, never wants memory, and leaves the
+    /// source as it is.
     pub fn next(&mut self) -> Result<Next, OutOfMemory>
         ensures answer { IfOk result (λ next. NextLine (S.left self.old.source) (S.left self.new.source)
             (S.faults self.old.source) (S.faults self.new.source) self.old.reading self.new.reading
@@ -71,7 +75,7 @@ impl<S: Source> LineReader<S> {
         ensures told { is_some (S.left self.new.source) ≡ is_some (S.left self.old.source) }
         ensures later { S.faults self.old.source ≤ S.faults self.new.source }
         ensures lasting { IfSome self.old.reading.last
-            (λ last. IfOk result (λ next. (step_of next ≡ last) × (self.new.source ≡ self.old.source))) }
+            (λ last. IsOkAnd result (λ next. step_of next ≡ last) × (self.new.source ≡ self.old.source)) }
     {
         let mut line = Vec::new(self.alloc);
         let step = self.next_into(&mut line)?;

@@ -1,6 +1,6 @@
 ghost use Rattle.std.specs.Prelude.{◌≡◌, ◌≢◌, ◌≤◌, All, IfOk, IsTrue, length};
-ghost use Rattle.row_values.specs.Datums.{datum_of};
-ghost use Rattle.corpus_json.specs.Outputs.{IsOfDocument, RowsLieIn};
+ghost use Rattle.row_values.specs.Datums.{IsOfDocument, datum_of};
+ghost use Rattle.row_values.specs.Rows.{RowsLieIn};
 
 use corpus_json::{Input, Layout, NotDocument, append_document, read_document, write_document};
 use row_values::{Output, Row, Rows, Value};

@@ -2,7 +2,8 @@ ghost use Rattle.std.specs.Prelude.{◌≡◌, ◌++◌, ◌∷◌, [], All, IfO
 ghost use Rattle.json.specs.Token.{begin_object};
 ghost use Rattle.json.specs.Tree.{json_tokens};
 ghost use Rattle.serde_json.specs.Written.{outline};
-ghost use Rattle.corpus_json.specs.Outputs.{output_line, line_data, RowsLieIn, rows_of};
+ghost use Rattle.row_values.specs.Rows.{RowsLieIn};
+ghost use Rattle.corpus_json.specs.Outputs.{output_line, line_data, rows_of};
 ghost use Rattle.corpus_json.specs.Writing.{Adds, label_tokens};
 
 use super::layout::Layout;
@@ -10,7 +11,7 @@ use super::views::write_views;
 use json::Writer;
 use row_values::{Output, Rows};
 use span_token::{Document, OutOfMemory};
-use std::alloc::{AllocError, Global};
+use std::alloc::Global;
 
 /// The output line of `document`, with its LF: the rows of each output, in the order of `outputs`.
 ///
@@ -79,7 +80,7 @@ fn write_object(
 }
 
 /// Writes the member `label`, where there is a label.
-fn write_label(out: &mut Writer, label: Option<&str>) -> Result<(), AllocError>
+fn write_label(out: &mut Writer, label: Option<&str>) -> Result<(), OutOfMemory>
     ensures { Adds result out.old out.new (label_tokens (option_map (λ label. label.now) label.entry)) }
 {
     if let Some(label) = label {

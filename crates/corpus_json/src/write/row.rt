@@ -1,17 +1,16 @@
 ghost use Rattle.std.specs.Prelude.{◌≡◌, ◌++◌, ◌∷◌, All, length, map};
 ghost use Rattle.json.specs.Token.{begin_object};
-ghost use Rattle.row_values.specs.Datums.{datum_of};
+ghost use Rattle.row_values.specs.Datums.{IsOfDocument, datum_of};
+ghost use Rattle.row_values.specs.Rows.{RowsLieIn};
 ghost use Rattle.corpus_json.specs.Places.{place_of};
 ghost use Rattle.corpus_json.specs.Sections.{HasColumns};
-ghost use Rattle.corpus_json.specs.Outputs.{IsOfDocument, RowsLieIn};
 ghost use Rattle.corpus_json.specs.Writing.{Adds, row_tokens, row_listed, array_tokens};
 
 use super::order::Named;
 use super::value::write_value;
 use json::Writer;
 use row_values::{Row, Value};
-use span_token::Document;
-use std::alloc::AllocError;
+use span_token::{Document, OutOfMemory};
 
 /// Writes a row: the values under the names of their columns, as the columns stand.
 #[tactic(auto, unfolding(crate::specs::Writing::row_tokens))]
@@ -20,7 +19,7 @@ pub(crate) fn write_row(
     document: &Document<'_>,
     columns: &[Named<'_>],
     row: &[Value<'_>],
-) -> Result<(), AllocError>
+) -> Result<(), OutOfMemory>
     requires columns { HasColumns columns.now (length row.now) }
     requires in_document { All (λ value. IsOfDocument document.now (datum_of value)) row.now }
     ensures { Adds result out.old out.new (begin_object ∷ row_tokens document.now (map place_of columns.now) (map datum_of row.now)) }
@@ -41,7 +40,7 @@ pub(crate) fn write_rows(
     document: &Document<'_>,
     columns: &[Named<'_>],
     rows: &[Row<'_>],
-) -> Result<(), AllocError>
+) -> Result<(), OutOfMemory>
     requires columns { All (λ row. HasColumns columns.now (length row)) rows.now }
     requires in_document { RowsLieIn document.now rows.now }
     ensures { Adds result out.old out.new (array_tokens (map (row_listed document.now (map place_of columns.now)) rows.now)) }
@@ -60,7 +59,7 @@ pub(crate) fn write_row_references(
     document: &Document<'_>,
     columns: &[Named<'_>],
     rows: &[&Row<'_>],
-) -> Result<(), AllocError>
+) -> Result<(), OutOfMemory>
     requires columns { All (λ row. HasColumns columns.now (length row.now)) rows.now }
     requires in_document { All (λ row. All (IsOfDocument document.now) row.now) rows.now }
     ensures { Adds result out.old out.new (array_tokens (map (row_listed document.now (map place_of columns.now)) (map (λ row. row.now) rows.now))) }

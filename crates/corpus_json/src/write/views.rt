@@ -2,8 +2,8 @@ ghost use Rattle.std.specs.Prelude.{◌≡◌, ◌<◌, ◌∷◌, All, IfOk, On
 ghost use Rattle.json.specs.Token.{begin_array, begin_object};
 ghost use Rattle.json.specs.Tree.{json_tokens};
 ghost use Rattle.serde_json.specs.Written.{outline};
-ghost use Rattle.row_values.specs.Rows.{RowList, sorted};
-ghost use Rattle.corpus_json.specs.Outputs.{rows_data, RowsLieIn, rows_of};
+ghost use Rattle.row_values.specs.Rows.{RowList, RowsLieIn, sorted};
+ghost use Rattle.corpus_json.specs.Outputs.{rows_data, rows_of};
 ghost use Rattle.corpus_json.specs.Places.{place_of};
 ghost use Rattle.corpus_json.specs.Sections.{section_of, HasColumns, HasRows};
 ghost use Rattle.corpus_json.specs.Writing.{Adds, array_tokens, row_listed, views_tokens};
@@ -70,8 +70,7 @@ fn write_in_order(
 {
     let _width = rows.width();
     if is_in_order(rows) {
-        write_rows(out, document, columns, rows.as_slice())?;
-        return Ok(());
+        return write_rows(out, document, columns, rows.as_slice());
     }
     write_sorted(alloc, out, document, columns, rows)
 }

@@ -1,8 +1,7 @@
 use Rattle.std.proofs.Common.{sym, ◌∙◌, subst}
 use Rattle.std.proofs.lemmas.Result.{IfOk-weaker}
 use Rattle.span_token.specs.Extents.{extent_of}
-use Rattle.row_values.specs.Rows.{RowList}
-use Rattle.corpus_json.specs.Outputs.{RowsLieIn}
+use Rattle.row_values.specs.Rows.{RowList, RowsLieIn}
 use Rattle.aqlx_top.proofs.FoundRows.{rows_found, rows_lie, nothing_inside, with_rows}
 use Rattle.aqlx_top.proofs.answer.matches_in.Goals as goal
 

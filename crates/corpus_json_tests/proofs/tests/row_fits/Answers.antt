@@ -1,7 +1,6 @@
 use Rattle.std.proofs.Common.{All, subst}
 use Rattle.std.proofs.lemmas.List.Elements.{All-map}
-use Rattle.row_values.specs.Datums.{datum_of}
-use Rattle.corpus_json.specs.Outputs.{IsOfDocument}
+use Rattle.row_values.specs.Datums.{IsOfDocument, datum_of}
 use Rattle.corpus_json_tests.proofs.tests.row_fits.Goals as goal
 
 pub returns : goal.returns

@@ -1,5 +1,5 @@
 use Rattle.std.proofs.Common.{All, sym, subst}
-use Rattle.corpus_json.specs.Outputs.{IsOfDocument}
+use Rattle.row_values.specs.Datums.{IsOfDocument}
 use Rattle.corpus_json.proofs.RowSpans.{values_lie_in}
 use Rattle.corpus_json.proofs.write.row.write_rows.Goals as goal
 

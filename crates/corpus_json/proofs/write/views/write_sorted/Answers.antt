@@ -1,7 +1,6 @@
 use Rattle.std.proofs.Common.{List, All, length, map, ap, ◌∙◌}
-use Rattle.row_values.specs.Datums.{Datum}
+use Rattle.row_values.specs.Datums.{Datum, IsOfDocument}
 use Rattle.corpus_json.specs.Sections.{HasColumns}
-use Rattle.corpus_json.specs.Outputs.{IsOfDocument}
 use Rattle.corpus_json.proofs.RowSpans.{sorted_all, columns_in_rows}
 use Rattle.corpus_json.proofs.write.views.write_sorted.Goals as goal
 
