@@ -19,7 +19,7 @@ use Rattle.aqlx_top.specs.declared.status.CorpusFault.TheVariants.{BadLine, Line
 use Rattle.aqlx_top.specs.Devices.{SourceEnds, SinkEnds, FilesFailed, SinkFailed, SinkNeverFailed, Gained, IsUntouched}
 use Rattle.aqlx_top.specs.Endings.{InPart, Came, written_for}
 use Rattle.aqlx_top.specs.Outcome.{Call, IsReadAs, IsCalledFor, IsCalledWith, RanTo, WroteFront, HasCauseOf, IsAnswered, IsOfDocuments, HasNoFault, NoneFailed, IsRefusedOrWanting, IsDoneOrWanting, Outcome}
-use Rattle.aqlx_top.specs.ProgramFaults.{HasFault, IsFaultless}
+use Rattle.aqlx_top.specs.ProgramFaults.{HasFault, IsFaultless, AreOneFault}
 use Rattle.aqlx_top.specs.Run.{Program, line_of}
 use Rattle.aqlx_top.specs.Stages.{IsToldAs}
 use Rattle.aqlx_top.specs.Statuses.{HasLine}
@@ -244,11 +244,11 @@ run_has_no_fault call text program called with_text =
 
 -- the cause of a status where the text has a fault
 refused_cause : (call : Call) (status : Status) (text : List ℕ) (fault : ProgramFault) → IsCalledWith call text → HasFault text fault → HasCauseOf call status
-    → (status ≡ Refused fault) ⊎ ((status ≡ ReadFault) × FilesFailed call.files)
+    → ((told : ProgramFault) × (status ≡ Refused told) × AreOneFault fault told) ⊎ ((status ≡ ReadFault) × FilesFailed call.files)
 refused_cause call Done text fault with_text has cause = absurd (run_has_no_fault call text cause.program cause.called with_text fault has)
 refused_cause call (Refused other) text fault with_text has cause =
     let same = same_text call text cause.text cause.name with_text cause.words cause.file in
-    inl (ap Refused (sym (cause.cause.only fault (subst (λ (t : List ℕ). HasFault t fault) (sym same) has))))
+    inl (other, refl, cause.cause.only fault (subst (λ (t : List ℕ). HasFault t fault) (sym same) has))
 refused_cause call Usage text fault with_text has cause = absurd (cause.words with_text.name with_text.words)
 refused_cause call (Corpus other) text fault with_text has cause = absurd (run_has_no_fault call text cause.program cause.called with_text fault has)
 refused_cause call ReadFault text fault with_text has cause =
@@ -259,9 +259,10 @@ refused_cause call ReadFault text fault with_text has cause =
 refused_cause call WriteFault text fault with_text has cause = absurd (run_has_no_fault call text cause.1.program cause.1.called with_text fault has)
 
 as_result : (call : Call) (err : SinkEnds) (status : Status) (fault : ProgramFault)
-    → (status ≡ Refused fault) ⊎ ((status ≡ ReadFault) × FilesFailed call.files) → IsRefusedOrWanting call err fault (Ok status)
+    → ((told : ProgramFault) × (status ≡ Refused told) × AreOneFault fault told) ⊎ ((status ≡ ReadFault) × FilesFailed call.files)
+    → IsRefusedOrWanting call err fault (Ok status)
 as_result call err status fault found =
-    elim found [ inl refused ↦ inl (ap (λ (s : Status). Ok s) refused) | inr unread ↦ inr (inl (ap (λ (s : Status). Ok s) unread.0, unread.1)) ]
+    elim found [ inl refused ↦ inl (refused.0, ap (λ (s : Status). Ok s) refused.1, refused.2) | inr unread ↦ inr (inl (ap (λ (s : Status). Ok s) unread.0, unread.1)) ]
 
 -- a text that has a fault is refused for it, or the file, the line's writing or memory failed
 pub refused_of : (call : Call) (err : SinkEnds) (result : Result Status OutOfMemory) → IsAnswered call err result

@@ -19,12 +19,13 @@ use Rattle.aql_syntax.specs.Trees.{Statement}
 use Rattle.aql_syntax.specs.Programs.{AreTokensOf, placed_in}
 use Rattle.aqlx_top.specs.declared.program.Compiled.{Compiled}
 use Rattle.aqlx_top.specs.declared.status.ProgramFault.{ProgramFault}
-use Rattle.aqlx_top.specs.declared.status.ProgramFault.TheVariants.{Text, Large, Lex, Syntax, Unbuilt}
+use Rattle.aqlx_top.specs.declared.status.ProgramFault.TheVariants.{Text, Large, Lex, Syntax, Name, Unbuilt}
 use Rattle.aqlx_top.specs.declared.status.What.TheVariants.{Bytes, Statements, Nesting}
-use Rattle.aqlx_top.specs.ProgramFaults.{HasCause, HasOnlyFault, HasTooMany, IsTooDeep, IsTooLargeFor}
+use Rattle.aqlx_top.specs.ProgramFaults.{HasCause, HasOnlyFault, HasOrder, HasTooMany, IsTooDeep, IsTooLargeFor}
 use Rattle.aqlx_top.specs.ProgramTexts.{ReadsAs, IsWithinLimits, HoldsStatements}
-use Rattle.aqlx_top.specs.Programs.{IsCompiledFrom, IsBuiltFrom, IsUnbuiltFor}
-use Rattle.aqlx_top.proofs.ProgramLaws.{only_many, only_deep, only_syntax, only_unbuilt, holds_program}
+use Rattle.aqlx_top.specs.Programs.{IsCompiledFrom, IsBuiltFrom, IsRefusedFor, IsUnbuiltFor}
+use Rattle.view_graph.specs.Answers.{IsNameDecided}
+use Rattle.aqlx_top.proofs.ProgramLaws.{only_many, only_deep, only_syntax, only_name, only_unbuilt, holds_program}
 
 -- the second of some
 pub second_of : (statements : List seen.Statement) (second : seen.Statement) → 1 < length statements → second ≡ get_or statements 1 second
@@ -62,6 +63,7 @@ module _ (text : List ℕ) (toks : List Tok) (decided : IsDecided text) (reads :
   refused_sizes (Fault (Text place)) h = absurd h
   refused_sizes (Fault (Lex fault)) h = absurd h
   refused_sizes (Fault (Syntax fault)) h = absurd h
+  refused_sizes (Fault (Name fault)) h = absurd h
   refused_sizes (Fault (Unbuilt statement)) h = absurd h
   refused_sizes OutOfMemory h = absurd h
 
@@ -80,14 +82,29 @@ module _ (text : List ℕ) (toks : List Tok) (decided : IsDecided text) (reads :
         placed = as_seen (λ (ks : List Kind). placed_in ks trees ≡ trees) placed;
       }
 
-      pub built_from : (compiled : Compiled) → IsBuiltFrom trees compiled → IsCompiledFrom text compiled
-      built_from compiled built =
-          record { program = built.program; holds = holds_program text trees built.program decided held one built.form; is_compiled = built.is_compiled }
+      module _ (names : IsNameDecided trees) where
+        pub built_from : (compiled : Compiled) → IsBuiltFrom trees compiled → IsCompiledFrom text compiled
+        built_from compiled built = record {
+          program = built.formed.program;
+          holds = holds_program text trees built.formed.program decided held one names built.resolved built.formed.form;
+          is_compiled = built.formed.is_compiled;
+        }
 
-      pub refused_form : (failure : Failure ProgramFault) → IsUnbuiltFor trees failure → HasCause text failure
-      refused_form (Fault (Unbuilt number)) h = only_unbuilt text trees number decided held one h
-      refused_form (Fault (Large what number)) h = absurd h
-      refused_form (Fault (Text place)) h = absurd h
-      refused_form (Fault (Lex fault)) h = absurd h
-      refused_form (Fault (Syntax fault)) h = absurd h
-      refused_form OutOfMemory h = tt
+        pub refused_form : (failure : Failure ProgramFault) → IsRefusedFor trees failure → HasCause text failure
+        refused_form (Fault (Name fault)) h = only_name text trees fault decided held one names h
+        refused_form (Fault (Unbuilt number)) h = only_unbuilt text trees number decided held one names h.0 h.1
+        refused_form (Fault (Large what number)) h = absurd h
+        refused_form (Fault (Text place)) h = absurd h
+        refused_form (Fault (Lex fault)) h = absurd h
+        refused_form (Fault (Syntax fault)) h = absurd h
+        refused_form OutOfMemory h = tt
+
+-- a statement that isn't of the one form, where the names are resolved
+pub refused_for : (statements : List Statement) → HasOrder statements → (failure : Failure ProgramFault) → IsUnbuiltFor statements failure → IsRefusedFor statements failure
+refused_for statements order OutOfMemory h = tt
+refused_for statements order (Fault (Unbuilt number)) h = (order, h)
+refused_for statements order (Fault (Name fault)) h = absurd h
+refused_for statements order (Fault (Large what number)) h = absurd h
+refused_for statements order (Fault (Text place)) h = absurd h
+refused_for statements order (Fault (Lex fault)) h = absurd h
+refused_for statements order (Fault (Syntax fault)) h = absurd h

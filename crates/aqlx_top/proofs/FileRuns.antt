@@ -16,7 +16,7 @@ use Rattle.aqlx_top.specs.declared.status.What.TheVariants.{Bytes}
 use Rattle.aqlx_top.specs.Devices.{FilesEnds, SourceEnds, SinkEnds, FilesNeverFailed}
 use Rattle.aqlx_top.specs.Endings.{InPart}
 use Rattle.aqlx_top.specs.Outcome.{IsReadAs, IsCalledFor, WroteFront, HasCauseOf, call_of}
-use Rattle.aqlx_top.specs.ProgramFaults.{HasOnlyFault, HoldsProgram}
+use Rattle.aqlx_top.specs.ProgramFaults.{HasOnlyFault, AreOneFault, HoldsProgram}
 use Rattle.aqlx_top.specs.ProgramFile.{IsFrontOf}
 use Rattle.aqlx_top.specs.Programs.{IsCompiled}
 use Rattle.aqlx_top.specs.Progress.{IsRunTo}
@@ -54,13 +54,17 @@ whole_or_large held bytes front =
       | inr small ↦ inl (front ∙ take_all (program_limit + 1) held (omega arith))
     ]
 
+-- what is one fault with too many bytes is that fault
+large_is : (fault : ProgramFault) → AreOneFault (Large Bytes (program_limit + 1)) fault → Large Bytes (program_limit + 1) ≡ fault
+large_is fault one = elim one [ inl same ↦ same | inr cycles ↦ absurd cycles ]
+
 fault_of_held : (held bytes : List ℕ) (fault : ProgramFault) → bytes ≡ take (program_limit + 1) held → HasOnlyFault bytes fault → HasOnlyFault held fault
 fault_of_held held bytes fault front cause =
     elim (whole_or_large held bytes front) [
       | inl whole ↦ subst (λ (t : List ℕ). HasOnlyFault t fault) whole cause
       | inr large ↦
           subst (λ (f : ProgramFault). HasOnlyFault held f)
-          (cause.only (Large Bytes (program_limit + 1)) (only_large bytes large.1).has)
+          (large_is fault (cause.only (Large Bytes (program_limit + 1)) (only_large bytes large.1).has))
           (only_large held large.0)
     ]
 

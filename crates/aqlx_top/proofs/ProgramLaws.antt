@@ -1,5 +1,5 @@
 -- A program file's bytes have one fault at most: what is found first is the only one.
-use Rattle.std.proofs.Common.{◌≡◌, ℕ, ◌+◌, ◌<◌, ◌≤◌, List, length, ap, ap₂, sym, subst, ◌∙◌, refl, arith}
+use Rattle.std.proofs.Common.{◌≡◌, ℕ, ◌+◌, ◌<◌, ◌≤◌, ◌⊎◌, inl, inr, List, length, ap, ap₂, sym, subst, ◌∙◌, refl, arith}
 use Rattle.std.specs.Str.{IsUtf8, IsValidUpTo}
 use Rattle.std.specs.Str.Lossy.{utf8_valid_len}
 use Rattle.std.proofs.lemmas.Str.{utf8_valid_len-IsUtf8, utf8_valid_len-IsValidUpTo}
@@ -14,10 +14,12 @@ use Rattle.aql_syntax.specs.Trees.{Statement}
 use Rattle.aql_syntax.specs.Programs.{AreTokensOf, placed_in}
 use Rattle.aqlx_top.specs.Limits.{program_limit}
 use Rattle.aqlx_top.specs.declared.status.ProgramFault.{ProgramFault}
-use Rattle.aqlx_top.specs.declared.status.ProgramFault.TheVariants.{Text, Large, Lex, Syntax, Unbuilt}
+use Rattle.aqlx_top.specs.declared.status.ProgramFault.TheVariants.{Text, Large, Lex, Syntax, Name, Unbuilt}
 use Rattle.aqlx_top.specs.declared.status.What.TheVariants.{Bytes, Statements, Nesting}
 use Rattle.aqlx_top.specs.OneForm.{IsUnbuilt, AreOf}
-use Rattle.aqlx_top.specs.ProgramFaults.{HasFault, HasOnlyFault, HasTooMany, IsTooDeep, HoldsProgram}
+use Rattle.aqlx_top.specs.ProgramFaults.{HasFault, HasOnlyFault, HasOrder, AreOneFault, HasTooMany, IsTooDeep, HoldsProgram}
+use Rattle.view_graph.specs.Answers.{IsNameFault, IsNameDecided}
+use Rattle.view_graph.specs.declared.fault.NameFault.{NameFault}
 use Rattle.aqlx_top.specs.ProgramTexts.{ReadsAs, IsWithinLimits, HoldsStatements}
 use Rattle.aqlx_top.specs.Run.{Program}
 use Rattle.aqlx_top.proofs.FormLaws.{one_unbuilt, form_is_built}
@@ -44,10 +46,11 @@ large_alone bytes large (Lex fault) h = let small = h.0 in absurd (omega arith)
 large_alone bytes large (Large Statements number) h = let small = h.1.small in absurd (omega arith)
 large_alone bytes large (Large Nesting number) h = let small = h.1.small in absurd (omega arith)
 large_alone bytes large (Syntax fault) h = let small = h.1.small in absurd (omega arith)
+large_alone bytes large (Name fault) h = let small = h.1.reads.small in absurd (omega arith)
 large_alone bytes large (Unbuilt number) h = let small = h.1.reads.small in absurd (omega arith)
 
 pub only_large : (bytes : List ℕ) → program_limit < length bytes → HasOnlyFault bytes (Large Bytes (program_limit + 1))
-only_large bytes large = record { has = (large, refl); only = large_alone bytes large }
+only_large bytes large = record { has = (large, refl); only = λ other h. inl (large_alone bytes large other h) }
 
 text_alone : (bytes : List ℕ) (place : ℕ) → length bytes ≤ program_limit → IsValidUpTo bytes place → (other : ProgramFault) → HasFault bytes other
     → other ≡ Text place
@@ -57,10 +60,11 @@ text_alone bytes place small stops (Lex fault) h = absurd (not_text bytes place 
 text_alone bytes place small stops (Large Statements number) h = absurd (not_text bytes place h.1.text stops)
 text_alone bytes place small stops (Large Nesting number) h = absurd (not_text bytes place h.1.text stops)
 text_alone bytes place small stops (Syntax fault) h = absurd (not_text bytes place h.1.text stops)
+text_alone bytes place small stops (Name fault) h = absurd (not_text bytes place h.1.reads.text stops)
 text_alone bytes place small stops (Unbuilt number) h = absurd (not_text bytes place h.1.reads.text stops)
 
 pub only_text : (bytes : List ℕ) (place : ℕ) → length bytes ≤ program_limit → IsValidUpTo bytes place → HasOnlyFault bytes (Text place)
-only_text bytes place small stops = record { has = (small, stops); only = text_alone bytes place small stops }
+only_text bytes place small stops = record { has = (small, stops); only = λ other h. inl (text_alone bytes place small stops other h) }
 
 -- ---- tokens
 
@@ -73,20 +77,30 @@ lex_alone bytes fault small text decided at (Lex other) h =
 lex_alone bytes fault small text decided at (Large Statements number) h = absurd (decided.not_both h.0 fault.place h.1.reading at)
 lex_alone bytes fault small text decided at (Large Nesting number) h = absurd (decided.not_both h.0 fault.place h.1.reading at)
 lex_alone bytes fault small text decided at (Syntax other) h = absurd (decided.not_both h.0 fault.place h.1.reading at)
+lex_alone bytes fault small text decided at (Name other) h = absurd (decided.not_both h.1.tokens fault.place h.1.reads.reading at)
 lex_alone bytes fault small text decided at (Unbuilt number) h = absurd (decided.not_both h.1.tokens fault.place h.1.reads.reading at)
 
 pub only_lex : (bytes : List ℕ) (fault : LexFault) → length bytes ≤ program_limit → IsUtf8 bytes → IsDecided bytes → IsFault bytes fault.place
     → HasOnlyFault bytes (Lex fault)
-only_lex bytes fault small text decided at = record { has = (small, text, at); only = lex_alone bytes fault small text decided at }
+only_lex bytes fault small text decided at = record { has = (small, text, at); only = λ other h. inl (lex_alone bytes fault small text decided at other h) }
+
+-- what all faults of a text with these statements are: a fault of the statements
+abbrev pub HasStatementFault : List Statement → ProgramFault → Type 0
+HasStatementFault statements (Name fault) = IsNameFault statements fault
+HasStatementFault statements (Unbuilt number) = HasOrder statements × IsUnbuilt statements number
+HasStatementFault statements _ = ⊥
 
 -- what all faults of a text with these tokens are: a fault of the tokens
 abbrev pub HasTokenFault : List ℕ → List Token → ProgramFault → Type 0
 HasTokenFault bytes tokens (Large Statements number) = HasTooMany (kinds_in tokens) number
 HasTokenFault bytes tokens (Large Nesting number) = IsTooDeep (kinds_in tokens) number
 HasTokenFault bytes tokens (Syntax fault) = IsWithinLimits (kinds_in tokens) × IsSyntaxFault tokens fault.statement fault.line
+HasTokenFault bytes tokens (Name fault) =
+    IsWithinLimits (kinds_in tokens)
+    × ((statements : List Statement) × AreTokensOf (kinds_in tokens) statements × (placed_in (kinds_in tokens) statements ≡ statements) × HasStatementFault statements (Name fault))
 HasTokenFault bytes tokens (Unbuilt number) =
     IsWithinLimits (kinds_in tokens)
-    × ((statements : List Statement) × AreTokensOf (kinds_in tokens) statements × (placed_in (kinds_in tokens) statements ≡ statements) × IsUnbuilt statements number)
+    × ((statements : List Statement) × AreTokensOf (kinds_in tokens) statements × (placed_in (kinds_in tokens) statements ≡ statements) × HasStatementFault statements (Unbuilt number))
 HasTokenFault bytes tokens _ = ⊥
 
 same_tokens : (bytes : List ℕ) (tokens others : List Token) → IsDecided bytes → ReadsAs bytes tokens → ReadsAs bytes others → others ≡ tokens
@@ -103,9 +117,12 @@ token_fault bytes tokens decided reads (Large Nesting number) h =
     subst (λ (ts : List Token). IsTooDeep (kinds_in ts) number) (same_tokens bytes tokens h.0 decided reads h.1) h.2
 token_fault bytes tokens decided reads (Syntax fault) h =
     subst (λ (ts : List Token). IsWithinLimits (kinds_in ts) × IsSyntaxFault ts fault.statement fault.line) (same_tokens bytes tokens h.0 decided reads h.1) (h.2, h.3)
+token_fault bytes tokens decided reads (Name fault) h =
+    subst (λ (ts : List Token). HasTokenFault bytes ts (Name fault)) (same_tokens bytes tokens h.1.tokens decided reads h.1.reads)
+    (h.1.within, (h.0, h.1.trees, h.1.placed, h.2))
 token_fault bytes tokens decided reads (Unbuilt number) h =
     subst (λ (ts : List Token). HasTokenFault bytes ts (Unbuilt number)) (same_tokens bytes tokens h.1.tokens decided reads h.1.reads)
-    (h.1.within, (h.0, h.1.trees, h.1.placed, h.2))
+    (h.1.within, (h.0, h.1.trees, h.1.placed, (h.2, h.3)))
 
 -- ---- sizes
 
@@ -124,6 +141,7 @@ many_alone : (bytes : List ℕ) (tokens : List Token) (number : ℕ) → HasTooM
 many_alone bytes tokens number many (Large Statements other) h = ap (Large Statements) (h.0 ∙ sym many.0)
 many_alone bytes tokens number many (Large Nesting other) h = let few = h.0 in let e = many.0 in let long = many.1 in absurd (omega arith)
 many_alone bytes tokens number many (Syntax fault) h = let few = h.0.statements in let e = many.0 in let long = many.1 in absurd (omega arith)
+many_alone bytes tokens number many (Name fault) h = let few = h.0.statements in let e = many.0 in let long = many.1 in absurd (omega arith)
 many_alone bytes tokens number many (Unbuilt other) h = let few = h.0.statements in let e = many.0 in let long = many.1 in absurd (omega arith)
 many_alone bytes tokens number many (Text place) h = absurd h
 many_alone bytes tokens number many (Lex fault) h = absurd h
@@ -134,6 +152,7 @@ deep_alone : (bytes : List ℕ) (tokens : List Token) (number : ℕ) → IsTooDe
 deep_alone bytes tokens number deep (Large Statements other) h = let few = deep.0 in let e = h.0 in let long = h.1 in absurd (omega arith)
 deep_alone bytes tokens number deep (Large Nesting other) h = ap (Large Nesting) (one_nesting (kinds_in tokens) other number h.1 deep.1)
 deep_alone bytes tokens number deep (Syntax fault) h = absurd (not_deeper (kinds_in tokens) number h.0.nesting deep.1 deep.2)
+deep_alone bytes tokens number deep (Name fault) h = absurd (not_deeper (kinds_in tokens) number h.0.nesting deep.1 deep.2)
 deep_alone bytes tokens number deep (Unbuilt other) h = absurd (not_deeper (kinds_in tokens) number h.0.nesting deep.1 deep.2)
 deep_alone bytes tokens number deep (Text place) h = absurd h
 deep_alone bytes tokens number deep (Lex fault) h = absurd h
@@ -142,12 +161,12 @@ deep_alone bytes tokens number deep (Large Bytes other) h = absurd h
 pub only_many : (bytes : List ℕ) (tokens : List Token) (number : ℕ) → IsDecided bytes → ReadsAs bytes tokens → HasTooMany (kinds_in tokens) number
     → HasOnlyFault bytes (Large Statements number)
 only_many bytes tokens number decided reads many =
-    record { has = (tokens, reads, many); only = λ other h. many_alone bytes tokens number many other (token_fault bytes tokens decided reads other h) }
+    record { has = (tokens, reads, many); only = λ other h. inl (many_alone bytes tokens number many other (token_fault bytes tokens decided reads other h)) }
 
 pub only_deep : (bytes : List ℕ) (tokens : List Token) (number : ℕ) → IsDecided bytes → ReadsAs bytes tokens → IsTooDeep (kinds_in tokens) number
     → HasOnlyFault bytes (Large Nesting number)
 only_deep bytes tokens number decided reads deep =
-    record { has = (tokens, reads, deep); only = λ other h. deep_alone bytes tokens number deep other (token_fault bytes tokens decided reads other h) }
+    record { has = (tokens, reads, deep); only = λ other h. inl (deep_alone bytes tokens number deep other (token_fault bytes tokens decided reads other h)) }
 
 -- ---- statements
 
@@ -159,6 +178,7 @@ syntax_alone bytes tokens fault within decided found (Large Nesting number) h = 
 syntax_alone bytes tokens fault within decided found (Syntax other) h =
     let one = decided.one_fault other.statement fault.statement other.line fault.line h.1 found in
     ap₂ (λ (s l : ℕ). Syntax (record { statement = s; line = l })) one.0 one.1
+syntax_alone bytes tokens fault within decided found (Name other) h = absurd (decided.not_both h.1.0 fault.statement fault.line h.1.1 found)
 syntax_alone bytes tokens fault within decided found (Unbuilt number) h = absurd (decided.not_both h.1.0 fault.statement fault.line h.1.1 found)
 syntax_alone bytes tokens fault within decided found (Text place) h = absurd h
 syntax_alone bytes tokens fault within decided found (Lex other) h = absurd h
@@ -168,7 +188,7 @@ pub only_syntax : (bytes : List ℕ) (tokens : List Token) (fault : SyntaxFault)
     → parsing.IsDecided tokens → IsSyntaxFault tokens fault.statement fault.line → HasOnlyFault bytes (Syntax fault)
 only_syntax bytes tokens fault decided reads within one found = record {
   has = (tokens, reads, within, found);
-  only = λ other h. syntax_alone bytes tokens fault within one found other (token_fault bytes tokens decided reads other h);
+  only = λ other h. inl (syntax_alone bytes tokens fault within one found other (token_fault bytes tokens decided reads other h));
 }
 
 -- the statements of tokens with their places are one list
@@ -176,36 +196,75 @@ same_statements : (tokens : List Token) (xs ys : List Statement) → parsing.IsD
     → placed_in (kinds_in tokens) xs ≡ xs → placed_in (kinds_in tokens) ys ≡ ys → ys ≡ xs
 same_statements tokens xs ys one trees others placed put = sym put ∙ one.one_list ys xs others trees ∙ placed
 
--- what all faults of tokens with these statements are: a statement that isn't built
-unbuilt_alone : (bytes : List ℕ) (held : List Statement) (holds : HoldsStatements bytes held) → parsing.IsDecided holds.tokens
-    → (other : ProgramFault) → HasTokenFault bytes holds.tokens other → (number : ℕ) × (other ≡ Unbuilt number) × IsUnbuilt held number
-unbuilt_alone bytes held holds one (Large Statements number) h =
+-- what all faults of tokens with these statements are: a fault of the statements
+statement_fault : (bytes : List ℕ) (held : List Statement) (holds : HoldsStatements bytes held) → parsing.IsDecided holds.tokens
+    → (other : ProgramFault) → HasTokenFault bytes holds.tokens other → HasStatementFault held other
+statement_fault bytes held holds one (Large Statements number) h =
     let few = holds.within.statements in let e = h.0 in let long = h.1 in absurd (omega arith)
-unbuilt_alone bytes held holds one (Large Nesting number) h = absurd (not_deeper (kinds_in holds.tokens) number holds.within.nesting h.1 h.2)
-unbuilt_alone bytes held holds one (Syntax fault) h = absurd (one.not_both held fault.statement fault.line holds.trees h.1)
-unbuilt_alone bytes held holds one (Unbuilt number) h =
+statement_fault bytes held holds one (Large Nesting number) h = absurd (not_deeper (kinds_in holds.tokens) number holds.within.nesting h.1 h.2)
+statement_fault bytes held holds one (Syntax fault) h = absurd (one.not_both held fault.statement fault.line holds.trees h.1)
+statement_fault bytes held holds one (Name fault) h =
     let same : h.1.0 ≡ held = same_statements holds.tokens held h.1.0 one holds.trees h.1.1 holds.placed h.1.2 in
-    (number, refl, subst (λ (xs : List Statement). IsUnbuilt xs number) same h.1.3)
-unbuilt_alone bytes held holds one (Text place) h = absurd h
-unbuilt_alone bytes held holds one (Lex fault) h = absurd h
-unbuilt_alone bytes held holds one (Large Bytes number) h = absurd h
+    subst (λ (xs : List Statement). HasStatementFault xs (Name fault)) same h.1.3
+statement_fault bytes held holds one (Unbuilt number) h =
+    let same : h.1.0 ≡ held = same_statements holds.tokens held h.1.0 one holds.trees h.1.1 holds.placed h.1.2 in
+    subst (λ (xs : List Statement). HasStatementFault xs (Unbuilt number)) same h.1.3
+statement_fault bytes held holds one (Text place) h = absurd h
+statement_fault bytes held holds one (Lex fault) h = absurd h
+statement_fault bytes held holds one (Large Bytes number) h = absurd h
 
-pub only_unbuilt : (bytes : List ℕ) (held : List Statement) (number : ℕ) → IsDecided bytes → (holds : HoldsStatements bytes held) → parsing.IsDecided holds.tokens
-    → IsUnbuilt held number → HasOnlyFault bytes (Unbuilt number)
-only_unbuilt bytes held number decided holds one unbuilt = record {
-  has = (held, holds, unbuilt);
-  only = λ other h.
-      let found = unbuilt_alone bytes held holds one other (token_fault bytes holds.tokens decided holds.reads other h) in
-      found.1 ∙ ap Unbuilt (one_unbuilt held found.0 number found.2 unbuilt);
+-- ---- names
+
+name_alone : (held : List Statement) (fault : NameFault) → IsNameDecided held → IsNameFault held fault
+    → (other : ProgramFault) → HasStatementFault held other → AreOneFault other (Name fault)
+name_alone held fault decided found (Name other) h =
+    elim (decided.one_fault other fault h found) [ inl same ↦ inl (ap Name same) | inr cycles ↦ inr cycles ]
+name_alone held fault decided found (Unbuilt number) h = absurd (decided.not_both h.0.0 fault h.0.1 found)
+name_alone held fault decided found (Large what number) h = absurd h
+name_alone held fault decided found (Syntax other) h = absurd h
+name_alone held fault decided found (Text place) h = absurd h
+name_alone held fault decided found (Lex other) h = absurd h
+
+pub only_name : (bytes : List ℕ) (held : List Statement) (fault : NameFault) → IsDecided bytes → (holds : HoldsStatements bytes held) → parsing.IsDecided holds.tokens
+    → IsNameDecided held → IsNameFault held fault → HasOnlyFault bytes (Name fault)
+only_name bytes held fault decided holds one names found = record {
+  has = (held, holds, found);
+  only = λ other h. name_alone held fault names found other (statement_fault bytes held holds one other (token_fault bytes holds.tokens decided holds.reads other h));
 }
 
+-- ---- the one form
+
+unbuilt_alone : (held : List Statement) (number : ℕ) → IsNameDecided held → HasOrder held → IsUnbuilt held number
+    → (other : ProgramFault) → HasStatementFault held other → other ≡ Unbuilt number
+unbuilt_alone held number decided order unbuilt (Name fault) h = absurd (decided.not_both order.0 fault order.1 h)
+unbuilt_alone held number decided order unbuilt (Unbuilt other) h = ap Unbuilt (one_unbuilt held other number h.1 unbuilt)
+unbuilt_alone held number decided order unbuilt (Large what other) h = absurd h
+unbuilt_alone held number decided order unbuilt (Syntax other) h = absurd h
+unbuilt_alone held number decided order unbuilt (Text place) h = absurd h
+unbuilt_alone held number decided order unbuilt (Lex other) h = absurd h
+
+pub only_unbuilt : (bytes : List ℕ) (held : List Statement) (number : ℕ) → IsDecided bytes → (holds : HoldsStatements bytes held) → parsing.IsDecided holds.tokens
+    → IsNameDecided held → HasOrder held → IsUnbuilt held number → HasOnlyFault bytes (Unbuilt number)
+only_unbuilt bytes held number decided holds one names order unbuilt = record {
+  has = (held, holds, order, unbuilt);
+  only = λ other h. inl (unbuilt_alone held number names order unbuilt other (statement_fault bytes held holds one other (token_fault bytes holds.tokens decided holds.reads other h)));
+}
+
+faultless_form : (held : List Statement) (program : Program) → IsNameDecided held → HasOrder held → AreOf held program
+    → (other : ProgramFault) → HasStatementFault held other → ⊥
+faultless_form held program decided order form (Name fault) h = decided.not_both order.0 fault order.1 h
+faultless_form held program decided order form (Unbuilt number) h = form_is_built held program number form h.1
+faultless_form held program decided order form (Large what number) h = h
+faultless_form held program decided order form (Syntax other) h = h
+faultless_form held program decided order form (Text place) h = h
+faultless_form held program decided order form (Lex other) h = h
+
 pub holds_program : (bytes : List ℕ) (held : List Statement) (program : Program) → IsDecided bytes → (holds : HoldsStatements bytes held) → parsing.IsDecided holds.tokens
-    → AreOf held program → HoldsProgram bytes program
-holds_program bytes held program decided holds one form = record {
+    → IsNameDecided held → HasOrder held → AreOf held program → HoldsProgram bytes program
+holds_program bytes held program decided holds one names order form = record {
   statements = held;
   holds = holds;
+  resolved = order;
   form = form;
-  faultless = λ fault h.
-      let found = unbuilt_alone bytes held holds one fault (token_fault bytes holds.tokens decided holds.reads fault h) in
-      form_is_built held program found.0 form found.2;
+  faultless = λ fault h. faultless_form held program names order form fault (statement_fault bytes held holds one fault (token_fault bytes holds.tokens decided holds.reads fault h));
 }

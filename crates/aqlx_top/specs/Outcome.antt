@@ -7,7 +7,7 @@ use Rattle.aqlx_top.specs.declared.status.Status.{Status}
 use Rattle.aqlx_top.specs.declared.status.Status.TheVariants.{Done, Program as Refused, Usage, Corpus, ReadFault, WriteFault}
 use Rattle.aqlx_top.specs.declared.status.ProgramFault.{ProgramFault}
 use Rattle.aqlx_top.specs.Devices.{FilesEnds, SourceEnds, SinkEnds, FilesFailed, SourceFailed, SinkFailed, FilesNeverFailed, SourceNeverFailed, SinkNeverFailed, Gained, IsUntouched, IsUnread}
-use Rattle.aqlx_top.specs.ProgramFaults.{HasFault, HasOnlyFault, IsFaultless, HoldsProgram}
+use Rattle.aqlx_top.specs.ProgramFaults.{HasFault, HasOnlyFault, AreOneFault, IsFaultless, HoldsProgram}
 use Rattle.aqlx_top.specs.Run.{Program, Ran, RanInPart}
 use Rattle.aqlx_top.specs.Statuses.{HasLine, HasLinePart, message_of}
 use Rattle.aqlx_top.specs.Taken.{HasNoBadLine}
@@ -126,10 +126,14 @@ pub record IsCalledWith (call : Call) (text : List ℕ) : Type 0 where
   pub words : IsRun call.words name
   pub file : IsSomeAnd call.files.told (λ names. names name ≡ Some text)
 
+-- the answer is the refusal for this fault; of several cycles any may be told
+abbrev pub IsRefusal : ProgramFault → Result Status OutOfMemory → Type 0
+IsRefusal fault result = (told : ProgramFault) × (result ≡ Ok (Refused told)) × AreOneFault fault told
+
 -- the text is refused for this fault, or the file or the line failed, or memory is wanting
 abbrev pub IsRefusedOrWanting : Call → SinkEnds → ProgramFault → Result Status OutOfMemory → Type 0
 IsRefusedOrWanting call err fault result =
-    (result ≡ Ok (Refused fault)) ⊎ ((result ≡ Ok ReadFault) × FilesFailed call.files)
+    IsRefusal fault result ⊎ ((result ≡ Ok ReadFault) × FilesFailed call.files)
     ⊎ ((result ≡ Ok WriteFault) × SinkFailed err) ⊎ IsErr result
 
 -- all is done, or memory is wanting

@@ -1,5 +1,5 @@
 -- The faults of a program file's bytes, each with its exact cause.
-use Rattle.std.specs.Prelude.{◌≡◌, ℕ, ◌+◌, ◌<◌, ◌≤◌, List, length, ⊤}
+use Rattle.std.specs.Prelude.{◌≡◌, ℕ, ◌+◌, ◌<◌, ◌≤◌, ◌⊎◌, List, length, ⊤}
 use Rattle.std.specs.Str.{IsUtf8, IsValidUpTo}
 use Rattle.span_token.specs.declared.refusal.Failure.{Failure}
 use Rattle.span_token.specs.declared.refusal.Failure.TheVariants.{OutOfMemory, Fault}
@@ -11,11 +11,12 @@ use Rattle.aql_parser.specs.Faults.{kinds_in, IsSyntaxFault}
 use Rattle.aql_parser.specs.Nesting.{IsNesting, nesting_limit}
 use Rattle.aqlx_top.specs.Limits.{program_limit, statement_limit}
 use Rattle.aqlx_top.specs.declared.status.ProgramFault.{ProgramFault}
-use Rattle.aqlx_top.specs.declared.status.ProgramFault.TheVariants.{Text, Large, Lex, Syntax, Unbuilt}
+use Rattle.aqlx_top.specs.declared.status.ProgramFault.TheVariants.{Text, Large, Lex, Syntax, Name, Unbuilt}
 use Rattle.aqlx_top.specs.declared.status.What.TheVariants.{Bytes, Statements, Nesting}
 use Rattle.aqlx_top.specs.OneForm.{IsUnbuilt, AreOf}
 use Rattle.aqlx_top.specs.ProgramTexts.{ReadsAs, IsWithinLimits, HoldsStatements}
 use Rattle.aqlx_top.specs.Run.{Program}
+use Rattle.view_graph.specs.Answers.{IsNameFault, IsResolved, IsCycleFault}
 
 -- more statements than a program may have
 abbrev pub HasTooMany : List Kind → ℕ → Type 0
@@ -24,6 +25,10 @@ HasTooMany kinds number = (number ≡ length (runs_of kinds)) × (statement_limi
 -- no more statements than that, and deeper parentheses than they may be
 abbrev pub IsTooDeep : List Kind → ℕ → Type 0
 IsTooDeep kinds number = (length (runs_of kinds) ≤ statement_limit) × IsNesting kinds number × (nesting_limit < number)
+
+-- the names of the statements are resolved: the views have an order
+abbrev pub HasOrder : List Statement → Type 0
+HasOrder statements = (order : List ℕ) × IsResolved statements order
 
 -- the bytes of a program file have the fault
 abbrev pub HasFault : List ℕ → ProgramFault → Type 0
@@ -34,13 +39,23 @@ HasFault bytes (Large Statements number) = (tokens : List Token) × ReadsAs byte
 HasFault bytes (Large Nesting number) = (tokens : List Token) × ReadsAs bytes tokens × IsTooDeep (kinds_in tokens) number
 HasFault bytes (Syntax fault) =
     (tokens : List Token) × ReadsAs bytes tokens × IsWithinLimits (kinds_in tokens) × IsSyntaxFault tokens fault.statement fault.line
+HasFault bytes (Name fault) = (statements : List Statement) × HoldsStatements bytes statements × IsNameFault statements fault
 HasFault bytes (Unbuilt number) =
-    (statements : List Statement) × HoldsStatements bytes statements × IsUnbuilt statements number
+    (statements : List Statement) × HoldsStatements bytes statements × HasOrder statements × IsUnbuilt statements number
+
+-- both are cycles
+abbrev pub AreCycles : ProgramFault → ProgramFault → Type 0
+AreCycles (Name fault) (Name other) = IsCycleFault fault × IsCycleFault other
+AreCycles fault other = ⊥
+
+-- the faults are one, but that any of several cycles may be told
+abbrev pub AreOneFault : ProgramFault → ProgramFault → Type 0
+AreOneFault fault other = (fault ≡ other) ⊎ AreCycles fault other
 
 -- the bytes have the fault and no other
 pub record HasOnlyFault (bytes : List ℕ) (fault : ProgramFault) : Type 0 where
   pub has : HasFault bytes fault
-  pub only : (other : ProgramFault) → HasFault bytes other → other ≡ fault
+  pub only : (other : ProgramFault) → HasFault bytes other → AreOneFault other fault
 
 -- memory ran out, or the bytes have the fault and no other
 abbrev pub HasCause : List ℕ → Failure ProgramFault → Type 0
@@ -61,5 +76,6 @@ IsFaultless bytes = (fault : ProgramFault) → ¬ (HasFault bytes fault)
 pub record HoldsProgram (bytes : List ℕ) (program : Program) : Type 0 where
   pub statements : List Statement
   pub holds : HoldsStatements bytes statements
+  pub resolved : HasOrder statements
   pub form : AreOf statements program
   pub faultless : IsFaultless bytes

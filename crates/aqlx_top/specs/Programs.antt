@@ -6,10 +6,11 @@ use Rattle.aql_syntax.specs.Trees.{Statement}
 use Rattle.aqlx_top.specs.declared.one_form.Parts.{Parts}
 use Rattle.aqlx_top.specs.declared.program.Compiled.{Compiled}
 use Rattle.aqlx_top.specs.declared.status.ProgramFault.{ProgramFault}
-use Rattle.aqlx_top.specs.declared.status.ProgramFault.TheVariants.{Unbuilt}
+use Rattle.aqlx_top.specs.declared.status.ProgramFault.TheVariants.{Name, Unbuilt}
 use Rattle.aqlx_top.specs.OneForm.{AreOf, IsUnbuilt}
-use Rattle.aqlx_top.specs.ProgramFaults.{HoldsProgram}
+use Rattle.aqlx_top.specs.ProgramFaults.{HoldsProgram, HasOrder}
 use Rattle.aqlx_top.specs.Run.{Program, output_of}
+use Rattle.view_graph.specs.Answers.{IsNameFault}
 
 -- the program that parts stand for
 abbrev pub program_of : Parts → Program
@@ -26,14 +27,27 @@ pub record IsCompiledFrom (text : List ℕ) (compiled : Compiled) : Type 0 where
   pub holds : HoldsProgram text program
   pub is_compiled : IsCompiled compiled program
 
--- the statements are a program's, and this is it, compiled
-pub record IsBuiltFrom (statements : List Statement) (compiled : Compiled) : Type 0 where
+-- the statements are a program's of the one form, and this is it, compiled
+pub record IsFormedFrom (statements : List Statement) (compiled : Compiled) : Type 0 where
   pub program : Program
   pub form : AreOf statements program
   pub is_compiled : IsCompiled compiled program
 
--- memory ran out, or this statement is the first that isn't built
+-- and their names are resolved
+pub record IsBuiltFrom (statements : List Statement) (compiled : Compiled) : Type 0 where
+  pub resolved : HasOrder statements
+  pub formed : IsFormedFrom statements compiled
+
+-- memory ran out, or this statement is the first that isn't of the one form
 abbrev pub IsUnbuiltFor : List Statement → Failure ProgramFault → Type 0
 IsUnbuiltFor statements OutOfMemory = ⊤
 IsUnbuiltFor statements (Fault (Unbuilt number)) = IsUnbuilt statements number
 IsUnbuiltFor statements (Fault _) = ⊥
+
+-- memory ran out, or the names have this fault, or they are resolved and this statement is the first that isn't of the
+-- one form
+abbrev pub IsRefusedFor : List Statement → Failure ProgramFault → Type 0
+IsRefusedFor statements OutOfMemory = ⊤
+IsRefusedFor statements (Fault (Name fault)) = IsNameFault statements fault
+IsRefusedFor statements (Fault (Unbuilt number)) = HasOrder statements × IsUnbuilt statements number
+IsRefusedFor statements (Fault _) = ⊥

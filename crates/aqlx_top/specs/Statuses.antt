@@ -1,15 +1,18 @@
 -- The exit status of each status, and its line on standard error.
 use Rattle.std.specs.Prelude.{ℕ, List, [], ◌∷◌, ◌++◌, take, codes}
 use Rattle.std.specs.Fmt.{decimal}
+use Rattle.std.specs.List.{flat_map}
 use Rattle.aqlx_top.specs.Devices.{SinkEnds, Gained, HasSent, IsUntouched}
 use Rattle.aqlx_top.specs.declared.status.Status.{Status}
 use Rattle.aqlx_top.specs.declared.status.Status.TheVariants.{Done, Program, Usage, Corpus, ReadFault, WriteFault}
 use Rattle.aqlx_top.specs.declared.status.ProgramFault.{ProgramFault}
-use Rattle.aqlx_top.specs.declared.status.ProgramFault.TheVariants.{Text, Large, Lex, Syntax, Unbuilt}
+use Rattle.aqlx_top.specs.declared.status.ProgramFault.TheVariants.{Text, Large, Lex, Syntax, Name, Unbuilt}
 use Rattle.aqlx_top.specs.declared.status.What.{What}
 use Rattle.aqlx_top.specs.declared.status.What.TheVariants.{Bytes, Statements, Nesting}
 use Rattle.aqlx_top.specs.declared.status.CorpusFault.{CorpusFault}
 use Rattle.aqlx_top.specs.declared.status.CorpusFault.TheVariants.{BadLine, LineLong, CorpusLarge}
+use Rattle.view_graph.specs.declared.fault.NameFault.{NameFault}
+use Rattle.view_graph.specs.declared.fault.NameFault.TheVariants.{DuplicateName, UnknownView, UnknownDictionary, DuplicateOutput, Cycle}
 
 -- the exit status
 abbrev pub code_of : Status → ℕ
@@ -29,12 +32,33 @@ what_text Bytes = codes "bytes"
 what_text Statements = codes "statements"
 what_text Nesting = codes "nesting"
 
+-- names with a comma before each
+abbrev pub after_commas : List (List ℕ) → List ℕ
+after_commas names = flat_map (λ name. codes ", " ++ name) names
+
+-- names with a comma between two
+abbrev pub listed : List (List ℕ) → List ℕ
+listed [] = []
+listed (name ∷ names) = name ++ after_commas names
+
+-- what is said of a statement
+abbrev pub statement_text : ℕ → List ℕ → List ℕ
+statement_text statement text = codes "statement " ++ decimal statement ++ codes ": " ++ text
+
+abbrev pub name_text : NameFault → List ℕ
+name_text (DuplicateName statement name) = statement_text statement (name ++ codes " is defined again")
+name_text (UnknownView statement name) = statement_text statement (codes "no view " ++ name)
+name_text (UnknownDictionary statement name) = statement_text statement (codes "no dictionary " ++ name)
+name_text (DuplicateOutput statement name) = statement_text statement (codes "output " ++ name ++ codes " again")
+name_text (Cycle views) = codes "cycle: " ++ listed views
+
 abbrev pub program_text : ProgramFault → List ℕ
 program_text (Text place) = codes "program is not UTF-8 at byte " ++ decimal place
 program_text (Large what number) = codes "program too large: " ++ what_text what ++ codes " " ++ decimal number
 program_text (Lex fault) = codes "no token at byte " ++ decimal fault.place
 program_text (Syntax fault) = codes "syntax: statement " ++ decimal fault.statement ++ codes ", line " ++ decimal fault.line
-program_text (Unbuilt statement) = codes "statement " ++ decimal statement ++ codes ": not built yet"
+program_text (Name fault) = name_text fault
+program_text (Unbuilt statement) = statement_text statement (codes "not built yet")
 
 abbrev pub corpus_text : CorpusFault → List ℕ
 corpus_text (BadLine line) = codes "corpus line " ++ decimal line ++ codes " is not a document"

@@ -26,3 +26,4 @@ pub use aql_parser::SyntaxFault;
 pub use limits::{PROGRAM_LIMIT, STATEMENT_LIMIT};
 pub use status::{CorpusFault, ProgramFault, Status, What};
 pub use top::aqlx;
+pub use view_graph::NameFault;

@@ -4,7 +4,8 @@ ghost use Rattle.aql_syntax.specs.Views.{statement_of};
 ghost use Rattle.aqlx_top.specs.Limits.{program_limit};
 ghost use Rattle.aqlx_top.specs.OneForm.{IsViewIn};
 ghost use Rattle.aqlx_top.specs.ProgramFaults.{HasCause};
-ghost use Rattle.aqlx_top.specs.Programs.{IsBuiltFrom, IsCompiledFrom, IsUnbuiltFor, program_of};
+ghost use Rattle.aqlx_top.specs.Programs.{IsBuiltFrom, IsCompiledFrom, IsFormedFrom, IsRefusedFor, IsUnbuiltFor, program_of};
+ghost use Rattle.view_graph.specs.Answers.{IsNameDecided};
 ghost use Rattle.aqlx_top.specs.Run.{Program, output_of};
 
 use crate::ProgramFault;
@@ -16,6 +17,7 @@ use aql_syntax::Statement;
 use row_values::Output;
 use span_token::{Failure, OutOfMemory, OwnedList, OwnedText};
 use std::alloc::Global;
+use view_graph::resolve;
 
 /// A program of one view, ready to run: its output and its compiled pattern.
 #[derive(Drop)]
@@ -42,15 +44,29 @@ fn compile_text(alloc: Global, text: &str) -> Result<Compiled, Failure<ProgramFa
     let toks = tokens_of(alloc, text)?;
     check_sizes(&toks)?;
     match parse(alloc, &toks) {
-        Ok(statements) => build(alloc, &statements),
+        Ok(statements) => build(alloc, statements),
         Err(Failure::Fault(fault)) => Err(Failure::Fault(ProgramFault::Syntax(fault))),
         Err(Failure::OutOfMemory) => Err(Failure::OutOfMemory),
     }
 }
 
+/// The program of these statements, or the fault of their names, or the first statement that keeps them
+/// from being of the one form.
+fn build(alloc: Global, statements: Vec<Statement>) -> Result<Compiled, Failure<ProgramFault>>
+    ensures built { IfOk result (IsBuiltFrom (map statement_of statements.items)) }
+    ensures fault { IfErr result (IsRefusedFor (map statement_of statements.items)) }
+    ensures decided { IsNameDecided (map statement_of statements.items) }
+{
+    match resolve(alloc, statements) {
+        Ok(graph) => build_form(alloc, graph.statements()),
+        Err(Failure::Fault(fault)) => Err(Failure::Fault(ProgramFault::Name(fault))),
+        Err(Failure::OutOfMemory) => Err(Failure::OutOfMemory),
+    }
+}
+
 /// The program of these statements, or the first statement that keeps them from being of the one form.
-fn build(alloc: Global, statements: &[Statement]) -> Result<Compiled, Failure<ProgramFault>>
-    ensures built { IfOk result (IsBuiltFrom (map statement_of statements.now)) }
+fn build_form(alloc: Global, statements: &[Statement]) -> Result<Compiled, Failure<ProgramFault>>
+    ensures built { IfOk result (IsFormedFrom (map statement_of statements.now)) }
     ensures fault { IfErr result (IsUnbuiltFor (map statement_of statements.now)) }
 {
     let Some(parts) = first_view(statements) else {

@@ -3,9 +3,10 @@ ghost use Rattle.aqlx_top.specs.Statuses.{code_of};
 
 use aql_lexer::LexFault;
 use aql_parser::SyntaxFault;
+use view_graph::NameFault;
 
 /// How a run ended, want of memory apart.
-#[derive(Clone, Copy, Debug, PartialEq, Eq)]
+#[derive(Debug, Drop)]
 pub enum Status {
     /// The corpus was read to its end and every line was written.
     Done,
@@ -23,11 +24,11 @@ pub enum Status {
 
 /// Why a program is refused.
 ///
-/// The faults are looked for in this order: bytes, text, tokens, statements, nesting, syntax, and what
-/// isn't built. A program has the first one alone.
+/// The faults are looked for in this order: bytes, text, tokens, statements, nesting, syntax, names, cycle,
+/// and what isn't built. A program has the first one alone; of several cycles any may be told.
 ///
 /// Meaning: `HasFault`, `specs/ProgramFaults.antt`.
-#[derive(Clone, Copy, Debug, PartialEq, Eq)]
+#[derive(Debug, Drop)]
 pub enum ProgramFault {
     /// The file's first `place` bytes are UTF-8, and no more of them.
     Text { place: u32 },
@@ -38,6 +39,8 @@ pub enum ProgramFault {
     Lex(LexFault),
     /// This statement is the first whose tokens are those of no tree.
     Syntax(SyntaxFault),
+    /// A name is defined twice or not at all, two outputs have one name, or views use one another in a circle.
+    Name(NameFault),
     /// This statement, from 1, is the first that keeps the program from being one view of a pattern and its
     /// output.
     Unbuilt { statement: u32 },

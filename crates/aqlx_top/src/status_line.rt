@@ -1,12 +1,12 @@
-ghost use Rattle.std.specs.Prelude.{◌≡◌, ◌≢◌, [], IfOk, OnErr, string_bytes};
+ghost use Rattle.std.specs.Prelude.{◌≡◌, ◌≢◌, ◌++◌, [], IfOk, OnOk, OnErr, string_bytes};
 ghost use Rattle.aqlx_top.specs.Devices.{sink_between, IsUntouched};
 ghost use Rattle.aqlx_top.specs.Stages.{IsToldAs, IsWrittenAs};
-ghost use Rattle.aqlx_top.specs.Statuses.{message_of, error_line, program_text, corpus_text, what_text};
+ghost use Rattle.aqlx_top.specs.Statuses.{message_of, error_line, program_text, name_text, statement_text, after_commas, corpus_text, what_text};
 
 use crate::put::put_and_flush;
-use crate::{CorpusFault, ProgramFault, Status, SyntaxFault, What};
+use crate::{CorpusFault, NameFault, ProgramFault, Status, SyntaxFault, What};
 use aql_io::{Failed, Sink};
-use span_token::OutOfMemory;
+use span_token::{OutOfMemory, OwnedText};
 use std::alloc::Global;
 
 /// Writes the line of `status` on standard error and flushes it, and answers `status`; where that fails,
@@ -61,23 +61,79 @@ fn as_line(alloc: Global, text: &str) -> Result<String, OutOfMemory>
 fn text_of_program_fault(alloc: Global, fault: &ProgramFault) -> Result<String, OutOfMemory>
     ensures { IfOk result (λ text. string_bytes text ≡ program_text fault.now) }
 {
-    match *fault {
+    match fault {
         ProgramFault::Text { place } => Ok(format!(in alloc;
             "program is not UTF-8 at byte {place}"
         )?),
         ProgramFault::Large { what, number } => {
-            let what = text_of_what(what);
+            let what = text_of_what(*what);
             Ok(format!(in alloc; "program too large: {what} {number}")?)
         }
         ProgramFault::Lex(fault) => {
             let place = fault.place;
             Ok(format!(in alloc; "no token at byte {place}")?)
         }
-        ProgramFault::Syntax(fault) => text_of_syntax_fault(alloc, &fault),
-        ProgramFault::Unbuilt { statement } => {
-            Ok(format!(in alloc; "statement {statement}: not built yet")?)
-        }
+        ProgramFault::Syntax(fault) => text_of_syntax_fault(alloc, fault),
+        ProgramFault::Name(fault) => text_of_name_fault(alloc, fault),
+        ProgramFault::Unbuilt { statement } => of_statement(alloc, *statement, "not built yet"),
     }
+}
+
+fn text_of_name_fault(alloc: Global, fault: &NameFault) -> Result<String, OutOfMemory>
+    ensures { IfOk result (λ text. string_bytes text ≡ name_text fault.now) }
+{
+    match fault {
+        NameFault::DuplicateName { statement, name } => {
+            let name = name.as_str();
+            let said = format!(in alloc; "{name} is defined again")?;
+            of_statement(alloc, *statement, said.as_str())
+        }
+        NameFault::UnknownView { statement, name } => {
+            let name = name.as_str();
+            let said = format!(in alloc; "no view {name}")?;
+            of_statement(alloc, *statement, said.as_str())
+        }
+        NameFault::UnknownDictionary { statement, name } => {
+            let name = name.as_str();
+            let said = format!(in alloc; "no dictionary {name}")?;
+            of_statement(alloc, *statement, said.as_str())
+        }
+        NameFault::DuplicateOutput { statement, name } => {
+            let name = name.as_str();
+            let said = format!(in alloc; "output {name} again")?;
+            of_statement(alloc, *statement, said.as_str())
+        }
+        NameFault::Cycle { views } => text_of_cycle(alloc, views.as_slice()),
+    }
+}
+
+/// What is said of a statement.
+fn of_statement(alloc: Global, statement: u32, said: &str) -> Result<String, OutOfMemory>
+    ensures { IfOk result (λ text. string_bytes text ≡ statement_text statement said.now) }
+{
+    Ok(format!(in alloc; "statement {statement}: {said}")?)
+}
+
+fn text_of_cycle(alloc: Global, views: &[OwnedText]) -> Result<String, OutOfMemory>
+    ensures { IfOk result (λ text. string_bytes text ≡ name_text (NameFault.Cycle views.now)) }
+{
+    let mut text = String::from_str(alloc, "cycle: ")?;
+    if let Some(first) = views.first() {
+        text.push_str(first.as_str())?;
+        push_after_commas(&mut text, &views[1..])?;
+    }
+    Ok(text)
+}
+
+/// Puts the names after the text, with a comma before each.
+fn push_after_commas(text: &mut String, names: &[OwnedText]) -> Result<(), OutOfMemory>
+    ensures { OnOk result (string_bytes text.new ≡ string_bytes text.old ++ after_commas names.now) }
+{
+    for name in names {
+        text.push_str(", ")?;
+        text.push_str(name.as_str())?;
+    }
+    Ok(())
 }
 
 fn text_of_syntax_fault(alloc: Global, fault: &SyntaxFault) -> Result<String, OutOfMemory>

@@ -1,6 +1,5 @@
 //! Words, lines and calls that fail: each with its very status, its output and its line.
 use crate::setup::{NO_NUMBERS, NUMBERS, Ran, Setup, run, usual};
-use aqlx_top::{CorpusFault, ProgramFault, Status};
 use std::alloc::Global;
 use std::test::Fail;
 
@@ -13,38 +12,20 @@ const DIGIT: &str = "{\"views\":{\"P\":[{\"num\":{\"begin\":0,\"end\":1,\"text\"
 
 #[test]
 fn refusals_have_their_status_and_their_line(rt: HostRuntime) -> Result<(), Fail> {
-    let rows: [(&[&str], &str, Status, &str, &str); 7] = [
-        (&["run"], NO_NUMBERS, Status::Usage, "", USAGE),
-        (
-            &["run", "p.aql", "p.aql"],
-            NO_NUMBERS,
-            Status::Usage,
-            "",
-            USAGE,
-        ),
-        (&["walk", "p.aql"], NO_NUMBERS, Status::Usage, "", USAGE),
-        (&[], NO_NUMBERS, Status::Usage, "", USAGE),
-        (
-            &["run", "q.aql"],
-            NO_NUMBERS,
-            Status::ReadFault,
-            "",
-            READ_FAULT,
-        ),
+    let rows: [(&[&str], &str, u8, &str, &str); 7] = [
+        (&["run"], NO_NUMBERS, 2, "", USAGE),
+        (&["run", "p.aql", "p.aql"], NO_NUMBERS, 2, "", USAGE),
+        (&["walk", "p.aql"], NO_NUMBERS, 2, "", USAGE),
+        (&[], NO_NUMBERS, 2, "", USAGE),
+        (&["run", "q.aql"], NO_NUMBERS, 4, "", READ_FAULT),
         (
             &["run", "p.aql"],
             "{\"text\":\"1\"}\n{\"text\":1}\n{\"text\":\"2\"}\n",
-            Status::Corpus(CorpusFault::BadLine(2)),
+            3,
             DIGIT,
             "aqlx: corpus line 2 is not a document\n",
         ),
-        (
-            &["run", "p.aql"],
-            "\n{\"text\":\"1\"}",
-            Status::Done,
-            DIGIT,
-            "",
-        ),
+        (&["run", "p.aql"], "\n{\"text\":\"1\"}", 0, DIGIT, ""),
     ];
     for (words, corpus, status, out, err) in &rows {
         let ran = run(
@@ -54,7 +35,7 @@ fn refusals_have_their_status_and_their_line(rt: HostRuntime) -> Result<(), Fail
                 ..usual(NUMBERS, corpus)
             },
         )?;
-        assert_eq!(rt; ran.status, *status, "over {corpus}");
+        assert_eq!(rt; ran.code, *status, "over {corpus}");
         assert_eq!(rt; ran.out.bytes(), out.as_bytes(), "over {corpus}");
         assert_eq!(rt; ran.err.bytes(), err.as_bytes(), "over {corpus}");
     }
@@ -87,22 +68,14 @@ fn a_failed_write_or_flush_is_told_and_leaves_what_was_written(
                 },
             )?;
             let cut = call <= *calls;
-            let status = if cut {
-                Status::WriteFault
-            } else {
-                Status::Done
-            };
+            let status = if cut { 5 } else { 0 };
             let written = if cut {
                 (call as usize - 1).saturating_mul(10)
             } else {
                 whole.len()
             };
             let front = &whole.as_bytes()[..written.min(whole.len())];
-            assert_eq!(rt;
-                ran.status,
-                status,
-                "with call {call} failing over {corpus}"
-            );
+            assert_eq!(rt; ran.code, status, "with call {call} failing over {corpus}");
             assert_eq!(rt;
                 ran.out.bytes(),
                 front,
@@ -135,7 +108,7 @@ const READ: [(&str, &[usize]); 5] = [
 fn a_failed_read_is_told_after_the_lines_before_it(rt: HostRuntime) -> Result<(), Fail> {
     for (corpus, lines) in &READ {
         let whole = run(rt.alloc(), &usual(NUMBERS, corpus))?;
-        assert_eq!(rt; whole.status, Status::Done, "over {corpus}");
+        assert_eq!(rt; whole.code, 0, "over {corpus}");
         for call in 1..lines.len() + 3 {
             let fails = [call as u64];
             let ran = run(
@@ -146,14 +119,10 @@ fn a_failed_read_is_told_after_the_lines_before_it(rt: HostRuntime) -> Result<()
                 },
             )?;
             let (status, line, length) = match lines.get(call - 1) {
-                Some(length) => (Status::ReadFault, READ_FAULT, *length),
-                None => (Status::Done, "", whole.out.bytes().len()),
+                Some(length) => (4, READ_FAULT, *length),
+                None => (0, "", whole.out.bytes().len()),
             };
-            assert_eq!(rt;
-                ran.status,
-                status,
-                "with read {call} failing over {corpus}"
-            );
+            assert_eq!(rt; ran.code, status, "with read {call} failing over {corpus}");
             assert_eq!(rt;
                 ran.err.bytes(),
                 line.as_bytes(),
@@ -189,11 +158,11 @@ fn a_failed_read_of_the_program_is_told(rt: HostRuntime) -> Result<(), Fail> {
                 },
             )?;
             let (status, out, line) = if call <= *reads {
-                (Status::ReadFault, "", READ_FAULT)
+                (4, "", READ_FAULT)
             } else {
-                (Status::Done, DIGIT, "")
+                (0, DIGIT, "")
             };
-            assert_eq!(rt; ran.status, status, "with read {call} of {reads} failing");
+            assert_eq!(rt; ran.code, status, "with read {call} of {reads} failing");
             assert_eq!(rt;
                 ran.out.bytes(),
                 out.as_bytes(),
@@ -223,14 +192,14 @@ fn run_with_err(alloc: Global, setup: Setup<'_>, call: u64) -> Result<Ran, Fail>
 
 #[test]
 fn a_line_that_cannot_be_written_is_a_write_fault(rt: HostRuntime) -> Result<(), Fail> {
-    let rows: [(&[&str], &str, &str, &[u64], Status, &str); 4] = [
-        (&[], NUMBERS, "", &[], Status::Usage, USAGE),
+    let rows: [(&[&str], &str, &str, &[u64], u8, &str); 4] = [
+        (&[], NUMBERS, "", &[], 2, USAGE),
         (
             &["run", "p.aql"],
             "",
             "",
             &[],
-            Status::Program(ProgramFault::Unbuilt { statement: 1 }),
+            1,
             "aqlx: statement 1: not built yet\n",
         ),
         (
@@ -238,25 +207,14 @@ fn a_line_that_cannot_be_written_is_a_write_fault(rt: HostRuntime) -> Result<(),
             NUMBERS,
             "[]",
             &[],
-            Status::Corpus(CorpusFault::BadLine(1)),
+            3,
             "aqlx: corpus line 1 is not a document\n",
         ),
-        (
-            &["run", "p.aql"],
-            NUMBERS,
-            "",
-            &[1],
-            Status::ReadFault,
-            READ_FAULT,
-        ),
+        (&["run", "p.aql"], NUMBERS, "", &[1], 4, READ_FAULT),
     ];
     for (words, program, corpus, source_fails, status, line) in &rows {
         // the line is one write, and then a flush
-        let wanted = [
-            (1u64, Status::WriteFault, ""),
-            (2, Status::WriteFault, line),
-            (3, *status, line),
-        ];
+        let wanted = [(1u64, 5, ""), (2, 5, line), (3, *status, line)];
         for (call, status, err) in &wanted {
             let setup = Setup {
                 words,
@@ -264,7 +222,7 @@ fn a_line_that_cannot_be_written_is_a_write_fault(rt: HostRuntime) -> Result<(),
                 ..usual(program, corpus)
             };
             let ran = run_with_err(rt.alloc(), setup, *call)?;
-            assert_eq!(rt; ran.status, *status, "with call {call} failing for {line}");
+            assert_eq!(rt; ran.code, *status, "with call {call} failing for {line}");
             assert_eq!(rt;
                 ran.err.bytes(),
                 err.as_bytes(),

@@ -1,6 +1,5 @@
 //! What is written for documents, and which lines are none.
 use crate::setup::{NO_NUMBERS, NUMBERS, Setup, run, usual};
-use aqlx_top::{CorpusFault, Status};
 use std::test::Fail;
 
 /// Each row: a program, a corpus, and what is written.
@@ -57,7 +56,7 @@ const DONE: [(&str, &str, &str); 10] = [
 fn documents_are_written_in_order_with_their_matches(rt: HostRuntime) -> Result<(), Fail> {
     for (program, corpus, wanted) in &DONE {
         let ran = run(rt.alloc(), &usual(program, corpus))?;
-        assert_eq!(rt; ran.status, Status::Done, "over {corpus}");
+        assert_eq!(rt; ran.code, 0, "over {corpus}");
         assert_eq!(rt; ran.out.bytes(), wanted.as_bytes(), "over {corpus}");
         assert_eq!(rt; ran.err.bytes().len(), 0, "over {corpus}");
     }
@@ -77,12 +76,8 @@ fn a_document_cut_after_any_byte_is_a_bad_line(rt: HostRuntime) -> Result<(), Fa
             },
         )?;
         let whole = end == 0 || end == line.len();
-        let wanted = if whole {
-            Status::Done
-        } else {
-            Status::Corpus(CorpusFault::BadLine(1))
-        };
-        assert_eq!(rt; ran.status, wanted, "cut after {end} bytes");
+        let wanted = if whole { 0 } else { 3 };
+        assert_eq!(rt; ran.code, wanted, "cut after {end} bytes");
     }
     let no_text = b"{\"text\":\"\xff\"}".as_slice();
     let ran = run(
@@ -92,7 +87,11 @@ fn a_document_cut_after_any_byte_is_a_bad_line(rt: HostRuntime) -> Result<(), Fa
             ..usual(NUMBERS, "")
         },
     )?;
-    assert_eq!(rt; ran.status, Status::Corpus(CorpusFault::BadLine(1)));
+    assert_eq!(rt; ran.code, 3);
+    assert_eq!(rt;
+        ran.err.bytes(),
+        b"aqlx: corpus line 1 is not a document\n".as_slice()
+    );
     Ok(())
 }
 
@@ -106,7 +105,11 @@ fn a_hundred_documents_before_a_bad_line_are_written(rt: HostRuntime) -> Result<
     corpus.push_str("[]\n{\"text\":\"1\"}\n")?;
     let ran = run(alloc, &usual(NUMBERS, corpus.as_str()))?;
     let line = "{\"views\":{\"P\":[{\"num\":{\"begin\":0,\"end\":1,\"text\":\"1\"}}]}}\n";
-    assert_eq!(rt; ran.status, Status::Corpus(CorpusFault::BadLine(101)));
+    assert_eq!(rt; ran.code, 3);
+    assert_eq!(rt;
+        ran.err.bytes(),
+        b"aqlx: corpus line 101 is not a document\n".as_slice()
+    );
     assert_eq!(rt; ran.out.bytes().len(), 100 * line.len());
     assert!(rt; ran.out.bytes().ends_with(line.as_bytes()));
     Ok(())
@@ -115,10 +118,7 @@ fn a_hundred_documents_before_a_bad_line_are_written(rt: HostRuntime) -> Result<
 #[test]
 fn a_line_of_the_limit_is_read_and_a_longer_one_is_not(rt: HostRuntime) -> Result<(), Fail> {
     let alloc = rt.alloc();
-    for (letters, status) in [
-        (16_777_205usize, Status::Done),
-        (16_777_206, Status::Corpus(CorpusFault::LineLong(1))),
-    ] {
+    for (letters, status) in [(16_777_205usize, 0), (16_777_206, 3)] {
         let mut corpus = Vec::from_slice(alloc, b"{\"text\":\"")?;
         let letter = vec![in alloc; b'a'; letters]?;
         corpus.extend_from_slice(&letter)?;
@@ -129,7 +129,7 @@ fn a_line_of_the_limit_is_read_and_a_longer_one_is_not(rt: HostRuntime) -> Resul
             ..usual(NUMBERS, "")
         };
         let ran = run(alloc, &setup)?;
-        assert_eq!(rt; ran.status, status, "at {letters} letters");
+        assert_eq!(rt; ran.code, status, "at {letters} letters");
     }
     Ok(())
 }

@@ -1,6 +1,6 @@
 //! A run of the top call over files, a source and sinks in memory.
 use aql_io::{MemFiles, MemSink, MemSource};
-use aqlx_top::{Status, aqlx};
+use aqlx_top::aqlx;
 use std::alloc::Global;
 use std::collections::BTreeMap;
 use std::test::Fail;
@@ -12,10 +12,10 @@ pub const NUMBERS: &str =
 /// A corpus of one document without a number.
 pub const NO_NUMBERS: &str = "{\"text\":\"none\"}\n";
 
-/// What a run came to: its status, and what stands on the output and on standard error.
+/// What a run came to: its exit status, and what stands on the output and on standard error.
 #[derive(Drop)]
 pub struct Ran {
-    pub status: Status,
+    pub code: u8,
     pub out: MemSink,
     pub err: MemSink,
 }
@@ -75,5 +75,9 @@ pub(crate) fn run(alloc: Global, setup: &Setup<'_>) -> Result<Ran, Fail> {
     )?;
     let mut err = MemSink::new(alloc, 4096, 4096, Vec::from_slice(alloc, setup.err_fails)?)?;
     let status = aqlx(alloc, &words, &mut files, &mut corpus, &mut out, &mut err)?;
-    Ok(Ran { status, out, err })
+    Ok(Ran {
+        code: status.code(),
+        out,
+        err,
+    })
 }

@@ -3,7 +3,7 @@ ghost use Rattle.std.specs.Prelude.{Some};
 
 use crate::setup::NUMBERS;
 use aql_io::{Failed, MemFiles, MemSink, MemSource, Sink, Source};
-use aqlx_top::{Status, aqlx};
+use aqlx_top::aqlx;
 use std::alloc::Global;
 use std::cell::Cell;
 use std::collections::BTreeMap;
@@ -76,7 +76,7 @@ fn seen_at_reads(alloc: Global, corpus: Vec<u8>, piece: usize) -> Result<Vec<usi
     };
     let mut err = MemSink::new(alloc, 4096, 4096, Vec::new(alloc))?;
     let status = aqlx(alloc, &words, &mut files, &mut source, &mut out, &mut err)?;
-    if status == Status::Done {
+    if status.code() == 0 {
         Ok(source.seen)
     } else {
         Ok(Vec::new(alloc))

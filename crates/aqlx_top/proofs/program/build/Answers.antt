@@ -1,11 +1,12 @@
-use Rattle.aqlx_top.specs.Programs.{program_of}
-use Rattle.aqlx_top.proofs.Compiling.{form_of, second_of}
+use Rattle.std.proofs.Common.{map, sym, subst}
+use Rattle.std.proofs.lemmas.Result.{IfErr-weaker}
+use Rattle.aql_syntax.specs.Views.{statement_of}
+use Rattle.aqlx_top.specs.Programs.{IsUnbuiltFor, IsRefusedFor}
+use Rattle.aqlx_top.proofs.Compiling.{refused_for}
 use Rattle.aqlx_top.proofs.program.build.Goals as goal
 
-pub returns-clause-built : goal.returns-clause-built
-returns-clause-built c = record {
-  program = program_of c.in-Some.parts;
-  form = form_of c.args.statements.now (program_of c.in-Some.parts) c.in-Some-get.second.now c.in-Some.ensures.found c.in-Ok.ensures.pattern
-      (second_of c.args.statements.now c.in-Some-get.second.now c.in-Some-get.ensures.lookup.3.0 c.in-Some-get.ensures.lookup.1) (c.is_output_of.ensures.0 c.if-is_output_of.true) c.if-statements-gt2.false;
-  is_compiled = record { outputs_are = c.in_ok-outputs.ensures; pattern_is = c.in-Ok.ensures.ok };
-}
+pub returns-in-Ok-clause-fault : goal.returns-in-Ok-clause-fault
+returns-in-Ok-clause-fault c =
+    IfErr-weaker c.build_form.result (IsUnbuiltFor (map statement_of c.args.statements.items)) _
+    (refused_for (map statement_of c.args.statements.items) (_, c.in-Ok.ensures.resolved))
+    (rw (c.statements.ensures, c.in-Ok.ensures.same) at c.build_form.ensures.fault)

@@ -21,13 +21,13 @@ returns-in-Ok-clause-compiled c =
     IfOk-weaker c.build.result _ _
     (law.built_from c.args.text.now c.in_ok-toks.toks.items c.tokens_of.ensures.decided c.in_ok-toks.ensures.tokens
     (rw c.deref.ensures.value at c.in_ok-check_sizes.ensures.within) (rw c.deref-2.ensures.value at c.parse.ensures.decided)
-    (map statement_of c.in-Ok.statements.items) (rw c.deref-2.ensures.value at c.in-Ok.ensures.trees) (rw c.deref-2.ensures.value at c.in-Ok.ensures.placed))
-    (rw c.deref-in-Ok.ensures.value at c.build.ensures.built)
+    (map statement_of c.in-Ok.statements.items) (rw c.deref-2.ensures.value at c.in-Ok.ensures.trees) (rw c.deref-2.ensures.value at c.in-Ok.ensures.placed) c.build.ensures.decided)
+    c.build.ensures.built
 
 pub returns-in-Ok-clause-fault : goal.returns-in-Ok-clause-fault
 returns-in-Ok-clause-fault c =
     IfErr-weaker c.build.result _ _
     (law.refused_form c.args.text.now c.in_ok-toks.toks.items c.tokens_of.ensures.decided c.in_ok-toks.ensures.tokens
     (rw c.deref.ensures.value at c.in_ok-check_sizes.ensures.within) (rw c.deref-2.ensures.value at c.parse.ensures.decided)
-    (map statement_of c.in-Ok.statements.items) (rw c.deref-2.ensures.value at c.in-Ok.ensures.trees) (rw c.deref-2.ensures.value at c.in-Ok.ensures.placed))
-    (rw c.deref-in-Ok.ensures.value at c.build.ensures.fault)
+    (map statement_of c.in-Ok.statements.items) (rw c.deref-2.ensures.value at c.in-Ok.ensures.trees) (rw c.deref-2.ensures.value at c.in-Ok.ensures.placed) c.build.ensures.decided)
+    c.build.ensures.fault
