@@ -1,4 +1,14 @@
 -- lists in which each value stands once
 pub mod Once
+-- lists
+pub mod Seeing
+-- clauses
+pub mod Answering
+-- the entries of dictionaries
+pub mod FirstEntries
+-- the dictionaries
+pub mod Using
+-- what is known of texts
+pub mod Telling
 -- what is mentioned in trees with lists
 pub mod MentionsViews

@@ -1,3 +1,141 @@
--- One more value in a list in which each stands once.
-use Rattle.std.proofs.Common.{◌≡◌, ◌∙◌, Bool, true, false, not, cond, List, [], ◌∷◌, ◌++◌, filter, refl, ap, sym, subst}
-use Rattle.aql_tables.specs.Places.{each_once}
+-- One more value at the end of a list in which each stands once.
+use Rattle.std.proofs.Common.{◌≡◌, ◌∙◌, ℕ, ◌+◌, ◌<◌, Bool, true, false, not, cond, ◌||◌, List, [], ◌∷◌, ◌++◌, length, get_or, refl, ap, sym, subst, arith, true≢false}
+use Rattle.std.specs.List.{filter, list_any}
+use Rattle.std.proofs.lemmas.List.{append-nil}
+use Rattle.std.proofs.lemmas.List.Elements.{filter-append}
+use Rattle.std.proofs.lemmas.List.{length-append}
+use Rattle.aql_tables.specs.Places.{each_once, place_of}
+use Rattle.aql_tables.specs.Kept.{IsAt}
+
+module _ {X : Type 0} (same : X → X → Bool) (is : (x y : X) → same x y ≡ true → x ≡ y) (itself : (x : X) → same x x ≡ true) where
+  -- with one more value, if it isn't there
+  abbrev pub pushed : List X → X → List X
+  pushed ks x = cond (list_any (same x) ks) ks (ks ++ x ∷ [])
+
+  any_kept : (p : X → Bool) (x : X) (ks : List X) → p x ≡ true → list_any (same x) (filter p ks) ≡ list_any (same x) ks
+  any_kept p x [] passes = refl
+  any_kept p x (k ∷ ks) passes = by (p k) (same x k) refl refl (any_kept p x ks passes)
+    where
+      by : (b s : Bool) → p k ≡ b → same x k ≡ s → list_any (same x) (filter p ks) ≡ list_any (same x) ks
+          → list_any (same x) (filter p (k ∷ ks)) ≡ list_any (same x) (k ∷ ks)
+      by true s kept told more = rw kept (ap (λ b. same x k || b) more)
+      by false false kept told more = rw (kept, told) more
+      by false true kept told more = absurd (true≢false (sym passes ∙ (ap p (is x k told) ∙ kept)))
+
+  away : (p : X → Bool) (x : X) (ks : List X) → p x ≡ false → filter p (pushed ks x) ≡ filter p ks
+  away p x ks fails = by (list_any (same x) ks)
+    where
+      by : (b : Bool) → filter p (cond b ks (ks ++ x ∷ [])) ≡ filter p ks
+      by true = refl
+      by false = filter-append p ks (x ∷ []) ∙ (ap (λ b. filter p ks ++ cond b (x ∷ []) []) fails ∙ append-nil (filter p ks))
+
+  kept : (p : X → Bool) (x : X) (ks : List X) → p x ≡ true → filter p (pushed ks x) ≡ pushed (filter p ks) x
+  kept p x ks passes = by (list_any (same x) ks) ∙ ap (λ b. cond b (filter p ks) (filter p ks ++ x ∷ [])) (sym (any_kept p x ks passes))
+    where
+      by : (b : Bool) → filter p (cond b ks (ks ++ x ∷ [])) ≡ cond b (filter p ks) (filter p ks ++ x ∷ [])
+      by true = refl
+      by false = filter-append p ks (x ∷ []) ∙ ap (λ b. filter p ks ++ cond b (x ∷ []) []) passes
+
+  pub apart : (x k : X) → same x k ≡ false → same k x ≡ false
+  apart x k told = by (same k x) refl
+    where
+      by : (b : Bool) → same k x ≡ b → same k x ≡ false
+      by false e = e
+      by true e = absurd (true≢false (sym (itself x) ∙ (ap (same x) (sym (is k x e)) ∙ told)))
+
+  -- one more value
+  pub each_once-push : (xs : List X) (x : X) → each_once same (xs ++ x ∷ []) ≡ pushed (each_once same xs) x
+  each_once-push [] x = refl
+  each_once-push (k ∷ xs) x = by (same x k) refl (each_once-push xs x)
+    where
+      by : (b : Bool) → same x k ≡ b → each_once same (xs ++ x ∷ []) ≡ pushed (each_once same xs) x
+          → each_once same (k ∷ xs ++ x ∷ []) ≡ pushed (each_once same (k ∷ xs)) x
+      by true told more =
+          ap (λ (ys : List X). k ∷ filter (λ y. not (same k y)) ys) more
+          ∙ (ap (λ (ys : List X). k ∷ ys) (away (λ y. not (same k y)) x (each_once same xs) (ap not (ap (same k) (is x k told) ∙ itself k)))
+          ∙ ap (λ b. cond (b || list_any (same x) (filter (λ y. not (same k y)) (each_once same xs))) (each_once same (k ∷ xs)) (each_once same (k ∷ xs) ++ x ∷ [])) (sym told))
+      by false told more =
+          ap (λ (ys : List X). k ∷ filter (λ y. not (same k y)) ys) more
+          ∙ (ap (λ (ys : List X). k ∷ ys) (kept (λ y. not (same k y)) x (each_once same xs) (ap not (apart x k told)))
+          ∙ (push_behind (list_any (same x) (filter (λ y. not (same k y)) (each_once same xs)))
+          ∙ ap (λ b. cond (b || list_any (same x) (filter (λ y. not (same k y)) (each_once same xs))) (each_once same (k ∷ xs)) (each_once same (k ∷ xs) ++ x ∷ [])) (sym told)))
+        where
+          push_behind : (b : Bool) → k ∷ cond b (filter (λ y. not (same k y)) (each_once same xs)) (filter (λ y. not (same k y)) (each_once same xs) ++ x ∷ [])
+              ≡ cond b (each_once same (k ∷ xs)) (each_once same (k ∷ xs) ++ x ∷ [])
+          push_behind true = refl
+          push_behind false = refl
+
+  -- ---- places
+
+  -- what has a place is there
+  pub there : (x : X) (ks : List X) → place_of same x ks < length ks → list_any (same x) ks ≡ true
+  there x [] within = absurd (omega (arith, within))
+  there x (k ∷ ks) within = by (same x k) refl (there x ks)
+    where
+      by : (b : Bool) → same x k ≡ b → (place_of same x ks < length ks → list_any (same x) ks ≡ true) → list_any (same x) (k ∷ ks) ≡ true
+      by true told more = ap (λ b. b || list_any (same x) ks) told
+      by false told more = ap (λ b. b || list_any (same x) ks) told ∙ more (grind (arith, told, within))
+
+  -- what has none isn't
+  pub not_there : (x : X) (ks : List X) → place_of same x ks ≡ length ks → list_any (same x) ks ≡ false
+  not_there x [] past = refl
+  not_there x (k ∷ ks) past = by (same x k) refl (not_there x ks)
+    where
+      by : (b : Bool) → same x k ≡ b → (place_of same x ks ≡ length ks → list_any (same x) ks ≡ false) → list_any (same x) (k ∷ ks) ≡ false
+      by true told more = absurd (grind (arith, told, past))
+      by false told more = ap (λ b. b || list_any (same x) ks) told ∙ more (grind (arith, told, past))
+
+  -- a value that has a place keeps it
+  pub place_kept : (x : X) (ks more : List X) → place_of same x ks < length ks → place_of same x (ks ++ more) ≡ place_of same x ks
+  place_kept x [] more within = absurd (omega (arith, within))
+  place_kept x (k ∷ ks) more within = by (same x k) refl (place_kept x ks more)
+    where
+      by : (b : Bool) → same x k ≡ b → (place_of same x ks < length ks → place_of same x (ks ++ more) ≡ place_of same x ks)
+          → place_of same x (k ∷ ks ++ more) ≡ place_of same x (k ∷ ks)
+      by true told kept = rw told refl
+      by false told kept = rw told (ap (λ (n : ℕ). 1 + n) (kept (grind (arith, told, within))))
+
+  -- a value that has none comes to stand after all
+  pub place_new : (x : X) (ks more : List X) → place_of same x ks ≡ length ks → place_of same x (ks ++ more) ≡ length ks + place_of same x more
+  place_new x [] more past = omega arith
+  place_new x (k ∷ ks) more past = by (same x k) refl (place_new x ks more)
+    where
+      by : (b : Bool) → same x k ≡ b → (place_of same x ks ≡ length ks → place_of same x (ks ++ more) ≡ length ks + place_of same x more)
+          → place_of same x (k ∷ ks ++ more) ≡ length (k ∷ ks) + place_of same x more
+      by true told after = absurd (grind (arith, told, past))
+      by false told after = grind (arith, told, after (grind (arith, told, past)))
+
+  -- at its place stands the value
+  pub at_place : (x : X) (ks : List X) (d : X) → place_of same x ks < length ks → get_or ks (place_of same x ks) d ≡ x
+  at_place x [] d within = absurd (omega (arith, within))
+  at_place x (k ∷ ks) d within = by (same x k) refl (at_place x ks d)
+    where
+      by : (b : Bool) → same x k ≡ b → (place_of same x ks < length ks → get_or ks (place_of same x ks) d ≡ x)
+          → get_or (k ∷ ks) (place_of same x (k ∷ ks)) d ≡ x
+      by true told later = rw told (sym (is x k told))
+      by false told later = grind (arith, told, later (grind (arith, told, within)))
+
+  -- a value that is added stands last
+  pub at_last : (x : X) (ks : List X) → place_of same x ks ≡ length ks → IsAt same (ks ++ x ∷ []) x (length ks)
+  at_last x ks past = record {
+    place_is = place_new x ks (x ∷ []) past ∙ grind (arith, itself x);
+    within = rw (length-append ks (x ∷ [])) (omega arith);
+  }
+
+  -- one that was there stays where it is
+  pub at_more : (x : X) (ks more : List X) (n : ℕ) → IsAt same ks x n → IsAt same (ks ++ more) x n
+  at_more x ks more n at = record {
+    place_is = place_kept x ks more (subst (λ (i : ℕ). i < length ks) (sym at.place_is) at.within) ∙ at.place_is;
+    within = rw (length-append ks more) (omega (arith, at.within));
+  }
+
+  -- one that wasn't there isn't, where another is added
+  pub past_more : (x k : X) (ks : List X) → place_of same x ks ≡ length ks → same x k ≡ false → place_of same x (ks ++ k ∷ []) ≡ length (ks ++ k ∷ [])
+  past_more x k ks past other = place_new x ks (k ∷ []) past ∙ (grind (arith, other) ∙ sym (length-append ks (k ∷ [])))
+
+  -- one that is there is added to no avail
+  pub pushed_known : (x : X) (ks : List X) (n : ℕ) → IsAt same ks x n → pushed ks x ≡ ks
+  pushed_known x ks n at = ap (λ b. cond b ks (ks ++ x ∷ [])) (there x ks (subst (λ (i : ℕ). i < length ks) (sym at.place_is) at.within))
+
+  pub pushed_new : (x : X) (ks : List X) → place_of same x ks ≡ length ks → pushed ks x ≡ ks ++ x ∷ []
+  pushed_new x ks past = ap (λ b. cond b ks (ks ++ x ∷ [])) (not_there x ks past)

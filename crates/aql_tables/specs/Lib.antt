@@ -7,5 +7,7 @@ pub mod Places
 pub mod Verdicts
 -- the patterns and dictionaries of a program
 pub mod Programs
+-- laws of them for the crates above
+pub mod VerdictLaws
 -- ---- words of private clauses
 pub mod Kept

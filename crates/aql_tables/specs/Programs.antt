@@ -23,6 +23,10 @@ entries_of (dictionary own entries ∷ statements) name =
     if bytes_eq name own.text then Some entries else entries_of statements name
 entries_of (statement ∷ statements) name = entries_of statements name
 
+-- a dictionary has this name
+abbrev pub is_dictionary : List Statement → List ℕ → Bool
+is_dictionary program name = is_some (entries_of program name)
+
 -- the dictionary with its entries, for a name that one has
 abbrev pub use_of : List Statement → DictKey → DictUse
 use_of program key = record { entries = unwrap_or (entries_of program key.0) []; exact = key.1 }
@@ -35,7 +39,7 @@ pattern_in (of_dictionary name exact) = []
 -- what is mentioned, where it is a dictionary of the program
 abbrev pub dict_in : List Statement → Mention → List DictKey
 dict_in program (of_pattern text) = []
-dict_in program (of_dictionary name exact) = if is_some (entries_of program name) then (name, exact) ∷ [] else []
+dict_in program (of_dictionary name exact) = if is_dictionary program name then (name, exact) ∷ [] else []
 
 -- the patterns of some mentions, each once
 abbrev pub patterns_among : List Mention → List (List ℕ)

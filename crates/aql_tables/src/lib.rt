@@ -4,5 +4,12 @@
 //! patterns and on `scalar_ops` for the tables that expressions count in.
 #![tactic(auto)]
 
+mod dicts;
+mod entries;
 mod mention;
+mod patterns;
+mod tables;
 mod walk;
+
+pub use dicts::is_dictionary;
+pub use tables::{ProgramTables, collect};

@@ -1,0 +1,163 @@
+//! The patterns and dictionaries of a program.
+
+ghost use Rattle.std.specs.Prelude.{◌≡◌, ◌++◌, ◌∷◌, [], List, map, IfOk, OnOk};
+ghost use Rattle.std.specs.Str.{bytes_eq};
+ghost use Rattle.aql_syntax.specs.Views.{statement_of};
+ghost use Rattle.aql_tables.specs.Kept.{entry_of, mention_of, place_in, HasDicts, HasPatterns};
+ghost use Rattle.aql_tables.specs.Mentions as spec;
+ghost use Rattle.aql_tables.specs.Places.{place_of};
+ghost use Rattle.aql_tables.specs.Programs.{collected, same_dict};
+ghost use Rattle.aql_tables.specs.Verdicts as verdict;
+
+use crate::dicts::Dicts;
+use crate::mention::Mention;
+use crate::patterns::{Patterns, Verdict, fault_of, groups_of};
+use crate::walk::mentions;
+use aql_regex_extract::PatternFault;
+use scalar_ops::Tables;
+use span_token::OutOfMemory;
+use std::alloc::Global;
+use std::marker::Model;
+use view_graph::Graph;
+
+/// The patterns and dictionaries of a program, each once, and what is known of each text that stands as
+/// a pattern.
+///
+/// Meaning: `collected`, `specs/Programs.antt`.
+#[derive(Drop)]
+pub struct ProgramTables {
+    patterns: Patterns,
+    dicts: Dicts,
+}
+
+impl Model for ProgramTables {
+    ghost use Rattle.aql_tables.specs.Programs.{Collected};
+    ghost use Rattle.aql_tables.specs.Kept.{entry_of, place_in, tables_of, KeepsTables};
+
+    ghost Value = { Collected };
+
+    ghost view = { λ tables. tables_of tables.patterns.compiled.items tables.dicts.uses.items tables.dicts.keys.items };
+
+    ghost invariant = { λ tables. KeepsTables (tables_of tables.patterns.compiled.items tables.dicts.uses.items tables.dicts.keys.items)
+        (entry_of tables.patterns.verdicts) (place_in (entry_of tables.dicts.exact) (entry_of tables.dicts.other)) };
+}
+
+impl ProgramTables {
+    /// The place of a pattern among the program's, from 0; their number, where it is none of them.
+    pub fn pattern_place(&self, text: &str) -> u32
+        ensures { result ≡ place_of bytes_eq text.now self.now.lists.patterns }
+    {
+        match self.patterns.verdict(text) {
+            Some(Verdict::Place(place)) => place,
+            Some(Verdict::Fault(_)) | None => self.patterns.compiled.len() as u32,
+        }
+    }
+
+    /// The place of the dictionary with this name that is compared so, among the program's, from 0;
+    /// their number, where it is none of them.
+    pub fn dict_place(&self, name: &str, exact: bool) -> u32
+        ensures { result ≡ place_of same_dict (name.now, exact) self.now.dicts }
+    {
+        match self.dicts.place(name, exact) {
+            Some(place) => place,
+            None => self.dicts.keys.len() as u32,
+        }
+    }
+
+    /// Why a text is no pattern, or None where it is one.
+    ///
+    /// Compiles only a text that the program doesn't mention as a pattern.
+    ///
+    /// Meaning: `pattern_fault`, `specs/Verdicts.antt`.
+    pub fn pattern_fault(
+        &self,
+        alloc: Global,
+        text: &str,
+    ) -> Result<Option<PatternFault>, OutOfMemory>
+        ensures { IfOk result (λ fault. fault ≡ verdict.pattern_fault text.now) }
+    {
+        match self.patterns.verdict(text) {
+            Some(Verdict::Place(_)) => Ok(None),
+            Some(Verdict::Fault(fault)) => Ok(Some(fault)),
+            None => fault_of(alloc, text),
+        }
+    }
+
+    /// The number of capture groups of a pattern, without group 0; 0 where the text is no pattern.
+    ///
+    /// Compiles only a text that the program doesn't mention as a pattern.
+    ///
+    /// Meaning: `groups_of`, `specs/Verdicts.antt`.
+    pub fn group_count(&self, alloc: Global, text: &str) -> Result<u32, OutOfMemory>
+        ensures { IfOk result (λ count. count ≡ verdict.groups_of text.now) }
+    {
+        match self.patterns.verdict(text) {
+            Some(Verdict::Place(place)) => {
+                Ok(self.patterns.compiled[place as usize].group_count())
+            }
+            Some(Verdict::Fault(_)) => Ok(0),
+            None => groups_of(alloc, text),
+        }
+    }
+
+    /// The tables in which expressions count.
+    pub fn into_tables(self, alloc: Global) -> Result<Tables, OutOfMemory>
+        ensures { IfOk result (λ tables. tables ≡ self.lists) }
+    {
+        let ProgramTables { patterns, dicts } = self;
+        let Patterns { compiled, .. } = patterns;
+        let tables = Tables::new(alloc, compiled, &dicts.uses)?;
+        Ok(tables)
+    }
+}
+
+/// The patterns and dictionaries of a program.
+///
+/// Walks the program once and compiles each text that stands as a pattern once. Takes no time that grows
+/// faster than the program, and recurs no deeper than it nests. `OutOfMemory` comes for want of memory
+/// alone, and for 2^32 patterns or dictionaries.
+///
+/// Meaning: `collected`, `specs/Programs.antt`.
+pub fn collect(alloc: Global, graph: &Graph) -> Result<ProgramTables, OutOfMemory>
+    ensures { IfOk result (λ tables. tables ≡ collected (map statement_of graph.now.0)) }
+{
+    let mentions = mentions(alloc, graph.statements())?;
+    tables_of(alloc, graph, mentions.as_slice())
+}
+
+/// The patterns and dictionaries among what the program mentions.
+fn tables_of(
+    alloc: Global,
+    graph: &Graph,
+    mentions: &[Mention<'_>],
+) -> Result<ProgramTables, OutOfMemory>
+    requires all { map mention_of mentions.now ≡ spec.mentions_of (map statement_of graph.now.0) }
+    ensures { IfOk result (λ tables. tables ≡ collected (map statement_of graph.now.0)) }
+{
+    let mut patterns = Patterns::new(alloc);
+    let mut dicts = Dicts::new(alloc);
+    for mention in mentions {
+        note(alloc, graph, &mut patterns, &mut dicts, *mention)?;
+    }
+    Ok(ProgramTables { patterns, dicts })
+}
+
+/// Adds what is mentioned.
+fn note(
+    alloc: Global,
+    graph: &Graph,
+    patterns: &mut Patterns,
+    dicts: &mut Dicts,
+    mention: Mention<'_>,
+) -> Result<(), OutOfMemory>
+    ensures patterns { (seen : List spec.Mention) → HasPatterns seen patterns.old.compiled.items (entry_of patterns.old.verdicts)
+        → OnOk result (HasPatterns (seen ++ mention_of mention.entry ∷ []) patterns.new.compiled.items (entry_of patterns.new.verdicts)) }
+    ensures dicts { (seen : List spec.Mention)
+        → HasDicts (map statement_of graph.now.0) seen dicts.old.keys.items dicts.old.uses.items (place_in (entry_of dicts.old.exact) (entry_of dicts.old.other))
+        → OnOk result (HasDicts (map statement_of graph.now.0) (seen ++ mention_of mention.entry ∷ []) dicts.new.keys.items dicts.new.uses.items (place_in (entry_of dicts.new.exact) (entry_of dicts.new.other))) }
+{
+    match mention {
+        Mention::Pattern(text) => patterns.add(alloc, text),
+        Mention::Dictionary(name, exact) => dicts.add(alloc, graph, name, exact),
+    }
+}
