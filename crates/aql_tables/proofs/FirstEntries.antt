@@ -1,12 +1,12 @@
 -- The entries of the dictionary with a name, where each name is defined once.
-use Rattle.std.proofs.Common.{◌≡◌, ◌∙◌, ℕ, zero, suc, ◌-◌, ◌<◌, Bool, true, false, cond, Option, Some, None, List, [], ◌∷◌, ◌++◌, map, flat_map, length, get_or, Contains, refl, ap, sym, subst, arith}
+use Rattle.std.proofs.Common.{◌≡◌, ◌∙◌, ℕ, zero, suc, ◌-◌, ◌<◌, Bool, true, false, cond, Some, None, List, [], ◌∷◌, map, flat_map, length, get_or, Contains, refl, ap, sym, subst, arith}
 use Rattle.std.specs.Str.{bytes_eq}
 use Rattle.std.specs.Cmp.Lexicographic.{bytes_decides}
 use Rattle.std.proofs.lemmas.List.Elements.{Contains-append_left, Contains-append_right}
 use Rattle.aql_syntax.specs.Trees.{Name, Statement, module_, require, export, dictionary, create, output}
 use Rattle.aql_syntax.specs.declared.tree.Statement as declared
 use Rattle.aql_syntax.specs.Views.{statement_of}
-use Rattle.view_graph.specs.Names.{Named, view_named, dictionary_named, defined_by, names_defined, AllDiffer, IsDefined}
+use Rattle.view_graph.specs.Names.{Named, view_named, dictionary_named, defined_by, AllDiffer}
 use Rattle.view_graph.specs.Uses.{statement_at}
 use Rattle.view_graph.specs.Answers.{IsResolved}
 use Rattle.view_graph.specs.Found.{FindsDictionary}

@@ -1,23 +1,21 @@
 -- What is known of texts, as one mention after another is seen.
-use Rattle.std.proofs.Common.{◌≡◌, ◌∙◌, ℕ, ◌+◌, ◌<◌, ◌^◌, Bool, true, false, cond, Option, Some, None, List, [], ◌∷◌, ◌++◌, flat_map, length, get_or, refl, ap, sym, subst, arith, true≢false}
+use Rattle.std.proofs.Common.{◌≡◌, ◌∙◌, ℕ, ◌+◌, ◌<◌, ◌^◌, Bool, true, false, cond, Option, Some, None, List, [], ◌∷◌, ◌++◌, flat_map, length, get_or, refl, ap, sym, subst}
 use Rattle.std.specs.Str.{bytes_eq}
-use Rattle.std.specs.Map.{update}
 use Rattle.std.specs.Cmp.Lexicographic.{bytes_decides}
 use Rattle.std.specs.Option.{is_none}
-use Rattle.std.specs.List.{list_any}
 use Rattle.std.proofs.lemmas.List.{append-nil, length-append}
 use Rattle.std.proofs.lemmas.List.Concat.{flat_map-append}
 use Rattle.aql_regex_extract.specs.declared.pattern.PatternFault.{PatternFault}
 use Rattle.aql_regex_extract.specs.Faults.{IsPattern, HasFault}
 use Rattle.aql_tables.specs.declared.patterns.Verdict.{Verdict}
 use Rattle.aql_tables.specs.declared.patterns.Verdict.TheVariants.{Place, Fault}
-use Rattle.aql_tables.specs.Mentions.{Mention, of_pattern, of_dictionary}
+use Rattle.aql_tables.specs.Mentions.{Mention, of_pattern}
 use Rattle.aql_tables.specs.Places.{each_once, place_of}
 use Rattle.aql_regex_extract.specs.Patterns.{group_count_of}
 use Rattle.aql_tables.specs.Verdicts.{pattern_fault, groups_of}
 use Rattle.aql_tables.specs.VerdictLaws.{fault_told, pattern_told}
 use Rattle.aql_tables.specs.Programs.{pattern_in, patterns_among}
-use Rattle.aql_tables.specs.Kept.{IsAt, IsTold, KeepsPatterns, HasPatterns, IsSet}
+use Rattle.aql_tables.specs.Kept.{IsTold, HasPatterns, IsSet}
 use Rattle.aql_tables.proofs.Once.{pushed, each_once-push, apart, at_last, at_more, past_more, at_place, pushed_known, pushed_new}
 
 same_is : (xs ys : List ℕ) → bytes_eq xs ys ≡ true → xs ≡ ys

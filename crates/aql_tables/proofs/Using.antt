@@ -1,6 +1,6 @@
 -- The dictionaries, as one mention after another is seen.
-use Rattle.std.proofs.Common.{◌≡◌, ◌∙◌, ℕ, ◌+◌, ◌<◌, ◌^◌, Bool, true, false, cond, ◌&&◌, Option, Some, None, List, [], ◌∷◌, ◌++◌, map, flat_map, length, refl, ap, ap₂, sym, subst, arith}
-use Rattle.std.specs.Bool.{Decides, beq}
+use Rattle.std.proofs.Common.{◌≡◌, ◌∙◌, ℕ, ◌+◌, ◌<◌, ◌^◌, Bool, true, false, cond, Option, Some, None, List, [], ◌∷◌, ◌++◌, flat_map, length, refl, ap, ap₂, sym, subst}
+use Rattle.std.specs.Bool.{beq}
 use Rattle.std.specs.Str.{bytes_eq}
 use Rattle.std.specs.Cmp.{booleans_Decides}
 use Rattle.std.specs.Cmp.Lexicographic.{bytes_decides}
@@ -10,10 +10,10 @@ use Rattle.std.proofs.lemmas.List.{append-nil, length-append, map-append}
 use Rattle.std.proofs.lemmas.List.Concat.{flat_map-append}
 use Rattle.aql_syntax.specs.Trees.{Statement}
 use Rattle.dict_match.specs.declared.dict_use.DictUse.{DictUse}
-use Rattle.aql_tables.specs.Mentions.{Mention, of_pattern, of_dictionary}
+use Rattle.aql_tables.specs.Mentions.{Mention, of_dictionary}
 use Rattle.aql_tables.specs.Places.{each_once, place_of}
 use Rattle.aql_tables.specs.Programs.{DictKey, same_dict, entries_of, use_of, dict_in, dicts_among}
-use Rattle.aql_tables.specs.Kept.{IsPlaced, KeepsDicts, HasDicts, IsSet}
+use Rattle.aql_tables.specs.Kept.{IsPlaced, HasDicts, IsSet}
 use Rattle.aql_tables.proofs.Once.{pushed, each_once-push, apart, at_last, at_more, past_more, pushed_known, pushed_new}
 
 same_is : (a b : DictKey) → same_dict a b ≡ true → a ≡ b

@@ -4,7 +4,6 @@ use Rattle.std.specs.Str.{bytes_eq}
 use Rattle.std.specs.Map.{update}
 use Rattle.std.specs.HashMap.{HashMap, get_by_text}
 use Rattle.std.specs.declared.string.String.{String}
-use Rattle.aql_regex_extract.specs.declared.pattern.PatternFault.{PatternFault}
 use Rattle.aql_syntax.specs.Trees.{Statement}
 use Rattle.dict_match.specs.declared.dict_use.DictUse.{DictUse}
 use Rattle.aql_tables.specs.declared.mention.Mention as declared

@@ -1,6 +1,6 @@
 -- What is told of a text as a pattern is what `IsPattern` and `HasFault` say.
-use Rattle.std.specs.Prelude.{◌≡◌, ℕ, ◌<◌, ◌*◌, ◌⊎◌, Bool, true, false, ◌||◌, if◌then◌else◌, List, length, Option, Some, None, is_none, is_some, IsSome, nat_lt, refl}
-use Rattle.std.proofs.Common.{◌∙◌, sym, ap, subst, true≢false, inl, inr, ⊎_elim, ap₂}
+use Rattle.std.specs.Prelude.{◌≡◌, ℕ, ◌*◌, Bool, true, false, if◌then◌else◌, List, length, Option, Some, None, is_none, IsSome, nat_lt, refl}
+use Rattle.std.proofs.Common.{◌∙◌, sym, subst, true≢false, inl, inr, ⊎_elim, ap₂}
 use Rattle.std.specs.Bool.{Decides}
 use Rattle.std.proofs.lemmas.Bool.Decides.{Decides-or, Decides-ltb, not_from_Decides}
 use Rattle.std.proofs.lemmas.Option.{none-some}

@@ -1,4 +1,4 @@
-use Rattle.std.proofs.Common.{◌≡◌, ◌∙◌, ◌-◌, ap, sym, subst, Option, Some, ℕ, List, map}
+use Rattle.std.proofs.Common.{◌∙◌, ◌-◌, ap, sym, subst, List, map}
 use Rattle.aql_syntax.specs.declared.tree.Statement as declared
 use Rattle.aql_syntax.specs.Trees.{dictionary}
 use Rattle.aql_syntax.specs.Views.{statement_of, name_of}

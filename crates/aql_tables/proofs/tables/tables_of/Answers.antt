@@ -1,4 +1,4 @@
-use Rattle.std.proofs.Common.{◌≡◌, ◌∙◌, ap, sym, subst, List, [], ℕ, map, take}
+use Rattle.std.proofs.Common.{sym, subst, List, [], map, take}
 use Rattle.aql_tables.specs.declared.mention.Mention as declared
 use Rattle.aql_tables.specs.declared.mention.Mention.TheVariants.{Pattern}
 use Rattle.aql_tables.proofs.Seeing.{map-take_more}

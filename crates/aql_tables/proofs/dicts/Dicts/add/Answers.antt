@@ -1,6 +1,6 @@
-use Rattle.std.proofs.Common.{◌≡◌, ◌∙◌, ◌++◌, ◌∷◌, [], sym, ap, subst, List, ℕ, map}
+use Rattle.std.proofs.Common.{◌∙◌, sym, map}
 use Rattle.aql_syntax.specs.Views.{statement_of}
-use Rattle.aql_tables.specs.Kept.{entry_of, place_in, HasDicts}
+use Rattle.aql_tables.specs.Kept.{entry_of, place_in}
 use Rattle.aql_tables.proofs.Answering.{on_ok_four}
 use Rattle.aql_tables.proofs.Using.{use_known, use_new}
 use Rattle.aql_tables.proofs.dicts.Dicts.add.Goals as goal

@@ -1,5 +1,5 @@
-use Rattle.std.proofs.Common.{◌≡◌, ◌∙◌, ap, sym, subst, List, ℕ, Option, None, Some}
-use Rattle.aql_tables.specs.Kept.{entry_of, place_in, IsPlaced}
+use Rattle.std.proofs.Common.{◌∙◌, ap, sym, subst}
+use Rattle.aql_tables.specs.Kept.{IsPlaced}
 use Rattle.aql_tables.specs.Places.{place_of}
 use Rattle.aql_tables.specs.Programs.{Collected, DictKey, same_dict}
 use Rattle.aql_tables.proofs.tables.ProgramTables.dict_place.Goals as goal

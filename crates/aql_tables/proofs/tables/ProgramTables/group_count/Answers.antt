@@ -1,4 +1,4 @@
-use Rattle.std.proofs.Common.{◌≡◌, ◌∙◌, ap, sym, subst, List, ℕ, Option, None, Some, get_or}
+use Rattle.std.proofs.Common.{◌∙◌, ap, sym, subst, ℕ, Some, get_or}
 use Rattle.aql_tables.specs.declared.patterns.Verdict.{Verdict}
 use Rattle.aql_tables.specs.Kept.{IsTold}
 use Rattle.aql_tables.proofs.Telling.{groups_at}
