@@ -1,5 +1,6 @@
--- Which queries give rows of one width: the sides of a union have one, each aggregate names a key or an argument, each
--- order key a column, and a run of tokens has one token or more.
+-- What is asked of a query, so that it can be evaluated and its rows have one width: the sides of a union and of a
+-- difference have one, blocks have no items; each aggregate names a key or an argument, each order key a column, and a
+-- run of tokens has one token or more.
 use Rattle.std.specs.Prelude.{ℕ, ◌+◌, ◌<◌, ◌≤◌, ◌≡◌, List, [], ◌∷◌, ◌++◌, length, All, slice_index_or}
 use Rattle.group_agg.specs.Groups.{HasKey, HasColumn}
 use Rattle.aql_typed.specs.Trees.{Projection, plain, grouped_by, SelectClauses, Extraction, regex, token_regex, dict, blocks, ExtractClauses, Query, select, extract, union, minus, Queries, no_queries, more_queries, Source, document, view, nested, Sources, no_sources, more_sources}
@@ -61,7 +62,7 @@ module _ (widths : List ℕ) where
     Fits (select sources clauses) = AllSourcesFit sources × FitsSelect clauses
     Fits (extract source clauses) = SourceFits source × FitsExtraction clauses clauses.extraction
     Fits (union sides) = SidesFit (first_width sides) sides
-    Fits (minus left right) = Fits left × Fits right
+    Fits (minus left right) = Fits left × Fits right × (width_of right ≡ width_of left)
 
     pub SidesFit : ℕ → Queries → Type 0
     SidesFit width no_queries = Unit {0}
@@ -75,6 +76,14 @@ module _ (widths : List ℕ) where
     pub AllSourcesFit : Sources → Type 0
     AllSourcesFit no_sources = Unit {0}
     AllSourcesFit (more_sources source sources) = SourceFits source × AllSourcesFit sources
+
+-- the widths of the views, by their numbers: each stands on those before it
+abbrev pub widths_from : List ℕ → List Query → List ℕ
+widths_from widths [] = widths
+widths_from widths (body ∷ bodies) = widths_from (widths ++ width_of widths body ∷ []) bodies
+
+abbrev pub widths_of : List Query → List ℕ
+widths_of bodies = widths_from [] bodies
 
 -- each view fits where the views before it have their widths
 abbrev pub AllFit : List ℕ → List Query → Type 0

@@ -1,18 +1,17 @@
 //! A typed program.
 
-ghost use Rattle.std.specs.Prelude.{◌≡◌, [], map, length, All};
-ghost use Rattle.aql_typed.specs.Views.{body_of};
-ghost use Rattle.aql_typed.specs.Fitting.{AllFit};
-ghost use Rattle.aql_typed.specs.Programs.{NamesView};
+ghost use Rattle.std.specs.Prelude.{◌≡◌, length};
+ghost use Rattle.aql_typed.specs.Programs.{AreTypedViews, AreTypedOutputs};
 
 use crate::{Output, TypedView};
 use scalar_ops::Tables;
 use std::marker::Model;
 
-/// A program without a fault: its views by rank, each standing on those before it, its patterns and
-/// dictionaries, and its outputs by the bytes of their names.
+/// A program without a fault: its views, each standing on those before it, its patterns and dictionaries,
+/// and its outputs.
 ///
-/// Contracts see the three. The rows of each view have one width, and each output names a view.
+/// Contracts see the three. The rows of a view have as many values as it has columns; no two columns of a
+/// view and no two outputs have one name, and each output names a view or the document.
 #[derive(Drop)]
 pub struct Typed {
     views: Vec<TypedView>,
@@ -21,15 +20,13 @@ pub struct Typed {
 }
 
 impl Model for Typed {
-    ghost use Rattle.std.specs.Prelude.{List, [], map, length, All};
+    ghost use Rattle.std.specs.Prelude.{List, length};
     ghost use Rattle.std.specs.Coded.{codes};
     ghost use Rattle.aql_typed.specs.contracts.tree.TypedView as typed_view;
     ghost use Rattle.aql_typed.specs.contracts.tree.Output as output;
     ghost use Rattle.aql_typed.specs.declared.tree.TypedView.{TypedView};
     ghost use Rattle.aql_typed.specs.declared.tree.Output.{Output};
-    ghost use Rattle.aql_typed.specs.Views.{body_of};
-    ghost use Rattle.aql_typed.specs.Fitting.{AllFit};
-    ghost use Rattle.aql_typed.specs.Programs.{NamesView};
+    ghost use Rattle.aql_typed.specs.Programs.{AreTypedViews, AreTypedOutputs};
     ghost use Rattle.scalar_ops.specs.Tables.{Lists};
 
     ghost Value = { List TypedView × (Lists × List Output) };
@@ -38,14 +35,14 @@ impl Model for Typed {
 
     ghost view = { λ typed. (typed.views.items, (typed.tables, typed.outputs.items)) };
 
-    ghost invariant = { λ typed. AllFit [] (map body_of typed.views.items) × All (NamesView (length typed.views.items)) typed.outputs.items };
+    ghost invariant = { λ typed. AreTypedViews typed.views.items × AreTypedOutputs (length typed.views.items) typed.outputs.items };
 }
 
 impl Typed {
     /// A program of these views, tables and outputs.
     pub fn new(views: Vec<TypedView>, tables: Tables, outputs: Vec<Output>) -> Typed
-        requires fit { AllFit [] (map body_of views.items) }
-        requires named { All (NamesView (length views.items)) outputs.items }
+        requires views { AreTypedViews views.items }
+        requires outputs { AreTypedOutputs (length views.items) outputs.items }
         ensures { result ≡ (views.items, (tables, outputs.items)) }
     {
         Typed {
@@ -55,10 +52,10 @@ impl Typed {
         }
     }
 
-    /// The views, by rank and then by statement; a view's number is its place here, from 0.
+    /// The views; a view's number is its place here, from 0.
     pub fn views(&self) -> &[TypedView]
         ensures views { result.now ≡ self.now.0 }
-        ensures fit { AllFit [] (map body_of self.now.0) }
+        ensures valid { AreTypedViews self.now.0 }
     {
         self.views.as_slice()
     }
@@ -70,10 +67,10 @@ impl Typed {
         &self.tables
     }
 
-    /// The outputs, by the bytes of their names.
+    /// The outputs, in their order.
     pub fn outputs(&self) -> &[Output]
         ensures outputs { result.now ≡ self.now.1.1 }
-        ensures named { All (NamesView (length self.now.0)) self.now.1.1 }
+        ensures valid { AreTypedOutputs (length self.now.0) self.now.1.1 }
     {
         self.outputs.as_slice()
     }
