@@ -10,5 +10,7 @@ pub mod FirstEntries
 pub mod Using
 -- what is known of texts
 pub mod Telling
+-- what is listed
+pub mod Listing
 -- what is mentioned in trees with lists
 pub mod MentionsViews

@@ -1,8 +1,12 @@
 -- One more value at the end of a list in which each stands once.
-use Rattle.std.proofs.Common.{◌≡◌, ◌∙◌, ℕ, ◌+◌, ◌<◌, Bool, true, false, not, cond, ◌||◌, List, [], ◌∷◌, ◌++◌, length, get_or, refl, ap, sym, subst, arith, true≢false}
-use Rattle.std.specs.List.{filter, list_any}
+use Rattle.std.proofs.Common.{◌≡◌, ◌∙◌, ℕ, zero, suc, Some, ◌+◌, ◌<◌, Bool, true, false, not, cond, ◌||◌, List, [], ◌∷◌, ◌++◌, length, get_or, refl, ap, sym, subst, arith, true≢false}
+use Rattle.std.specs.List.{filter, list_any, slice_get, All, AllPairs, Contains}
+use Rattle.std.proofs.lemmas.Option.{slice_get-get_or}
+use Rattle.std.proofs.lemmas.List.Folds.{list_any_at}
+use Rattle.std.proofs.lemmas.List.Kept.{AllPairs-filter}
 use Rattle.std.proofs.lemmas.List.{append-nil}
-use Rattle.std.proofs.lemmas.List.Elements.{filter-append}
+use Rattle.std.proofs.lemmas.List.Elements.{filter-append, filter_passes, All-cons, All-head, All-tail, All-filter, All-weaker}
+use Rattle.view_graph.specs.Names.{AllDiffer}
 use Rattle.std.proofs.lemmas.List.{length-append}
 use Rattle.aql_tables.specs.Places.{each_once, place_of}
 use Rattle.aql_tables.specs.Kept.{IsAt}
@@ -139,3 +143,51 @@ module _ {X : Type 0} (same : X → X → Bool) (is : (x y : X) → same x y ≡
 
   pub pushed_new : (x : X) (ks : List X) → place_of same x ks ≡ length ks → pushed ks x ≡ ks ++ x ∷ []
   pushed_new x ks past = ap (λ b. cond b ks (ks ++ x ∷ [])) (not_there x ks past)
+
+  -- ---- what each stands for
+
+  -- the same values are there
+  any_each : (x : X) (xs : List X) → list_any (same x) (each_once same xs) ≡ list_any (same x) xs
+  any_each x [] = refl
+  any_each x (k ∷ xs) = by (same x k) refl (any_each x xs)
+    where
+      by : (b : Bool) → same x k ≡ b → list_any (same x) (each_once same xs) ≡ list_any (same x) xs
+          → list_any (same x) (each_once same (k ∷ xs)) ≡ list_any (same x) (k ∷ xs)
+      by true told more = rw told refl
+      by false told more = rw told (any_kept (λ y. not (same k y)) x (each_once same xs) (ap not (apart x k told)) ∙ more)
+
+  within : (x : X) (ks : List X) → list_any (same x) ks ≡ true → place_of same x ks < length ks
+  within x [] any = absurd (true≢false (sym any))
+  within x (k ∷ ks) any = by (same x k) refl (within x ks)
+    where
+      by : (b : Bool) → same x k ≡ b → (list_any (same x) ks ≡ true → place_of same x ks < length ks) → place_of same x (k ∷ ks) < length (k ∷ ks)
+      by true told later = rw told (omega arith)
+      by false told later = rw told (omega (arith, later (ap (λ b. b || list_any (same x) ks) (sym told) ∙ any)))
+
+  -- what stands in the list has its place among those that stand once
+  pub found_each : (xs : List X) (x : X) → Contains xs x → slice_get (each_once same xs) (place_of same x (each_once same xs)) ≡ Some x
+  found_each xs x at =
+      let there = within x (each_once same xs) (any_each x xs ∙ list_any_at (same x) xs at.0 x at.1 (ap (same x) at.2 ∙ itself x)) in
+      slice_get-get_or (each_once same xs) (place_of same x (each_once same xs)) x there ∙ ap (λ (y : X). Some y) (at_place x (each_once same xs) x there)
+
+  -- what is true of all is true of those that stand once
+  pub all_each : (P : X → Type 0) (xs : List X) → All P xs → All P (each_once same xs)
+  all_each P [] all = all
+  all_each P (x ∷ xs) all =
+      All-cons P x (filter (λ y. not (same x y)) (each_once same xs)) (All-head P x xs all)
+      (All-filter (λ y. not (same x y)) P (each_once same xs) (all_each P xs (All-tail P x xs all)))
+
+  pairs_cons : (R : X → X → Type 0) (x : X) (xs : List X) → All (R x) xs → AllPairs R xs → AllPairs R (x ∷ xs)
+  pairs_cons R x xs first rest zero zero d before within = absurd (omega (arith, before))
+  pairs_cons R x xs first rest zero (suc j) d before within = first j d (omega (arith, within))
+  pairs_cons R x xs first rest (suc i) zero d before within = absurd (omega (arith, before))
+  pairs_cons R x xs first rest (suc i) (suc j) d before within = rest i j d (omega (arith, before)) (omega (arith, within))
+
+  -- each stands once
+  pub differ_each : (xs : List X) → AllDiffer (each_once same xs)
+  differ_each [] = λ i j d before within. absurd (omega (arith, within))
+  differ_each (x ∷ xs) =
+      let others = filter (λ y. not (same x y)) (each_once same xs) in
+      pairs_cons (λ a b. ¬ (a ≡ b)) x others
+      (All-weaker (λ y. not (same x y) ≡ true) (λ y. ¬ (x ≡ y)) (λ y passes is. true≢false (sym passes ∙ ap not (ap (same x) (sym is) ∙ itself x))) others (filter_passes (λ y. not (same x y)) (each_once same xs)))
+      (AllPairs-filter (λ a b. ¬ (a ≡ b)) (λ y. not (same x y)) (each_once same xs) (differ_each xs))

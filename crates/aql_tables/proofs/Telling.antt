@@ -18,10 +18,10 @@ use Rattle.aql_tables.specs.Programs.{pattern_in, patterns_among}
 use Rattle.aql_tables.specs.Kept.{IsTold, HasPatterns, IsSet}
 use Rattle.aql_tables.proofs.Once.{pushed, each_once-push, apart, at_last, at_more, past_more, at_place, pushed_known, pushed_new}
 
-same_is : (xs ys : List ℕ) → bytes_eq xs ys ≡ true → xs ≡ ys
+pub same_is : (xs ys : List ℕ) → bytes_eq xs ys ≡ true → xs ≡ ys
 same_is xs ys = (bytes_decides xs ys).0
 
-itself : (xs : List ℕ) → bytes_eq xs xs ≡ true
+pub itself : (xs : List ℕ) → bytes_eq xs xs ≡ true
 itself xs = (bytes_decides xs xs).1 refl
 
 -- a mention that is no pattern adds none

@@ -16,12 +16,12 @@ use Rattle.aql_tables.specs.Programs.{DictKey, same_dict, entries_of, use_of, di
 use Rattle.aql_tables.specs.Kept.{IsPlaced, HasDicts, IsSet}
 use Rattle.aql_tables.proofs.Once.{pushed, each_once-push, apart, at_last, at_more, past_more, pushed_known, pushed_new}
 
-same_is : (a b : DictKey) → same_dict a b ≡ true → a ≡ b
+pub same_is : (a b : DictKey) → same_dict a b ≡ true → a ≡ b
 same_is a b e =
     let both = (Decides-and (bytes_eq a.0 b.0) (beq a.1 b.1) (bytes_decides a.0 b.0) (booleans_Decides a.1 b.1)).0 e in
     ap₂ (λ (name : List ℕ) (exact : Bool). (name, exact)) both.0 both.1
 
-itself : (a : DictKey) → same_dict a a ≡ true
+pub itself : (a : DictKey) → same_dict a a ≡ true
 itself a = (Decides-and (bytes_eq a.0 a.0) (beq a.1 a.1) (bytes_decides a.0 a.0) (booleans_Decides a.1 a.1)).1 (refl, refl)
 
 module _ (program : List Statement) where

@@ -1,12 +1,13 @@
 -- The patterns and dictionaries of a program, each once, in the order in which they are first mentioned.
-use Rattle.std.specs.Prelude.{ℕ, Bool, ◌&&◌, if◌then◌else◌, List, [], ◌∷◌, Option, Some, None, is_some, unwrap_or, map, flat_map}
+use Rattle.std.specs.Prelude.{ℕ, Bool, ◌&&◌, if◌then◌else◌, List, [], ◌∷◌, Option, Some, None, is_some, unwrap_or, map, flat_map, ◌≡◌, IsTrue, slice_get, All, Contains}
 use Rattle.std.specs.Bool.{beq}
 use Rattle.std.specs.Str.{bytes_eq}
 use Rattle.aql_syntax.specs.Trees.{Statement, dictionary}
 use Rattle.dict_match.specs.declared.dict_use.DictUse.{DictUse}
 use Rattle.scalar_ops.specs.Tables.{Lists}
 use Rattle.aql_tables.specs.Mentions.{Mention, of_pattern, of_dictionary, mentions_of}
-use Rattle.aql_tables.specs.Places.{each_once}
+use Rattle.view_graph.specs.Names.{AllDiffer}
+use Rattle.aql_tables.specs.Places.{each_once, place_of}
 use Rattle.aql_tables.specs.Verdicts.{is_pattern}
 
 -- a dictionary's name, and whether case counts
@@ -68,3 +69,18 @@ pub record Collected : Type 0 where
 
 abbrev pub collected : List Statement → Collected
 collected program = record { lists = lists_of program; dicts = dicts_of program }
+
+-- what is mentioned stands at its place: a pattern with its text, a dictionary with its entries
+abbrev pub IsListed : List Statement → Collected → Mention → Type 0
+IsListed program tables (of_pattern text) =
+    IsTrue (is_pattern text) → slice_get tables.lists.patterns (place_of bytes_eq text tables.lists.patterns) ≡ Some text
+IsListed program tables (of_dictionary name exact) = IsTrue (is_dictionary program name)
+    → slice_get tables.lists.dicts (place_of same_dict (name, exact) tables.dicts) ≡ Some (use_of program (name, exact))
+
+-- all patterns and dictionaries that a program mentions are listed, each once, and nothing else is
+pub record ListsMentions (program : List Statement) (tables : Collected) : Type 0 where
+  pub listed : All (IsListed program tables) (mentions_of program)
+  pub patterns_distinct : AllDiffer tables.lists.patterns
+  pub dicts_distinct : AllDiffer tables.dicts
+  pub only_patterns : All (λ text. IsTrue (is_pattern text) × Contains (mentions_of program) (of_pattern text)) tables.lists.patterns
+  pub only_dicts : All (λ key. IsTrue (is_dictionary program key.0) × Contains (mentions_of program) (of_dictionary key.0 key.1)) tables.dicts

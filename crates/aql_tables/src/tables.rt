@@ -6,7 +6,7 @@ ghost use Rattle.aql_syntax.specs.Views.{statement_of};
 ghost use Rattle.aql_tables.specs.Kept.{entry_of, mention_of, place_in, HasDicts, HasPatterns};
 ghost use Rattle.aql_tables.specs.Mentions as spec;
 ghost use Rattle.aql_tables.specs.Places.{place_of};
-ghost use Rattle.aql_tables.specs.Programs.{collected, same_dict};
+ghost use Rattle.aql_tables.specs.Programs.{collected, same_dict, ListsMentions};
 ghost use Rattle.aql_tables.specs.Verdicts as verdict;
 
 use crate::dicts::Dicts;
@@ -117,9 +117,10 @@ impl ProgramTables {
 /// faster than the program, and recurs no deeper than it nests. `OutOfMemory` comes for want of memory
 /// alone, and for 2^32 patterns or dictionaries.
 ///
-/// Meaning: `collected`, `specs/Programs.antt`.
+/// Meaning: `collected`, and what it is for, `ListsMentions`: `specs/Programs.antt`.
 pub fn collect(alloc: Global, graph: &Graph) -> Result<ProgramTables, OutOfMemory>
-    ensures { IfOk result (λ tables. tables ≡ collected (map statement_of graph.now.0)) }
+    ensures tables { IfOk result (λ tables. tables ≡ collected (map statement_of graph.now.0)) }
+    ensures listed { IfOk result (λ tables. ListsMentions (map statement_of graph.now.0) tables) }
 {
     let mentions = mentions(alloc, graph.statements())?;
     tables_of(alloc, graph, mentions.as_slice())
