@@ -1,16 +1,15 @@
 -- All that a program mentions is listed, each once, and nothing else.
-use Rattle.std.proofs.Common.{◌≡◌, ◌∙◌, ℕ, zero, suc, ◌<◌, Bool, true, false, cond, Option, Some, List, [], ◌∷◌, ◌++◌, map, flat_map, length, get_or, refl, ap, sym, subst, arith}
+use Rattle.std.proofs.Common.{◌≡◌, ◌∙◌, ℕ, zero, suc, ◌<◌, Bool, true, false, cond, Option, List, [], ◌∷◌, flat_map, length, get_or, refl, ap, sym, subst, arith}
 use Rattle.std.specs.Str.{bytes_eq}
 use Rattle.std.specs.Option.{option_map}
 use Rattle.std.specs.List.{All, Contains}
 use Rattle.std.proofs.lemmas.Option.{slice_get-map}
 use Rattle.std.proofs.lemmas.List.Elements.{All-nil, All-cons, All-head, All-tail, All-append, All-weaker, All-contains_itself, Contains-append_left, Contains-append_right}
 use Rattle.aql_syntax.specs.Trees.{Statement}
-use Rattle.dict_match.specs.declared.dict_use.DictUse.{DictUse}
 use Rattle.aql_tables.specs.Mentions.{Mention, of_pattern, of_dictionary, mentions_of}
 use Rattle.aql_tables.specs.Places.{place_of}
 use Rattle.aql_tables.specs.Verdicts.{is_pattern}
-use Rattle.aql_tables.specs.Programs.{DictKey, same_dict, is_dictionary, use_of, pattern_in, dict_in, patterns_of, dicts_of, collected, IsListed, ListsMentions}
+use Rattle.aql_tables.specs.Programs.{DictKey, same_dict, is_dictionary, use_of, pattern_in, dict_in, dicts_of, collected, IsListed, ListsMentions}
 use Rattle.aql_tables.proofs.Once.{found_each, all_each, differ_each}
 use Rattle.aql_tables.proofs.Telling as pattern
 use Rattle.aql_tables.proofs.Using as dict

@@ -8,6 +8,8 @@ use Rattle.aql_syntax.specs.Trees.{Statement}
 use Rattle.dict_match.specs.declared.dict_use.DictUse.{DictUse}
 use Rattle.aql_tables.specs.declared.mention.Mention as declared
 use Rattle.aql_tables.specs.declared.mention.Mention.TheVariants.{Pattern, Dictionary}
+use Rattle.aql_tables.specs.declared.dicts.Dicts.{Dicts}
+use Rattle.aql_tables.specs.declared.patterns.Patterns.{Patterns}
 use Rattle.aql_tables.specs.declared.patterns.Verdict.{Verdict}
 use Rattle.aql_tables.specs.declared.patterns.Verdict.TheVariants.{Place, Fault}
 use Rattle.aql_tables.specs.Mentions.{Mention, of_pattern, of_dictionary}
@@ -63,6 +65,16 @@ pub record HasDicts (program : List Statement) (seen : List Mention) (dicts : Li
   pub dicts_are : dicts_among program seen ≡ dicts
   pub uses_are : map (use_of program) dicts ≡ uses
   pub keeps : KeepsDicts dicts place_at
+
+-- what the code keeps, after what was seen
+abbrev pub HoldsPatterns : List Mention → Patterns → Type 0
+HoldsPatterns seen patterns = HasPatterns seen patterns.compiled.items (entry_of patterns.verdicts)
+
+abbrev pub places_of : Dicts → DictKey → Option ℕ
+places_of dicts = place_in (entry_of dicts.exact) (entry_of dicts.other)
+
+abbrev pub HoldsDicts : List Statement → List Mention → Dicts → Type 0
+HoldsDicts program seen dicts = HasDicts program seen dicts.keys.items dicts.uses.items (places_of dicts)
 
 -- the key has the value, and the others are as they were
 abbrev pub IsSet : {K X : Type 0} → (K → K → Bool) → (K → Option X) → (K → Option X) → K → X → Type 0

@@ -2,7 +2,7 @@
 
 ghost use Rattle.std.specs.Prelude.{◌≡◌, ◌++◌, ◌∷◌, [], ◌+◌, ◌<◌, ◌^◌, List, None, Some, map, length, IfOk, OnOk, MatchOption};
 ghost use Rattle.aql_syntax.specs.Views.{statement_of};
-ghost use Rattle.aql_tables.specs.Kept.{entry_of, place_in, IsSet, HasDicts};
+ghost use Rattle.aql_tables.specs.Kept.{places_of, IsSet, HoldsDicts};
 ghost use Rattle.aql_tables.specs.Mentions.{Mention, of_dictionary};
 ghost use Rattle.aql_tables.specs.Programs as spec;
 
@@ -26,7 +26,7 @@ pub(crate) struct Dicts {
 impl Dicts {
     /// No dictionary.
     pub(crate) fn new(alloc: Global) -> Dicts
-        ensures { (program : List _) → HasDicts program [] result.keys.items result.uses.items (place_in (entry_of result.exact) (entry_of result.other)) }
+        ensures { (program : List _) → HoldsDicts program [] result }
     {
         Dicts {
             exact: IndexMap::new(alloc),
@@ -38,7 +38,7 @@ impl Dicts {
 
     /// The place of the dictionary with this name that is compared so.
     pub(crate) fn place(&self, name: &str, exact: bool) -> Option<u32>
-        ensures { result ≡ place_in (entry_of self.now.exact) (entry_of self.now.other) (name.now, exact) }
+        ensures { result ≡ places_of self.now (name.now, exact) }
     {
         if exact {
             self.exact.get(name).copied()
@@ -56,8 +56,8 @@ impl Dicts {
         exact: bool,
     ) -> Result<(), OutOfMemory>
         ensures { (seen : List Mention)
-            → HasDicts (map statement_of graph.now.0) seen self.old.keys.items self.old.uses.items (place_in (entry_of self.old.exact) (entry_of self.old.other))
-            → OnOk result (HasDicts (map statement_of graph.now.0) (seen ++ of_dictionary name.now exact ∷ []) self.new.keys.items self.new.uses.items (place_in (entry_of self.new.exact) (entry_of self.new.other))) }
+            → HoldsDicts (map statement_of graph.now.0) seen self.old
+            → OnOk result (HoldsDicts (map statement_of graph.now.0) (seen ++ of_dictionary name.now exact ∷ []) self.new) }
     {
         match self.place(name, exact) {
             Some(_) => Ok(()),
@@ -78,7 +78,7 @@ impl Dicts {
     ) -> Result<(), OutOfMemory>
         ensures keys { OnOk result (self.new.keys.items ≡ self.old.keys.items ++ (name.now, exact) ∷ []) }
         ensures uses { OnOk result (self.new.uses.items ≡ self.old.uses.items ++ record { entries = entries; exact = exact } ∷ []) }
-        ensures set { OnOk result (IsSet spec.same_dict (place_in (entry_of self.old.exact) (entry_of self.old.other)) (place_in (entry_of self.new.exact) (entry_of self.new.other)) (name.now, exact) (length self.old.keys.items)) }
+        ensures set { OnOk result (IsSet spec.same_dict (places_of self.old) (places_of self.new) (name.now, exact) (length self.old.keys.items)) }
         ensures short { OnOk result (length self.old.keys.items + 1 < 2 ^ 32) }
     {
         let place = next_place(self.keys.len())?;
@@ -96,7 +96,7 @@ impl Dicts {
         exact: bool,
         place: u32,
     ) -> Result<(), OutOfMemory>
-        ensures set { OnOk result (IsSet spec.same_dict (place_in (entry_of self.old.exact) (entry_of self.old.other)) (place_in (entry_of self.new.exact) (entry_of self.new.other)) (name.now, exact) place) }
+        ensures set { OnOk result (IsSet spec.same_dict (places_of self.old) (places_of self.new) (name.now, exact) place) }
         ensures keys { self.new.keys ≡ self.old.keys }
         ensures uses { self.new.uses ≡ self.old.uses }
     {

@@ -1,7 +1,10 @@
-//! The patterns and dictionaries of a program, each compiled once, before its expressions are typed.
+//! The patterns and dictionaries of a program, each once, before its expressions are typed.
 //!
-//! Stands on `aql_syntax` and `view_graph` for programs with known names, on `aql_regex_extract` for
-//! patterns and on `scalar_ops` for the tables that expressions count in.
+//! `collect` walks a program and compiles each text that stands as a pattern once; it gives exactly the
+//! patterns and dictionaries that the program mentions, each once, in the order of their first mention.
+//! `ProgramTables` tells the place of each, and of any text whether it is a pattern, and becomes the
+//! tables in which typed expressions count. Stands on `aql_syntax` and `view_graph` for a program whose
+//! names are known, on `aql_regex_extract` for patterns and on `scalar_ops` for the tables.
 #![tactic(auto)]
 
 mod dicts;

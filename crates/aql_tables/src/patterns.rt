@@ -3,7 +3,7 @@
 ghost use Rattle.std.specs.Prelude.{◌≡◌, ◌++◌, ◌∷◌, [], ◌+◌, ◌<◌, ◌^◌, List, IfOk, OnOk, length};
 ghost use Rattle.aql_tables.specs.declared.patterns.Verdict.TheVariants.{Place};
 ghost use Rattle.std.specs.Str.{bytes_eq};
-ghost use Rattle.aql_tables.specs.Kept.{entry_of, IsSet, HasPatterns};
+ghost use Rattle.aql_tables.specs.Kept.{entry_of, IsSet, HoldsPatterns};
 ghost use Rattle.aql_tables.specs.Mentions.{Mention, of_pattern};
 ghost use Rattle.aql_tables.specs.Verdicts.{pattern_fault};
 ghost use Rattle.aql_tables.specs.Verdicts as spec;
@@ -32,7 +32,7 @@ pub(crate) struct Patterns {
 impl Patterns {
     /// No pattern.
     pub(crate) fn new(alloc: Global) -> Patterns
-        ensures { HasPatterns [] result.compiled.items (entry_of result.verdicts) }
+        ensures { HoldsPatterns [] result }
     {
         Patterns {
             verdicts: IndexMap::new(alloc),
@@ -49,8 +49,8 @@ impl Patterns {
 
     /// Adds a text that stands as a pattern.
     pub(crate) fn add(&mut self, alloc: Global, text: &str) -> Result<(), OutOfMemory>
-        ensures { (seen : List Mention) → HasPatterns seen self.old.compiled.items (entry_of self.old.verdicts)
-            → OnOk result (HasPatterns (seen ++ of_pattern text.now ∷ []) self.new.compiled.items (entry_of self.new.verdicts)) }
+        ensures { (seen : List Mention) → HoldsPatterns seen self.old
+            → OnOk result (HoldsPatterns (seen ++ of_pattern text.now ∷ []) self.new) }
     {
         match self.verdict(text) {
             Some(_) => Ok(()),

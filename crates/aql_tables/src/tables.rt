@@ -3,7 +3,7 @@
 ghost use Rattle.std.specs.Prelude.{◌≡◌, ◌++◌, ◌∷◌, [], List, map, IfOk, OnOk};
 ghost use Rattle.std.specs.Str.{bytes_eq};
 ghost use Rattle.aql_syntax.specs.Views.{statement_of};
-ghost use Rattle.aql_tables.specs.Kept.{entry_of, mention_of, place_in, HasDicts, HasPatterns};
+ghost use Rattle.aql_tables.specs.Kept.{mention_of, HoldsDicts, HoldsPatterns};
 ghost use Rattle.aql_tables.specs.Mentions as spec;
 ghost use Rattle.aql_tables.specs.Places.{place_of};
 ghost use Rattle.aql_tables.specs.Programs.{collected, same_dict, ListsMentions};
@@ -32,14 +32,14 @@ pub struct ProgramTables {
 
 impl Model for ProgramTables {
     ghost use Rattle.aql_tables.specs.Programs.{Collected};
-    ghost use Rattle.aql_tables.specs.Kept.{entry_of, place_in, tables_of, KeepsTables};
+    ghost use Rattle.aql_tables.specs.Kept.{entry_of, places_of, tables_of, KeepsTables};
 
     ghost Value = { Collected };
 
     ghost view = { λ tables. tables_of tables.patterns.compiled.items tables.dicts.uses.items tables.dicts.keys.items };
 
     ghost invariant = { λ tables. KeepsTables (tables_of tables.patterns.compiled.items tables.dicts.uses.items tables.dicts.keys.items)
-        (entry_of tables.patterns.verdicts) (place_in (entry_of tables.dicts.exact) (entry_of tables.dicts.other)) };
+        (entry_of tables.patterns.verdicts) (places_of tables.dicts) };
 }
 
 impl ProgramTables {
@@ -151,11 +151,11 @@ fn note(
     dicts: &mut Dicts,
     mention: Mention<'_>,
 ) -> Result<(), OutOfMemory>
-    ensures patterns { (seen : List spec.Mention) → HasPatterns seen patterns.old.compiled.items (entry_of patterns.old.verdicts)
-        → OnOk result (HasPatterns (seen ++ mention_of mention.entry ∷ []) patterns.new.compiled.items (entry_of patterns.new.verdicts)) }
+    ensures patterns { (seen : List spec.Mention) → HoldsPatterns seen patterns.old
+        → OnOk result (HoldsPatterns (seen ++ mention_of mention.entry ∷ []) patterns.new) }
     ensures dicts { (seen : List spec.Mention)
-        → HasDicts (map statement_of graph.now.0) seen dicts.old.keys.items dicts.old.uses.items (place_in (entry_of dicts.old.exact) (entry_of dicts.old.other))
-        → OnOk result (HasDicts (map statement_of graph.now.0) (seen ++ mention_of mention.entry ∷ []) dicts.new.keys.items dicts.new.uses.items (place_in (entry_of dicts.new.exact) (entry_of dicts.new.other))) }
+        → HoldsDicts (map statement_of graph.now.0) seen dicts.old
+        → OnOk result (HoldsDicts (map statement_of graph.now.0) (seen ++ mention_of mention.entry ∷ []) dicts.new) }
 {
     match mention {
         Mention::Pattern(text) => patterns.add(alloc, text),
