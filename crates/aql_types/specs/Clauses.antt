@@ -8,7 +8,7 @@ use Rattle.scalar_ops.specs.declared.kind.Kind.TheVariants as kind
 use Rattle.scalar_ops.specs.Expressions as expressed
 use Rattle.aql_types.specs.declared.fault.Breach.{Breach}
 use Rattle.aql_types.specs.declared.fault.TypeRule.TheVariants.{UnknownColumn, NotGrouped, BadRange, UnknownPolicy}
-use Rattle.aql_types.specs.declared.function.Wanted.TheVariants.{OfKind}
+use Rattle.aql_types.specs.declared.wanted.Wanted.TheVariants.{OfKind}
 use Rattle.aql_types.specs.Faults.{broken}
 use Rattle.aql_types.specs.Functions.{entry_named}
 use Rattle.aql_types.specs.Known.{Known}

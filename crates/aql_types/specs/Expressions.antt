@@ -1,5 +1,5 @@
 -- Expressions: what is said of one, in the scope of its names.
-use Rattle.std.specs.Prelude.{ℕ, true, List, [], ◌∷◌, Option, Some, None}
+use Rattle.std.specs.Prelude.{ℕ, ℤ, true, List, [], ◌∷◌, Option, Some, None}
 use Rattle.aql_syntax.specs.Trees.{Term, int, str, regex, column, bare, call, star, Terms, no_terms, more_terms}
 use Rattle.scalar_ops.specs.declared.kind.Kind.TheVariants as kind
 use Rattle.scalar_ops.specs.Expressions as expressed
@@ -19,12 +19,22 @@ wrong_pattern at None = []
 wrong_pattern at (Some Bad) = broken true at BadPattern
 wrong_pattern at (Some (Large bytes weight)) = broken true at (PatternLarge bytes weight)
 
+abbrev pub typing_of_int : ℕ → ℤ → Typing
+typing_of_int at n = record { at = at; faults = []; kind = kind.Integer; meant = value (expressed.number n) }
+
+abbrev pub typing_of_str : ℕ → List ℕ → Typing
+typing_of_str at text = record { at = at; faults = []; kind = kind.Text; meant = value (expressed.string text) }
+
+abbrev pub typing_of_regex : Known → ℕ → List ℕ → Typing
+typing_of_regex known at text =
+    record { at = at; faults = wrong_pattern at (known.pattern_fault text); kind = kind.Pattern; meant = pattern text }
+
 module _ (known : Known) (scope : Scope) where
   abbrev mutual
     pub typing : Term → Typing
-    typing (int at n) = record { at = at; faults = []; kind = kind.Integer; meant = value (expressed.number n) }
-    typing (str at text) = record { at = at; faults = []; kind = kind.Text; meant = value (expressed.string text) }
-    typing (regex at text) = record { at = at; faults = wrong_pattern at (known.pattern_fault text); kind = kind.Pattern; meant = pattern text }
+    typing (int at n) = typing_of_int at n
+    typing (str at text) = typing_of_str at text
+    typing (regex at text) = typing_of_regex known at text
     typing (column at alias name) = typing_of_column scope.sources at alias name
     typing (bare at name) = typing_of_name scope.names at name.text
     typing (call at name args) = typing_of_call known at name (typings args)

@@ -6,11 +6,11 @@ use Rattle.aql_typed.specs.declared.tree.Column.{Column}
 use Rattle.scalar_ops.specs.declared.kind.Kind.TheVariants as kind
 use Rattle.aql_types.specs.declared.fault.Breach.{Breach}
 use Rattle.aql_types.specs.declared.fault.TypeRule.TheVariants.{BadRange, BadGroup}
-use Rattle.aql_types.specs.declared.function.Wanted.TheVariants.{OfKind}
+use Rattle.aql_types.specs.declared.wanted.Wanted.TheVariants.{OfKind}
 use Rattle.aql_types.specs.Faults.{broken}
 use Rattle.aql_types.specs.Known.{Known}
 use Rattle.aql_types.specs.Typings.{Typing, ItemTyping, column_meant}
-use Rattle.aql_types.specs.Scopes.{Visible, names_of_columns, Scope, typing_of_column}
+use Rattle.aql_types.specs.Scopes.{Visible, no_names, names_of_columns, Scope, typing_of_column}
 use Rattle.aql_types.specs.Calls.{are_gap_bounds, wrong_argument}
 use Rattle.aql_types.specs.Expressions.{wrong_pattern}
 use Rattle.aql_types.specs.Items.{duplicate_columns, faults_of_items, columns_of_items, names_of_items, extract_item}
@@ -108,8 +108,11 @@ module _ (known : Known) where
     abbrev pub sources_seen : List Visible
     sources_seen = visible_in (source ∷ [])
 
+    abbrev pub source_scope : Scope
+    source_scope = record { sources = sources_seen; names = no_names }
+
     abbrev pub items_extracted : List ItemTyping
-    items_extracted = map (extract_item known sources_seen) (items_beside spec items)
+    items_extracted = map (extract_item known source_scope) (items_beside spec items)
 
     -- `on`: a column, at its alias, which is a Span
     abbrev pub typing_on : Typing

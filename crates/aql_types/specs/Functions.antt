@@ -8,8 +8,8 @@ use Rattle.aql_types.specs.declared.function.Function.{Function}
 use Rattle.aql_types.specs.declared.function.Function.TheVariants as function
 use Rattle.aql_types.specs.declared.function.Aggregate.{Aggregate}
 use Rattle.aql_types.specs.declared.function.Aggregate.TheVariants as aggregate
-use Rattle.aql_types.specs.declared.function.Wanted.{Wanted}
-use Rattle.aql_types.specs.declared.function.Wanted.TheVariants.{OfKind, Flag}
+use Rattle.aql_types.specs.declared.wanted.Wanted.{Wanted}
+use Rattle.aql_types.specs.declared.wanted.Wanted.TheVariants.{OfKind, Flag}
 
 -- the functions and predicates with their names
 abbrev pub functions : List (List ℕ × Function)
@@ -40,7 +40,7 @@ name_of_aggregate aggregate.Max = codes "Max"
 
 -- what stands beside a name in a table, where the name is there; names match exactly
 abbrev pub entry_named : {X : Type 0} → List ℕ → List (List ℕ × X) → Option X
-entry_named name table = option_map (λ entry. entry.1) (find (λ entry. bytes_eq entry.0 name) table)
+entry_named name table = option_map (λ entry. entry.1) (find (λ entry. bytes_eq name entry.0) table)
 
 abbrev pub function_named : List ℕ → Option Function
 function_named name = entry_named name functions
@@ -138,12 +138,12 @@ kind_given function.Not = kind.Boolean
 kind_given function.And = kind.Boolean
 kind_given function.Or = kind.Boolean
 
--- what the argument of an aggregate is wanted to be
-abbrev pub wanted_by_aggregate : Aggregate → Kind
-wanted_by_aggregate aggregate.Count = kind.Any
-wanted_by_aggregate aggregate.Sum = kind.Integer
-wanted_by_aggregate aggregate.Min = kind.Any
-wanted_by_aggregate aggregate.Max = kind.Any
+-- what the one argument of an aggregate is wanted to be
+abbrev pub wanted_by_aggregate : Aggregate → List Wanted
+wanted_by_aggregate aggregate.Count = OfKind kind.Any ∷ []
+wanted_by_aggregate aggregate.Sum = OfKind kind.Integer ∷ []
+wanted_by_aggregate aggregate.Min = OfKind kind.Any ∷ []
+wanted_by_aggregate aggregate.Max = OfKind kind.Any ∷ []
 
 -- the kind that an aggregate gives of an argument of this kind
 abbrev pub kind_told : Aggregate → Kind → Kind

@@ -1,5 +1,5 @@
 -- Items: output columns of a selection, which may be aggregates, and of an extraction.
-use Rattle.std.specs.Prelude.{ℕ, not, List, [], ◌∷◌, ◌++◌, Option, Some, None, map, flat_map, codes}
+use Rattle.std.specs.Prelude.{ℕ, not, List, [], ◌++◌, Option, Some, None, map, flat_map, codes}
 use Rattle.std.specs.Str.{bytes_eq}
 use Rattle.aql_syntax.specs.Trees.{Name, Term, int, str, regex, column, bare, call, star, Item}
 use Rattle.aql_syntax.specs.Naming.{item_name}
@@ -8,12 +8,12 @@ use Rattle.scalar_ops.specs.declared.kind.Kind.TheVariants as kind
 use Rattle.aql_types.specs.declared.fault.Breach.{Breach}
 use Rattle.aql_types.specs.declared.fault.TypeRule.TheVariants.{DuplicateColumn, UnknownFunction}
 use Rattle.aql_types.specs.declared.function.Aggregate.{Aggregate}
-use Rattle.aql_types.specs.declared.function.Wanted.TheVariants.{OfKind}
-use Rattle.aql_types.specs.Faults.{broken, duplicate}
+use Rattle.aql_types.specs.declared.wanted.Wanted.TheVariants.{OfKind}
+use Rattle.aql_types.specs.Faults.{broken, first, duplicate}
 use Rattle.aql_types.specs.Functions.{aggregate_named, wanted_by_aggregate, kind_told}
 use Rattle.aql_types.specs.Known.{Known}
 use Rattle.aql_types.specs.Typings.{Typing, faults_of, expression, row_count, aggregated, ItemTyping, column_of_item}
-use Rattle.aql_types.specs.Scopes.{Visible, no_names}
+use Rattle.aql_types.specs.Scopes.{Scope}
 use Rattle.aql_types.specs.Calls.{wrong_argument, wrong_arguments}
 use Rattle.aql_types.specs.Expressions.{typing, typings}
 
@@ -49,6 +49,21 @@ columns_of_items items = map column_of_item items
 abbrev pub names_of_items : List ItemTyping → List Name
 names_of_items items = map (λ item. item.name) items
 
+-- an aggregate of its first argument, as far as it has one
+abbrev pub told : Name → ℕ → Aggregate → Option Typing → ItemTyping
+told name at a None = record { at = at; name = name; faults = []; kind = kind.Nothing; content = row_count }
+told name at a (Some t) = record { at = at; name = name; faults = []; kind = kind_told a t.kind; content = aggregated a t.meant }
+
+-- the rows of a group are counted by `Count(*)`; UnknownFunction: a `*` stands in another call; at the call
+abbrev pub star_item : Name → ℕ → List ℕ → ItemTyping
+star_item name at word = record {
+  at = at;
+  name = name;
+  faults = broken (not (bytes_eq word (codes "Count"))) at (UnknownFunction word);
+  kind = kind.Integer;
+  content = row_count;
+}
+
 module _ (known : Known) where
   -- an expression as a whole item: it is wanted Any
   abbrev pub plain_item : Name → Typing → ItemTyping
@@ -61,43 +76,21 @@ module _ (known : Known) where
   }
 
   -- an aggregate of one argument
-  abbrev pub kind_of_first : List Typing → Aggregate → ItemTyping → ItemTyping
-  kind_of_first [] a item = item
-  kind_of_first (t ∷ ts) a item = record item { kind = kind_told a t.kind; content = aggregated a t.meant }
-
   abbrev pub aggregate_item : Name → ℕ → Aggregate → List Typing → ItemTyping
-  aggregate_item name at a args = kind_of_first args a (record {
-    at = at;
-    name = name;
-    faults = faults_of args ++ wrong_arguments known at (OfKind (wanted_by_aggregate a) ∷ []) args;
-    kind = kind.Nothing;
-    content = row_count;
-  })
+  aggregate_item name at a args =
+      let item = told name at a (first args) in
+      record item { faults = faults_of args ++ wrong_arguments known at (wanted_by_aggregate a) args }
 
-  -- the rows of a group are counted by `Count(*)`; UnknownFunction: a `*` stands in another call; at the call
-  abbrev pub star_item : Name → ℕ → List ℕ → ItemTyping
-  star_item name at word = record {
-    at = at;
-    name = name;
-    faults = broken (not (bytes_eq word (codes "Count"))) at (UnknownFunction word);
-    kind = kind.Integer;
-    content = row_count;
-  }
-
-  module _ (sources : List Visible) where
-    -- in an item no bare name stands for anything
-    abbrev pub typing_in_item : Term → Typing
-    typing_in_item expr = typing known (record { sources = sources; names = no_names }) expr
-
+  module _ (scope : Scope) where
     abbrev pub item_of_call : Name → ℕ → List ℕ → List Typing → Typing → Option Aggregate → ItemTyping
     item_of_call name at word args whole None = plain_item name whole
     item_of_call name at word args whole (Some a) = aggregate_item name at a args
 
     abbrev pub item_of_expr : Name → Term → ItemTyping
     item_of_expr name (call at word args) =
-        item_of_call name at word (typings known (record { sources = sources; names = no_names }) args) (typing_in_item (call at word args)) (aggregate_named word)
+        item_of_call name at word (typings known scope args) (typing known scope (call at word args)) (aggregate_named word)
     item_of_expr name (star at word) = star_item name at word
-    item_of_expr name expr = plain_item name (typing_in_item expr)
+    item_of_expr name expr = plain_item name (typing known scope expr)
 
     -- an item of a selection
     abbrev pub select_item : Item → ItemTyping
@@ -105,4 +98,4 @@ module _ (known : Known) where
 
     -- an item of an extraction: an aggregate is no function there
     abbrev pub extract_item : Item → ItemTyping
-    extract_item item = plain_item (output_name item) (typing_in_item item.expr)
+    extract_item item = plain_item (output_name item) (typing known scope item.expr)

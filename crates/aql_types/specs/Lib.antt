@@ -19,3 +19,9 @@ pub mod Extractions
 pub mod Queries
 -- programs: what `check` answers
 pub mod Programs
+-- ---- words of private clauses
+-- how the code keeps parts without a fault
+pub mod Callees
+pub mod Refusals
+pub mod Knowns
+pub mod Views

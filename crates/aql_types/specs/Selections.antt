@@ -87,12 +87,12 @@ abbrev pub plain_terms : List ItemTyping → List expressed.Term
 plain_terms items = map (λ item. plain_term item.content) items
 
 module _ (known : Known) (sources : List SourceTyping) (items : List Item) (clauses : Clauses) where
-  abbrev pub items_typed : List ItemTyping
-  items_typed = map (select_item known (visible_in sources)) items
-
-  -- in `where` no bare name stands for anything
+  -- in an item and in `where` no bare name stands for anything
   abbrev pub row_scope : Scope
   row_scope = record { sources = visible_in sources; names = no_names }
+
+  abbrev pub items_typed : List ItemTyping
+  items_typed = map (select_item known row_scope) items
 
   -- in `consolidate on`, `group by` and `order by` a bare name stands for an item's expression
   abbrev pub item_scope : Scope

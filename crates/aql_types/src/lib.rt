@@ -1,7 +1,20 @@
-//! The types of a program: which are its faults, and what it is without one.
+//! The types of a program: its faults, and what it is without one.
+//!
+//! A part has the list of all its faults in the order of checking (`specs/Faults.antt`), and what stands
+//! for it where there is none. Expressions and items are checked here against these definitions. Stands
+//! on `aql_tables` for patterns and dictionaries and on `aql_typed` for typed programs.
 #![tactic(auto)]
 
+mod call;
+mod copying;
+mod expression;
 mod fault;
 mod function;
+mod given;
+mod item;
+mod known;
+mod refusal;
+mod scope;
+mod wanted;
 
 pub use fault::{TypeFault, TypeRule};
