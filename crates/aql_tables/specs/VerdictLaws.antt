@@ -9,7 +9,7 @@ use Rattle.aql_regex_extract.specs.declared.pattern.PatternFault.TheVariants.{Ba
 use Rattle.aql_regex_extract.specs.Faults.{IsPattern, HasFault}
 use Rattle.aql_regex_extract.specs.Patterns.{tree_of, whole_form, IsBad}
 use Rattle.aql_regex_extract.specs.Weight.{weight_of, IsLarge}
-use Rattle.aql_tables.specs.Verdicts.{is_large, is_bad, pattern_fault}
+use Rattle.aql_tables.specs.Verdicts.{is_large, is_bad, pattern_fault, IsVerdict}
 
 -- the test tells whether the text is large
 pub Decides-is_large : (text : List ℕ) → Decides (is_large text) (IsLarge text)
@@ -82,3 +82,8 @@ module _ (text : List ℕ) where
 
   pub pattern_is : pattern_fault text ≡ None → IsPattern text
   pattern_is e = pattern (is_large text) (is_bad text) (Decides-is_large text) (Decides-is_bad text) (sym (fault_by_tests text) ∙ e)
+
+  -- what is told is the verdict
+  pub verdict_is : (fault : Option PatternFault) → fault ≡ pattern_fault text → IsVerdict text fault
+  verdict_is None e = pattern_is (sym e)
+  verdict_is (Some fault) e = fault_has fault (sym e)

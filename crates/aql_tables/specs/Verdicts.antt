@@ -2,6 +2,7 @@
 use Rattle.std.specs.Prelude.{ℕ, ◌*◌, Bool, ◌||◌, if◌then◌else◌, List, length, Option, Some, None, is_none, nat_lt}
 use Rattle.aql_regex_extract.specs.declared.pattern.PatternFault.{PatternFault}
 use Rattle.aql_regex_extract.specs.declared.pattern.PatternFault.TheVariants.{Bad, Large}
+use Rattle.aql_regex_extract.specs.Faults.{IsPattern, HasFault}
 use Rattle.aql_regex_extract.specs.Patterns.{tree_of, group_count_of, whole_form}
 use Rattle.aql_regex_extract.specs.Weight.{weight_of}
 
@@ -21,6 +22,11 @@ pattern_fault text =
 -- the text is a pattern
 abbrev pub is_pattern : List ℕ → Bool
 is_pattern text = is_none (pattern_fault text)
+
+-- the verdict on a text in the words of patterns: it is one, or has the fault
+abbrev pub IsVerdict : List ℕ → Option PatternFault → Type 0
+IsVerdict text None = IsPattern text
+IsVerdict text (Some fault) = HasFault text fault
 
 -- the number of capture groups of a pattern, without group 0; 0 where the text is no pattern
 abbrev pub groups_of : List ℕ → ℕ

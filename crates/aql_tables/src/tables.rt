@@ -68,13 +68,15 @@ impl ProgramTables {
     ///
     /// Compiles only a text that the program doesn't mention as a pattern.
     ///
-    /// Meaning: `pattern_fault`, `specs/Verdicts.antt`.
+    /// Meaning: `pattern_fault`, and in the words of patterns `IsVerdict`: `specs/Verdicts.antt`.
+    #[tactic(auto, using(crate::specs::VerdictLaws::verdict_is))]
     pub fn pattern_fault(
         &self,
         alloc: Global,
         text: &str,
     ) -> Result<Option<PatternFault>, OutOfMemory>
-        ensures { IfOk result (λ fault. fault ≡ verdict.pattern_fault text.now) }
+        ensures fault { IfOk result (λ fault. fault ≡ verdict.pattern_fault text.now) }
+        ensures verdict { IfOk result (verdict.IsVerdict text.now) }
     {
         match self.patterns.verdict(text) {
             Some(Verdict::Place(_)) => Ok(None),
