@@ -1,5 +1,6 @@
-ghost use Rattle.std.specs.Prelude.{◌≡◌, [], ◌∷◌, ◌≤◌, IfErr, IfOk, IfNone, IfSome, length, map};
+ghost use Rattle.std.specs.Prelude.{◌≡◌, [], ◌∷◌, ◌≤◌, All, IfErr, IfOk, IfNone, IfSome, length, map};
 ghost use Rattle.std.specs.Str.{IsUtf8};
+ghost use Rattle.aql_syntax.specs.Shapes.{IsFormed};
 ghost use Rattle.aql_syntax.specs.Views.{statement_of};
 ghost use Rattle.aqlx_top.specs.Limits.{program_limit};
 ghost use Rattle.aqlx_top.specs.OneForm.{IsViewIn};
@@ -53,6 +54,7 @@ fn compile_text(alloc: Global, text: &str) -> Result<Compiled, Failure<ProgramFa
 /// The program of these statements, or the fault of their names, or the first statement that keeps them
 /// from being of the one form.
 fn build(alloc: Global, statements: Vec<Statement>) -> Result<Compiled, Failure<ProgramFault>>
+    requires formed { All IsFormed (map statement_of statements.items) }
     ensures built { IfOk result (IsBuiltFrom (map statement_of statements.items)) }
     ensures fault { IfErr result (IsRefusedFor (map statement_of statements.items)) }
     ensures decided { IsNameDecided (map statement_of statements.items) }

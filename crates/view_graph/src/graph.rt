@@ -1,6 +1,7 @@
 //! A program whose names are resolved, and how it is.
 
-ghost use Rattle.std.specs.Prelude.{◌≡◌, ◌<◌, ◌^◌, map, length, IfOk, IfErr};
+ghost use Rattle.std.specs.Prelude.{◌≡◌, ◌<◌, ◌^◌, All, map, length, IfOk, IfErr};
+ghost use Rattle.aql_syntax.specs.Shapes.{IsFormed};
 ghost use Rattle.aql_syntax.specs.Views.{statement_of};
 ghost use Rattle.span_token.specs.Refusals.{OfFault};
 ghost use Rattle.view_graph.specs.Answers.{HasOutputs, IsNameDecided, IsNameFault, IsResolved};
@@ -60,9 +61,12 @@ impl Model for Graph {
 }
 
 impl Graph {
-    /// The statements, as they were given.
+    /// The statements, as they were given, of the shape that the grammar asks for.
+    ///
+    /// Meaning: `IsFormed`, `aql_syntax`'s `specs/Shapes.antt`.
     pub fn statements(&self) -> &[Statement]
-        ensures { result.now ≡ self.now.0 }
+        ensures same { result.now ≡ self.now.0 }
+        ensures formed { All IsFormed (map statement_of self.now.0) }
     {
         self.statements.as_slice()
     }
@@ -114,11 +118,13 @@ impl Graph {
 /// Names are looked at in three rounds, each through the statements in order: what they define, what
 /// they look up (the first unknown name in the text decides, views and dictionaries together), and how
 /// outputs are called. A cycle is the fault where none of these stands. The statements are given up on
-/// a refusal. A program of 2^32 statements or more is refused as want of memory.
+/// a refusal. A program of 2^32 statements or more is refused as want of memory. Statements that were
+/// parsed have the shape that is asked for.
 ///
 /// Meaning: `IsResolved` and `IsNameFault`, and that there is one answer, `IsNameDecided`:
 /// `specs/Answers.antt`.
 pub fn resolve(alloc: Global, statements: Vec<Statement>) -> Result<Graph, Failure<NameFault>>
+    requires formed { All IsFormed (map statement_of statements.items) }
     ensures same { IfOk result (λ graph. graph.0 ≡ statements.items) }
     ensures resolved { IfOk result (λ graph. IsResolved (map statement_of statements.items) graph.1) }
     ensures fault { IfErr result (OfFault (IsNameFault (map statement_of statements.items))) }
@@ -129,6 +135,7 @@ pub fn resolve(alloc: Global, statements: Vec<Statement>) -> Result<Graph, Failu
 
 /// The graph of the statements, or the program's first fault.
 fn graph_of(alloc: Global, statements: Vec<Statement>) -> Result<Graph, Failure<NameFault>>
+    requires formed { All IsFormed (map statement_of statements.items) }
     ensures same { IfOk result (λ graph. graph.0 ≡ statements.items) }
     ensures resolved { IfOk result (λ graph. IsResolved (map statement_of statements.items) graph.1) }
     ensures fault { IfErr result (OfFault (IsNameFault (map statement_of statements.items))) }

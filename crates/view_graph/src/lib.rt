@@ -13,8 +13,6 @@ mod names;
 mod order;
 mod outputs;
 mod search;
-#[cfg(test)]
-mod tests;
 mod uses;
 
 pub use fault::NameFault;

@@ -9,4 +9,4 @@ pub returns-in-Ok-clause-fault : goal.returns-in-Ok-clause-fault
 returns-in-Ok-clause-fault c =
     IfErr-weaker c.build_form.result (IsUnbuiltFor (map statement_of c.args.statements.items)) _
     (refused_for (map statement_of c.args.statements.items) (_, c.in-Ok.ensures.resolved))
-    (rw (c.statements.ensures, c.in-Ok.ensures.same) at c.build_form.ensures.fault)
+    (rw (c.statements.ensures.same, c.in-Ok.ensures.same) at c.build_form.ensures.fault)

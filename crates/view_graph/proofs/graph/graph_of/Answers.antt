@@ -31,6 +31,7 @@ invariant_of-result c =
     let short : length (map statement_of c.args.statements.items) < 2 ^ 32 = omega (arith, length-map c.args.statements.items statement_of, c.len.ensures, c.if-len.false, c.deref.ensures.len, ap length c.deref.ensures.value) in
     record {
       short = short;
+      formed = c.requires.formed;
       resolved = resolved;
       names = subst (λ (ss : List declared.Statement). IndexesNames (map statement_of ss) (entry_of c.in_ok-names.names.views) (entry_of c.in_ok-names.names.dictionaries)) c.deref.ensures.value c.in_ok-names.ensures.ok;
       indexed = subst (λ (numbers : List ℕ). IsIndexed numbers c.in_ok-indexes.indexes.items) c.deref-3.ensures.value c.in_ok-indexes.ensures;
