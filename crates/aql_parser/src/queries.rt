@@ -1,8 +1,8 @@
 //! Queries.
 
-ghost use Rattle.std.specs.Prelude.{◌≡◌, ◌∷◌, [], map, option_map, IfOk};
+ghost use Rattle.std.specs.Prelude.{◌≡◌, ◌∷◌, [], map, option_map, box_value, IfOk};
 ghost use Rattle.aql_syntax.specs.Views.{name_of, item_of, spec_of, source_of, query_of};
-ghost use Rattle.aql_parser.specs.Readers.{Gives, separated, sees, sees_sign, prefixed, where_seen, sees_name, a_name, symbol, ◌◁◌};
+ghost use Rattle.aql_parser.specs.Readers.{Gives, separated, sees, sees_sign, prefixed, where_seen, sees_name, a_name, symbol, ◌◁◌, ◌▷◌};
 ghost use Rattle.aql_parser.specs.Reading.Queries as spec;
 ghost use Rattle.aql_parser.specs.ClauseViews.{select_clauses, extract_tail};
 ghost use Rattle.aql_syntax.specs.Trees.{minus, nested, extract};
@@ -110,20 +110,19 @@ fn put_together(
     ensures { Gives query_of (spec.put_together depth (spec.within depth) (query_of first) toks.old.at toks.old.kinds) result toks.new }
 {
     if toks.eat_word("minus") {
-        toks.expect(b'(')?;
-        let second = parenthesis(alloc, depth, toks)?;
+        let first = Box::new(alloc, first)?;
+        let second = opened(alloc, depth, toks)?;
         return Ok(minus(alloc, first, second)?);
     }
-    toks.expect_word("union")?;
     let sides = one_side(alloc, first)?;
+    toks.expect_word("union")?;
     let sides = sides_after(alloc, depth, toks, sides)?;
     Ok(Query::of_union(sides))
 }
 
-fn minus(alloc: Global, first: Query, second: Query) -> Result<Query, OutOfMemory>
-    ensures { IfOk result (λ query. query_of query ≡ minus (query_of first) (query_of second)) }
+fn minus(alloc: Global, first: Box<Query>, second: Query) -> Result<Query, OutOfMemory>
+    ensures { IfOk result (λ query. query_of query ≡ minus (query_of (box_value first)) (query_of second)) }
 {
-    let first = Box::new(alloc, first)?;
     let second = Box::new(alloc, second)?;
     Ok(Query::Minus(first, second))
 }
@@ -143,6 +142,14 @@ fn side(alloc: Global, depth: u32, toks: &mut Cursor<'_>) -> Result<Query, Refus
     ensures { Gives query_of (spec.side depth (spec.within depth) toks.old.at toks.old.kinds) result toks.new }
 {
     toks.expect_word("all")?;
+    opened(alloc, depth, toks)
+}
+
+/// A query in parentheses.
+#[cycle(query)]
+fn opened(alloc: Global, depth: u32, toks: &mut Cursor<'_>) -> Result<Query, Refused>
+    ensures { Gives query_of ((symbol "(" ▷ spec.within depth) toks.old.at toks.old.kinds) result toks.new }
+{
     toks.expect(b'(')?;
     parenthesis(alloc, depth, toks)
 }

@@ -5,34 +5,37 @@ use Rattle.aql_parser.specs.Reading.Queries.{side, within, read_source}
 use Rattle.aql_parser.proofs.queries.+query.Given as goal
 
 abbrev pub decreases-query : goal.decreases-query
-decreases-query l = 9 * l.depth + 7
+decreases-query l = 10 * l.depth + 8
 
 abbrev pub decreases-put_together : goal.decreases-put_together
-decreases-put_together l = 9 * l.depth + 3
+decreases-put_together l = 10 * l.depth + 4
 
 abbrev pub decreases-sides_after : goal.decreases-sides_after
-decreases-sides_after l = 9 * l.depth + 2
+decreases-sides_after l = 10 * l.depth + 3
 
 abbrev pub decreases-side : goal.decreases-side
-decreases-side l = 9 * l.depth + 1
+decreases-side l = 10 * l.depth + 2
+
+abbrev pub decreases-opened : goal.decreases-opened
+decreases-opened l = 10 * l.depth + 1
 
 abbrev pub decreases-parenthesis : goal.decreases-parenthesis
-decreases-parenthesis l = 9 * l.depth
+decreases-parenthesis l = 10 * l.depth
 
 abbrev pub decreases-closed : goal.decreases-closed
-decreases-closed l = 9 * l.depth + 8
+decreases-closed l = 10 * l.depth + 9
 
 abbrev pub decreases-selection : goal.decreases-selection
-decreases-selection l = 9 * l.depth + 3
+decreases-selection l = 10 * l.depth + 4
 
 abbrev pub decreases-extraction : goal.decreases-extraction
-decreases-extraction l = 9 * l.depth + 3
+decreases-extraction l = 10 * l.depth + 4
 
 abbrev pub decreases-sources : goal.decreases-sources
-decreases-sources l = 9 * l.depth + 2
+decreases-sources l = 10 * l.depth + 3
 
 abbrev pub decreases-source : goal.decreases-source
-decreases-source l = 9 * l.depth + 1
+decreases-source l = 10 * l.depth + 2
 
 abbrev pub invariant-sources-loop-turn : goal.invariant-sources-loop-turn
 invariant-sources-loop-turn l =
