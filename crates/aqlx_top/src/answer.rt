@@ -107,6 +107,6 @@ fn append_rows(
     ensures bytes { OnOk result (pending.new.items ≡ pending.old.items ++ output_line document.now layout.now (rows.entry.rows ∷ [])) }
 {
     let line = mem::replace(pending, Vec::new(alloc));
-    *pending = append_document(alloc, line, document, layout, &[rows])?;
+    *pending = append_document(alloc, line, document, layout, &[&rows])?;
     Ok(())
 }

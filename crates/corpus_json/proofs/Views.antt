@@ -100,28 +100,28 @@ views_placed document outputs rows same =
 
 -- ---- each output has its rows
 
-abbrev HasRowsAt : List RowList → Section → Type 0
-HasRowsAt rows section = (section.place < length rows) × ((get_or rows section.place (record { width = 0; rows = [] })).width ≡ length section.output.columns)
+abbrev HasRowsAt : List ℕ → Section → Type 0
+HasRowsAt widths section = (section.place < length widths) × (get_or widths section.place 0 ≡ length section.output.columns)
 
 -- as many lists of rows as outputs
-pub lists_same : (outputs : List OutputNames) (rows : List RowList) → map (λ list. list.width) rows ≡ map (λ output. length output.columns) outputs → length rows ≡ length outputs
-lists_same outputs rows widths = sym (length-map rows (λ list. list.width)) ∙ ap length widths ∙ length-map outputs (λ output. length output.columns)
+pub lists_same : (outputs : List OutputNames) (widths : List ℕ) → widths ≡ map (λ output. length output.columns) outputs → length widths ≡ length outputs
+lists_same outputs widths are = ap length are ∙ length-map outputs (λ output. length output.columns)
 
-rows_at : (outputs : List OutputNames) (rows : List RowList) → map (λ list. list.width) rows ≡ map (λ output. length output.columns) outputs → (place : Place) → place.1 < length outputs → HasRowsAt rows (section_at outputs place)
-rows_at outputs rows widths place within = (
-  subst (λ n. place.1 < n) (sym (lists_same outputs rows widths)) within,
-  sym (get_or-map (λ (list : RowList). list.width) rows place.1 (record { width = 0; rows = [] })) ∙ ap (λ ns. get_or ns place.1 0) widths
+rows_at : (outputs : List OutputNames) (widths : List ℕ) → widths ≡ map (λ output. length output.columns) outputs → (place : Place) → place.1 < length outputs → HasRowsAt widths (section_at outputs place)
+rows_at outputs widths are place within = (
+  subst (λ n. place.1 < n) (sym (lists_same outputs widths are)) within,
+  ap (λ ns. get_or ns place.1 0) are
       ∙ get_or-map (λ (output : OutputNames). length output.columns) outputs place.1 (record { name = []; columns = [] }),
 )
 
-pub has_rows : (outputs : List OutputNames) (rows : List RowList) (members : List Member) → map (λ list. list.width) rows ≡ map (λ output. length output.columns) outputs → map section_of members ≡ sections_of outputs → All (HasRows rows) members
+pub has_rows : (outputs : List OutputNames) (widths : List ℕ) (members : List Member) → widths ≡ map (λ output. length output.columns) outputs → map section_of members ≡ sections_of outputs → All (HasRows widths) members
 unfolding sections_of
-has_rows outputs rows members widths are =
+has_rows outputs widths members same are =
     let names = output_names outputs in
     let all : All (λ (place : Place). place.1 < length outputs) (places_of names) =
     All-unmap (λ place. place < length outputs) (λ (place : Place). place.1) (places_of names) (subst (λ n. All (λ place. place < n) (map (λ (p : Place). p.1) (places_of names))) (length-map outputs (λ output. output.name)) (places_within names)) in
-    let each = All-unmap (HasRowsAt rows) section_of members (subst (All (HasRowsAt rows)) (sym are)
-    (All-map (HasRowsAt rows) (section_at outputs) (places_of names) (All-weaker (λ (place : Place). place.1 < length outputs) (λ place. HasRowsAt rows (section_at outputs place)) (rows_at outputs rows widths) (places_of names) all))) in
+    let each = All-unmap (HasRowsAt widths) section_of members (subst (All (HasRowsAt widths)) (sym are)
+    (All-map (HasRowsAt widths) (section_at outputs) (places_of names) (All-weaker (λ (place : Place). place.1 < length outputs) (λ place. HasRowsAt widths (section_at outputs place)) (rows_at outputs widths same) (places_of names) all))) in
     λ k d within. let one = each k d within in record { place = one.0; width = one.1 }
 
 -- ---- the line

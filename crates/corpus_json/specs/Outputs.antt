@@ -11,6 +11,7 @@ use Rattle.row_values.specs.Datums.{Datum, int, truth, text, span}
 use Rattle.row_values.specs.Datums as datum
 use Rattle.row_values.specs.Outputs.{OutputNames}
 use Rattle.row_values.specs.Rows.{RowList, sorted}
+use denote.Ref.{Bor}
 
 -- the object that has the pairs as its members: serde_json's, put in one after another, so in the order of their names' bytes
 abbrev pub put_pair : Members → List ℕ × Data → Members
@@ -61,5 +62,9 @@ line_data document outputs rows = object_of (label_pair document.label ++ (codes
 unfoldable pub output_line : Doc → List OutputNames → List (List (List Datum)) → List ℕ
 output_line document outputs rows = compact_text (line_data document outputs rows) ++ 10 ∷ []
 
-abbrev pub rows_of : RowList → List (List Datum)
-rows_of list = list.rows
+-- the number of columns of a list of rows
+abbrev pub width_of : Bor RowList → ℕ
+width_of list = list.now.width
+
+abbrev pub rows_of : Bor RowList → List (List Datum)
+rows_of list = list.now.rows

@@ -1,7 +1,6 @@
 -- The outputs as they stand in a line. Only private clauses cite this.
 use Rattle.std.specs.Prelude.{◌≡◌, ◌<◌, ℕ, List, [], All, length, map, slice_index_or}
 use Rattle.row_values.specs.Outputs.{OutputNames}
-use Rattle.row_values.specs.Rows.{RowList}
 use Rattle.corpus_json.specs.Places.{Place, places_of}
 use Rattle.corpus_json.specs.declared.write.member.Member.{Member}
 use Rattle.corpus_json.specs.declared.write.order.Named.{Named}
@@ -32,7 +31,7 @@ sections_of outputs = map (section_at outputs) (places_of (output_names outputs)
 abbrev pub HasColumns : List Named → ℕ → Type 0
 HasColumns columns width = All (λ column. column.place < width) columns
 
--- there is a list of rows at the output's place, and it has the output's columns
-pub record HasRows (rows : List RowList) (member : Member) : Type 0 where
-  pub place : member.place < length rows
-  pub width : (slice_index_or rows member.place (record { width = 0; rows = [] })).width ≡ length member.output.now.columns
+-- there is a list of rows at the output's place, and its width is the number of the output's columns
+pub record HasRows (widths : List ℕ) (member : Member) : Type 0 where
+  pub place : member.place < length widths
+  pub width : slice_index_or widths member.place 0 ≡ length member.output.now.columns

@@ -183,9 +183,9 @@ fn expect_line<R: Abort>(
     wanted: &str,
 ) -> Result<(), Fail> {
     let outputs = [output(alloc, "P", "num")?];
-    let rows = [rows_of_one(alloc, values)?];
-    assert!(rt; list_fits(document, &rows[0]));
-    let found = write_document(alloc, document, &outputs, &rows)?;
+    let rows = rows_of_one(alloc, values)?;
+    assert!(rt; list_fits(document, &rows));
+    let found = write_document(alloc, document, &outputs, &[&rows])?;
     let wanted = with_lf(alloc, wanted)?;
     assert_eq!(rt; found.as_slice(), wanted.as_bytes());
     Ok(())
@@ -284,19 +284,17 @@ fn names_stand_in_the_order_of_their_bytes(rt: HostRuntime) -> Result<(), Fail> 
         output(rt.alloc(), "AA", "n")?,
     ];
     let pairs = [(span(1, 2), Value::Null), (Value::Null, span(0, 1))];
-    let rows = [
-        rows_of_one(rt.alloc(), &[])?,
-        rows_of_two(rt.alloc(), &pairs)?,
-        rows_of_one(rt.alloc(), &[Value::Int(2)])?,
-    ];
+    let none = rows_of_one(rt.alloc(), &[])?;
+    let two = rows_of_two(rt.alloc(), &pairs)?;
+    let one = rows_of_one(rt.alloc(), &[Value::Int(2)])?;
     let wanted = with_lf(
         rt.alloc(),
         r#"{"views":{"A":[{"x":{"begin":0,"end":1,"text":"a"},"y":null},{"x":null,"y":{"begin":1,"end":2,"text":"b"}}],"AA":[{"n":2}],"Z":[]}}"#,
     )?;
-    assert!(rt; list_fits(&document, &rows[0]));
-    assert!(rt; list_fits(&document, &rows[1]));
-    assert!(rt; list_fits(&document, &rows[2]));
-    let found = write_document(rt.alloc(), &document, &outputs, &rows)?;
+    assert!(rt; list_fits(&document, &none));
+    assert!(rt; list_fits(&document, &two));
+    assert!(rt; list_fits(&document, &one));
+    let found = write_document(rt.alloc(), &document, &outputs, &[&none, &two, &one])?;
     assert_eq!(rt; found.as_slice(), wanted.as_bytes());
     Ok(())
 }
@@ -307,11 +305,11 @@ fn lines_are_put_after_each_other_in_one_layout(rt: HostRuntime) -> Result<(), F
     let layout = Layout::new(rt.alloc(), &outputs)?;
     let first = Document::new(rt.alloc(), "a", None)?;
     let second = Document::new(rt.alloc(), "", Some("l"))?;
-    let rows = [rows_of_one(rt.alloc(), &[Value::Bool(true)])?];
-    assert!(rt; list_fits(&first, &rows[0]));
-    assert!(rt; list_fits(&second, &rows[0]));
-    let line = append_document(rt.alloc(), Vec::new(rt.alloc()), &first, &layout, &rows)?;
-    let both = append_document(rt.alloc(), line, &second, &layout, &rows)?;
+    let rows = rows_of_one(rt.alloc(), &[Value::Bool(true)])?;
+    assert!(rt; list_fits(&first, &rows));
+    assert!(rt; list_fits(&second, &rows));
+    let line = append_document(rt.alloc(), Vec::new(rt.alloc()), &first, &layout, &[&rows])?;
+    let both = append_document(rt.alloc(), line, &second, &layout, &[&rows])?;
     let wanted = with_lf(
         rt.alloc(),
         "{\"views\":{\"P\":[{\"n\":true}]}}\n{\"label\":\"l\",\"views\":{\"P\":[{\"n\":true}]}}",

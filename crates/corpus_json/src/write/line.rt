@@ -3,7 +3,7 @@ ghost use Rattle.json.specs.Token.{begin_object};
 ghost use Rattle.json.specs.Tree.{json_tokens};
 ghost use Rattle.serde_json.specs.Written.{outline};
 ghost use Rattle.row_values.specs.Rows.{RowsLieIn};
-ghost use Rattle.corpus_json.specs.Outputs.{output_line, line_data, rows_of};
+ghost use Rattle.corpus_json.specs.Outputs.{output_line, line_data, rows_of, width_of};
 ghost use Rattle.corpus_json.specs.Writing.{Adds, label_tokens};
 
 use super::layout::Layout;
@@ -26,9 +26,9 @@ pub fn write_document(
     alloc: Global,
     document: &Document<'_>,
     outputs: &[Output],
-    rows: &[Rows<'_>],
+    rows: &[&Rows<'_>],
 ) -> Result<Vec<u8>, OutOfMemory>
-    requires columns { map (λ list. list.width) rows.now ≡ map (λ output. length output.columns) outputs.now }
+    requires columns { map width_of rows.now ≡ map (λ output. length output.columns) outputs.now }
     requires in_document { All (RowsLieIn document.now) (map rows_of rows.now) }
     ensures line { IfOk result (λ line. line.items ≡ output_line document.now outputs.now (map rows_of rows.now)) }
 {
@@ -45,9 +45,9 @@ pub fn append_document(
     line: Vec<u8>,
     document: &Document<'_>,
     layout: &Layout<'_>,
-    rows: &[Rows<'_>],
+    rows: &[&Rows<'_>],
 ) -> Result<Vec<u8>, OutOfMemory>
-    requires columns { map (λ list. list.width) rows.now ≡ map (λ output. length output.columns) layout.now }
+    requires columns { map width_of rows.now ≡ map (λ output. length output.columns) layout.now }
     requires in_document { All (RowsLieIn document.now) (map rows_of rows.now) }
     ensures line { IfOk result (λ longer. longer.items ≡ line.items ++ output_line document.now layout.now (map rows_of rows.now)) }
 {
@@ -64,9 +64,9 @@ fn write_object(
     out: &mut Writer,
     document: &Document<'_>,
     layout: &Layout<'_>,
-    rows: &[Rows<'_>],
+    rows: &[&Rows<'_>],
 ) -> Result<(), OutOfMemory>
-    requires columns { map (λ list. list.width) rows.now ≡ map (λ output. length output.columns) layout.now }
+    requires columns { map width_of rows.now ≡ map (λ output. length output.columns) layout.now }
     requires in_document { All (RowsLieIn document.now) (map rows_of rows.now) }
     ensures { Adds result out.old out.new (json_tokens (outline (line_data document.now layout.now (map rows_of rows.now)))) }
 {

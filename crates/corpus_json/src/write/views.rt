@@ -3,7 +3,7 @@ ghost use Rattle.json.specs.Token.{begin_array, begin_object};
 ghost use Rattle.json.specs.Tree.{json_tokens};
 ghost use Rattle.serde_json.specs.Written.{outline};
 ghost use Rattle.row_values.specs.Rows.{RowList, RowsLieIn, sorted};
-ghost use Rattle.corpus_json.specs.Outputs.{rows_data, rows_of};
+ghost use Rattle.corpus_json.specs.Outputs.{rows_data, rows_of, width_of};
 ghost use Rattle.corpus_json.specs.Places.{place_of};
 ghost use Rattle.corpus_json.specs.Sections.{section_of, HasColumns, HasRows};
 ghost use Rattle.corpus_json.specs.Writing.{Adds, array_tokens, row_listed, views_tokens};
@@ -23,15 +23,15 @@ pub(crate) fn write_views(
     out: &mut Writer,
     document: &Document<'_>,
     members: &[Member<'_>],
-    rows: &[Rows<'_>],
+    rows: &[&Rows<'_>],
 ) -> Result<(), OutOfMemory>
-    requires rows { All (HasRows rows.now) members.now }
+    requires rows { All (HasRows (map width_of rows.now)) members.now }
     requires in_document { All (RowsLieIn document.now) (map rows_of rows.now) }
     ensures { Adds result out.old out.new (views_tokens document.now (map rows_of rows.now) (map section_of members.now)) }
 {
     'members: for member in members {
         out.key(member.name)?;
-        write_list(alloc, out, document, member, &rows[member.place])?;
+        write_list(alloc, out, document, member, rows[member.place])?;
     }
     out.end_object()?;
     Ok(())
