@@ -5,8 +5,7 @@ use Rattle.std.proofs.lemmas.Option.{slice_get-map}
 use Rattle.aql_regex_extract.specs.Faults.{IsPattern}
 use Rattle.aql_syntax.specs.declared.tree.Statement as seen
 use Rattle.aql_syntax.specs.Views.{statement_of}
-use Rattle.aqlx_top.specs.OneForm.{AreOf, IsOutputOf, IsViewIn}
-use Rattle.aqlx_top.specs.Run.{Program}
+use Rattle.aqlx_top.specs.Run.{Typed, program_of}
 use Rattle.span_token.specs.declared.refusal.Failure.{Failure}
 use Rattle.span_token.specs.declared.refusal.Failure.TheVariants.{OutOfMemory, Fault}
 use Rattle.aql_lexer.specs.Kinds.{Kind, kind_of, token_of, kinds_of}
@@ -19,32 +18,13 @@ use Rattle.aql_syntax.specs.Trees.{Statement}
 use Rattle.aql_syntax.specs.Programs.{AreTokensOf, placed_in}
 use Rattle.aqlx_top.specs.declared.program.Compiled.{Compiled}
 use Rattle.aqlx_top.specs.declared.status.ProgramFault.{ProgramFault}
-use Rattle.aqlx_top.specs.declared.status.ProgramFault.TheVariants.{Text, Large, Lex, Syntax, Name, Unbuilt}
+use Rattle.aqlx_top.specs.declared.status.ProgramFault.TheVariants.{Text, Large, Lex, Syntax, Name, Type as Typing}
 use Rattle.aqlx_top.specs.declared.status.What.TheVariants.{Bytes, Statements, Nesting}
-use Rattle.aqlx_top.specs.ProgramFaults.{HasCause, HasOnlyFault, HasOrder, HasTooMany, IsTooDeep, IsTooLargeFor}
+use Rattle.aqlx_top.specs.ProgramFaults.{HasCause, HasOnlyFault, HasTooMany, IsTooDeep, IsTooLargeFor}
 use Rattle.aqlx_top.specs.ProgramTexts.{ReadsAs, IsWithinLimits, HoldsStatements}
-use Rattle.aqlx_top.specs.Programs.{IsCompiledFrom, IsBuiltFrom, IsRefusedFor, IsUnbuiltFor}
+use Rattle.aqlx_top.specs.Programs.{IsCompiledFrom, IsBuiltFrom, IsRefusedFor}
 use Rattle.view_graph.specs.Answers.{IsNameDecided}
-use Rattle.aqlx_top.proofs.ProgramLaws.{only_many, only_deep, only_syntax, only_name, only_unbuilt, holds_program}
-
--- the second of some
-pub second_of : (statements : List seen.Statement) (second : seen.Statement) → 1 < length statements → second ≡ get_or statements 1 second
-    → slice_get statements 1 ≡ Some second
-second_of [] second there is = absurd (omega arith)
-second_of (x ∷ []) second there is = absurd (omega arith)
-second_of (x ∷ y ∷ zs) second there is = ap (λ (s : seen.Statement). Some s) (sym is)
-
--- statements of which the first and the second are a program's
-pub form_of : (statements : List seen.Statement) (program : Program) (second : seen.Statement) → IsViewIn (map statement_of statements) program
-    → IsPattern program.pattern → slice_get statements 1 ≡ Some second → IsOutputOf (statement_of second) program.view → length statements ≤ 2
-    → AreOf (map statement_of statements) program
-form_of statements program second view pattern at output few =
-    let there : slice_get (map statement_of statements) 1 ≡ Some (statement_of second) =
-    slice_get-map statement_of statements 1 ∙ ap (option_map statement_of) at in record {
-      view = (view, pattern);
-      output = rw there output;
-      no_more = rw length-map few;
-    }
+use Rattle.aqlx_top.proofs.ProgramLaws.{only_many, only_deep, only_syntax, only_name, only_type, holds_program}
 
 -- the kinds of tokens are seen in two ways
 kinds_seen : (toks : List Tok) → kinds_of toks ≡ kinds_in (map token_of toks)
@@ -64,7 +44,7 @@ module _ (text : List ℕ) (toks : List Tok) (decided : IsDecided text) (reads :
   refused_sizes (Fault (Lex fault)) h = absurd h
   refused_sizes (Fault (Syntax fault)) h = absurd h
   refused_sizes (Fault (Name fault)) h = absurd h
-  refused_sizes (Fault (Unbuilt statement)) h = absurd h
+  refused_sizes (Fault (Typing statement place rule)) h = absurd h
   refused_sizes OutOfMemory h = absurd h
 
   module _ (within : IsWithinLimits (kinds_of toks)) (one : parsing.IsDecided (map token_of toks)) where
@@ -85,26 +65,15 @@ module _ (text : List ℕ) (toks : List Tok) (decided : IsDecided text) (reads :
       module _ (names : IsNameDecided trees) where
         pub built_from : (compiled : Compiled) → IsBuiltFrom trees compiled → IsCompiledFrom text compiled
         built_from compiled built = record {
-          program = built.formed.program;
-          holds = holds_program text trees built.formed.program decided held one names built.resolved built.formed.form;
-          is_compiled = built.formed.is_compiled;
+          holds = holds_program text trees built.order compiled.typed decided held one names built.resolved built.is_typed;
+          outputs = built.outputs;
         }
 
-        pub refused_form : (failure : Failure ProgramFault) → IsRefusedFor trees failure → HasCause text failure
+        pub refused_form : (failure : Failure ProgramFault) → IsRefusedFor (map token_of toks) trees failure → HasCause text failure
         refused_form (Fault (Name fault)) h = only_name text trees fault decided held one names h
-        refused_form (Fault (Unbuilt number)) h = only_unbuilt text trees number decided held one names h.0 h.1
+        refused_form (Fault (Typing statement place rule)) h = only_type text trees statement place rule decided held one names h
         refused_form (Fault (Large what number)) h = absurd h
         refused_form (Fault (Text place)) h = absurd h
         refused_form (Fault (Lex fault)) h = absurd h
         refused_form (Fault (Syntax fault)) h = absurd h
         refused_form OutOfMemory h = tt
-
--- a statement that isn't of the one form, where the names are resolved
-pub refused_for : (statements : List Statement) → HasOrder statements → (failure : Failure ProgramFault) → IsUnbuiltFor statements failure → IsRefusedFor statements failure
-refused_for statements order OutOfMemory h = tt
-refused_for statements order (Fault (Unbuilt number)) h = (order, h)
-refused_for statements order (Fault (Name fault)) h = absurd h
-refused_for statements order (Fault (Large what number)) h = absurd h
-refused_for statements order (Fault (Text place)) h = absurd h
-refused_for statements order (Fault (Lex fault)) h = absurd h
-refused_for statements order (Fault (Syntax fault)) h = absurd h

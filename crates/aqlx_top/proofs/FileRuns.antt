@@ -3,11 +3,9 @@ use Rattle.std.proofs.Common.{◌≡◌, ℕ, ◌+◌, ◌<◌, List, length, ta
 use Rattle.std.proofs.lemmas.List.{take_all, length-take}
 use Rattle.std.proofs.lemmas.Bool.{cases_lt}
 use Rattle.aql_io.specs.Bytes.{Names}
-use Rattle.row_values.specs.Outputs.{OutputNames}
 use Rattle.span_token.specs.Documents.{Doc}
 use Rattle.span_token.specs.declared.refusal.OutOfMemory.{OutOfMemory}
 use Rattle.aqlx_top.specs.Limits.{program_limit}
-use Rattle.aqlx_top.specs.declared.program.Compiled.{Compiled}
 use Rattle.aqlx_top.specs.declared.status.Status.{Status}
 use Rattle.aqlx_top.specs.declared.status.Status.TheVariants.{Done, Program as Refused, Usage, Corpus, ReadFault, WriteFault}
 use Rattle.aqlx_top.specs.declared.status.ProgramFault.{ProgramFault}
@@ -18,17 +16,11 @@ use Rattle.aqlx_top.specs.Endings.{InPart}
 use Rattle.aqlx_top.specs.Outcome.{IsReadAs, IsCalledFor, WroteFront, HasCauseOf, call_of}
 use Rattle.aqlx_top.specs.ProgramFaults.{HasOnlyFault, AreOneFault, HoldsProgram}
 use Rattle.aqlx_top.specs.ProgramFile.{IsFrontOf}
-use Rattle.aqlx_top.specs.Programs.{IsCompiled}
 use Rattle.aqlx_top.specs.Progress.{IsRunTo}
-use Rattle.aqlx_top.specs.Run.{Program, line_of, line_for}
+use Rattle.aqlx_top.specs.Run.{Program, line_of}
 use Rattle.aqlx_top.specs.Stages.{RanText, IsFileRunTo, IsFileInPart, IsTextRunTo, IsTextInPart}
 use Rattle.aqlx_top.specs.Words.{IsRun}
 use Rattle.aqlx_top.proofs.ProgramLaws.{only_large}
-
--- a compiled program means what the program does
-pub same_lines : (outputs : List OutputNames) (pattern : List ℕ) (compiled : Compiled) (program : Program) → IsCompiled compiled program
-    → outputs ≡ compiled.outputs.items → pattern ≡ compiled.pattern → line_for outputs pattern ≡ line_of program
-same_lines outputs pattern compiled program is_compiled o p = ap₂ line_for (o ∙ is_compiled.outputs_are) (p ∙ is_compiled.pattern_is)
 
 -- a program text that ran
 pub text_run : (text : List ℕ) (program : Program) (piece : Doc → List ℕ) (corpus : SourceEnds) (out : SinkEnds) (r : Result Status OutOfMemory)

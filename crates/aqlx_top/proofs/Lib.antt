@@ -5,10 +5,8 @@ pub mod FileLemmas
 pub mod Documents
 pub mod Readings
 pub mod Turns
-pub mod FormLaws
 pub mod ProgramLaws
 pub mod Compiling
 pub mod StatusLines
 pub mod Answers
 pub mod FileRuns
-pub mod FoundRows

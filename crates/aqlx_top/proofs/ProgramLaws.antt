@@ -14,15 +14,19 @@ use Rattle.aql_syntax.specs.Trees.{Statement}
 use Rattle.aql_syntax.specs.Programs.{AreTokensOf, placed_in}
 use Rattle.aqlx_top.specs.Limits.{program_limit}
 use Rattle.aqlx_top.specs.declared.status.ProgramFault.{ProgramFault}
-use Rattle.aqlx_top.specs.declared.status.ProgramFault.TheVariants.{Text, Large, Lex, Syntax, Name, Unbuilt}
+use Rattle.aqlx_top.specs.declared.status.ProgramFault.TheVariants.{Text, Large, Lex, Syntax, Name, Type as Typing}
 use Rattle.aqlx_top.specs.declared.status.What.TheVariants.{Bytes, Statements, Nesting}
-use Rattle.aqlx_top.specs.OneForm.{IsUnbuilt, AreOf}
-use Rattle.aqlx_top.specs.ProgramFaults.{HasFault, HasOnlyFault, HasOrder, AreOneFault, HasTooMany, IsTooDeep, HoldsProgram}
-use Rattle.view_graph.specs.Answers.{IsNameFault, IsNameDecided}
+use Rattle.aqlx_top.specs.ProgramFaults.{HasFault, HasOnlyFault, begin_of, IsMistyped, AreOneFault, HasTooMany, IsTooDeep, HoldsProgram}
+use Rattle.view_graph.specs.Answers.{IsNameFault, IsNameDecided, IsResolved}
+use Rattle.aql_types.specs.declared.fault.TypeFault.{TypeFault}
+use Rattle.aql_types.specs.declared.fault.TypeRule.{TypeRule}
+use Rattle.aql_types.specs.Faults.{first}
+use Rattle.aql_types.specs.Known.{known_of_program}
+use Rattle.aql_types.specs.Programs.{IsTyped, IsTypeFault, faults_of_program}
+use Rattle.aql_tables.specs.Programs.{lists_of}
 use Rattle.view_graph.specs.declared.fault.NameFault.{NameFault}
 use Rattle.aqlx_top.specs.ProgramTexts.{ReadsAs, IsWithinLimits, HoldsStatements}
-use Rattle.aqlx_top.specs.Run.{Program}
-use Rattle.aqlx_top.proofs.FormLaws.{one_unbuilt, form_is_built}
+use Rattle.aqlx_top.specs.Run.{Typed, program_of}
 
 -- ---- bytes and text
 
@@ -47,7 +51,7 @@ large_alone bytes large (Large Statements number) h = let small = h.1.small in a
 large_alone bytes large (Large Nesting number) h = let small = h.1.small in absurd (omega arith)
 large_alone bytes large (Syntax fault) h = let small = h.1.small in absurd (omega arith)
 large_alone bytes large (Name fault) h = let small = h.1.reads.small in absurd (omega arith)
-large_alone bytes large (Unbuilt number) h = let small = h.1.reads.small in absurd (omega arith)
+large_alone bytes large (Typing statement place rule) h = let small = h.1.reads.small in absurd (omega arith)
 
 pub only_large : (bytes : List ℕ) → program_limit < length bytes → HasOnlyFault bytes (Large Bytes (program_limit + 1))
 only_large bytes large = record { has = (large, refl); only = λ other h. inl (large_alone bytes large other h) }
@@ -61,7 +65,7 @@ text_alone bytes place small stops (Large Statements number) h = absurd (not_tex
 text_alone bytes place small stops (Large Nesting number) h = absurd (not_text bytes place h.1.text stops)
 text_alone bytes place small stops (Syntax fault) h = absurd (not_text bytes place h.1.text stops)
 text_alone bytes place small stops (Name fault) h = absurd (not_text bytes place h.1.reads.text stops)
-text_alone bytes place small stops (Unbuilt number) h = absurd (not_text bytes place h.1.reads.text stops)
+text_alone bytes place small stops (Typing statement place rule) h = absurd (not_text bytes place h.1.reads.text stops)
 
 pub only_text : (bytes : List ℕ) (place : ℕ) → length bytes ≤ program_limit → IsValidUpTo bytes place → HasOnlyFault bytes (Text place)
 only_text bytes place small stops = record { has = (small, stops); only = λ other h. inl (text_alone bytes place small stops other h) }
@@ -78,17 +82,17 @@ lex_alone bytes fault small text decided at (Large Statements number) h = absurd
 lex_alone bytes fault small text decided at (Large Nesting number) h = absurd (decided.not_both h.0 fault.place h.1.reading at)
 lex_alone bytes fault small text decided at (Syntax other) h = absurd (decided.not_both h.0 fault.place h.1.reading at)
 lex_alone bytes fault small text decided at (Name other) h = absurd (decided.not_both h.1.tokens fault.place h.1.reads.reading at)
-lex_alone bytes fault small text decided at (Unbuilt number) h = absurd (decided.not_both h.1.tokens fault.place h.1.reads.reading at)
+lex_alone bytes fault small text decided at (Typing statement place rule) h = absurd (decided.not_both h.1.tokens fault.place h.1.reads.reading at)
 
 pub only_lex : (bytes : List ℕ) (fault : LexFault) → length bytes ≤ program_limit → IsUtf8 bytes → IsDecided bytes → IsFault bytes fault.place
     → HasOnlyFault bytes (Lex fault)
 only_lex bytes fault small text decided at = record { has = (small, text, at); only = λ other h. inl (lex_alone bytes fault small text decided at other h) }
 
 -- what all faults of a text with these statements are: a fault of the statements
-abbrev pub HasStatementFault : List Statement → ProgramFault → Type 0
-HasStatementFault statements (Name fault) = IsNameFault statements fault
-HasStatementFault statements (Unbuilt number) = HasOrder statements × IsUnbuilt statements number
-HasStatementFault statements _ = ⊥
+abbrev pub HasStatementFault : List Token → List Statement → ProgramFault → Type 0
+HasStatementFault tokens statements (Name fault) = IsNameFault statements fault
+HasStatementFault tokens statements (Typing statement place rule) = IsMistyped tokens statements statement place rule
+HasStatementFault tokens statements _ = ⊥
 
 -- what all faults of a text with these tokens are: a fault of the tokens
 abbrev pub HasTokenFault : List ℕ → List Token → ProgramFault → Type 0
@@ -97,10 +101,10 @@ HasTokenFault bytes tokens (Large Nesting number) = IsTooDeep (kinds_in tokens) 
 HasTokenFault bytes tokens (Syntax fault) = IsWithinLimits (kinds_in tokens) × IsSyntaxFault tokens fault.statement fault.line
 HasTokenFault bytes tokens (Name fault) =
     IsWithinLimits (kinds_in tokens)
-    × ((statements : List Statement) × AreTokensOf (kinds_in tokens) statements × (placed_in (kinds_in tokens) statements ≡ statements) × HasStatementFault statements (Name fault))
-HasTokenFault bytes tokens (Unbuilt number) =
+    × ((statements : List Statement) × AreTokensOf (kinds_in tokens) statements × (placed_in (kinds_in tokens) statements ≡ statements) × HasStatementFault tokens statements (Name fault))
+HasTokenFault bytes tokens (Typing statement place rule) =
     IsWithinLimits (kinds_in tokens)
-    × ((statements : List Statement) × AreTokensOf (kinds_in tokens) statements × (placed_in (kinds_in tokens) statements ≡ statements) × HasStatementFault statements (Unbuilt number))
+    × ((statements : List Statement) × AreTokensOf (kinds_in tokens) statements × (placed_in (kinds_in tokens) statements ≡ statements) × HasStatementFault tokens statements (Typing statement place rule))
 HasTokenFault bytes tokens _ = ⊥
 
 same_tokens : (bytes : List ℕ) (tokens others : List Token) → IsDecided bytes → ReadsAs bytes tokens → ReadsAs bytes others → others ≡ tokens
@@ -120,9 +124,9 @@ token_fault bytes tokens decided reads (Syntax fault) h =
 token_fault bytes tokens decided reads (Name fault) h =
     subst (λ (ts : List Token). HasTokenFault bytes ts (Name fault)) (same_tokens bytes tokens h.1.tokens decided reads h.1.reads)
     (h.1.within, (h.0, h.1.trees, h.1.placed, h.2))
-token_fault bytes tokens decided reads (Unbuilt number) h =
-    subst (λ (ts : List Token). HasTokenFault bytes ts (Unbuilt number)) (same_tokens bytes tokens h.1.tokens decided reads h.1.reads)
-    (h.1.within, (h.0, h.1.trees, h.1.placed, (h.2, h.3)))
+token_fault bytes tokens decided reads (Typing statement place rule) h =
+    subst (λ (ts : List Token). HasTokenFault bytes ts (Typing statement place rule)) (same_tokens bytes tokens h.1.tokens decided reads h.1.reads)
+    (h.1.within, (h.0, h.1.trees, h.1.placed, h.2))
 
 -- ---- sizes
 
@@ -142,7 +146,7 @@ many_alone bytes tokens number many (Large Statements other) h = ap (Large State
 many_alone bytes tokens number many (Large Nesting other) h = let few = h.0 in let e = many.0 in let long = many.1 in absurd (omega arith)
 many_alone bytes tokens number many (Syntax fault) h = let few = h.0.statements in let e = many.0 in let long = many.1 in absurd (omega arith)
 many_alone bytes tokens number many (Name fault) h = let few = h.0.statements in let e = many.0 in let long = many.1 in absurd (omega arith)
-many_alone bytes tokens number many (Unbuilt other) h = let few = h.0.statements in let e = many.0 in let long = many.1 in absurd (omega arith)
+many_alone bytes tokens number many (Typing statement place rule) h = let few = h.0.statements in let e = many.0 in let long = many.1 in absurd (omega arith)
 many_alone bytes tokens number many (Text place) h = absurd h
 many_alone bytes tokens number many (Lex fault) h = absurd h
 many_alone bytes tokens number many (Large Bytes other) h = absurd h
@@ -153,7 +157,7 @@ deep_alone bytes tokens number deep (Large Statements other) h = let few = deep.
 deep_alone bytes tokens number deep (Large Nesting other) h = ap (Large Nesting) (one_nesting (kinds_in tokens) other number h.1 deep.1)
 deep_alone bytes tokens number deep (Syntax fault) h = absurd (not_deeper (kinds_in tokens) number h.0.nesting deep.1 deep.2)
 deep_alone bytes tokens number deep (Name fault) h = absurd (not_deeper (kinds_in tokens) number h.0.nesting deep.1 deep.2)
-deep_alone bytes tokens number deep (Unbuilt other) h = absurd (not_deeper (kinds_in tokens) number h.0.nesting deep.1 deep.2)
+deep_alone bytes tokens number deep (Typing statement place rule) h = absurd (not_deeper (kinds_in tokens) number h.0.nesting deep.1 deep.2)
 deep_alone bytes tokens number deep (Text place) h = absurd h
 deep_alone bytes tokens number deep (Lex fault) h = absurd h
 deep_alone bytes tokens number deep (Large Bytes other) h = absurd h
@@ -179,7 +183,7 @@ syntax_alone bytes tokens fault within decided found (Syntax other) h =
     let one = decided.one_fault other.statement fault.statement other.line fault.line h.1 found in
     ap₂ (λ (s l : ℕ). Syntax (record { statement = s; line = l })) one.0 one.1
 syntax_alone bytes tokens fault within decided found (Name other) h = absurd (decided.not_both h.1.0 fault.statement fault.line h.1.1 found)
-syntax_alone bytes tokens fault within decided found (Unbuilt number) h = absurd (decided.not_both h.1.0 fault.statement fault.line h.1.1 found)
+syntax_alone bytes tokens fault within decided found (Typing statement place rule) h = absurd (decided.not_both h.1.0 fault.statement fault.line h.1.1 found)
 syntax_alone bytes tokens fault within decided found (Text place) h = absurd h
 syntax_alone bytes tokens fault within decided found (Lex other) h = absurd h
 syntax_alone bytes tokens fault within decided found (Large Bytes number) h = absurd h
@@ -198,73 +202,90 @@ same_statements tokens xs ys one trees others placed put = sym put ∙ one.one_l
 
 -- what all faults of tokens with these statements are: a fault of the statements
 statement_fault : (bytes : List ℕ) (held : List Statement) (holds : HoldsStatements bytes held) → parsing.IsDecided holds.tokens
-    → (other : ProgramFault) → HasTokenFault bytes holds.tokens other → HasStatementFault held other
+    → (other : ProgramFault) → HasTokenFault bytes holds.tokens other → HasStatementFault holds.tokens held other
 statement_fault bytes held holds one (Large Statements number) h =
     let few = holds.within.statements in let e = h.0 in let long = h.1 in absurd (omega arith)
 statement_fault bytes held holds one (Large Nesting number) h = absurd (not_deeper (kinds_in holds.tokens) number holds.within.nesting h.1 h.2)
 statement_fault bytes held holds one (Syntax fault) h = absurd (one.not_both held fault.statement fault.line holds.trees h.1)
 statement_fault bytes held holds one (Name fault) h =
     let same : h.1.0 ≡ held = same_statements holds.tokens held h.1.0 one holds.trees h.1.1 holds.placed h.1.2 in
-    subst (λ (xs : List Statement). HasStatementFault xs (Name fault)) same h.1.3
-statement_fault bytes held holds one (Unbuilt number) h =
+    subst (λ (xs : List Statement). HasStatementFault holds.tokens xs (Name fault)) same h.1.3
+statement_fault bytes held holds one (Typing statement place rule) h =
     let same : h.1.0 ≡ held = same_statements holds.tokens held h.1.0 one holds.trees h.1.1 holds.placed h.1.2 in
-    subst (λ (xs : List Statement). HasStatementFault xs (Unbuilt number)) same h.1.3
+    subst (λ (xs : List Statement). HasStatementFault holds.tokens xs (Typing statement place rule)) same h.1.3
 statement_fault bytes held holds one (Text place) h = absurd h
 statement_fault bytes held holds one (Lex fault) h = absurd h
 statement_fault bytes held holds one (Large Bytes number) h = absurd h
 
 -- ---- names
 
-name_alone : (held : List Statement) (fault : NameFault) → IsNameDecided held → IsNameFault held fault
-    → (other : ProgramFault) → HasStatementFault held other → AreOneFault other (Name fault)
-name_alone held fault decided found (Name other) h =
+name_alone : (tokens : List Token) (held : List Statement) (fault : NameFault) → IsNameDecided held → IsNameFault held fault
+    → (other : ProgramFault) → HasStatementFault tokens held other → AreOneFault other (Name fault)
+name_alone tokens held fault decided found (Name other) h =
     elim (decided.one_fault other fault h found) [ inl same ↦ inl (ap Name same) | inr cycles ↦ inr cycles ]
-name_alone held fault decided found (Unbuilt number) h = absurd (decided.not_both h.0.0 fault h.0.1 found)
-name_alone held fault decided found (Large what number) h = absurd h
-name_alone held fault decided found (Syntax other) h = absurd h
-name_alone held fault decided found (Text place) h = absurd h
-name_alone held fault decided found (Lex other) h = absurd h
+name_alone tokens held fault decided found (Typing statement place rule) h = absurd (decided.not_both h.order fault h.resolved found)
+name_alone tokens held fault decided found (Large what number) h = absurd h
+name_alone tokens held fault decided found (Syntax other) h = absurd h
+name_alone tokens held fault decided found (Text place) h = absurd h
+name_alone tokens held fault decided found (Lex other) h = absurd h
 
 pub only_name : (bytes : List ℕ) (held : List Statement) (fault : NameFault) → IsDecided bytes → (holds : HoldsStatements bytes held) → parsing.IsDecided holds.tokens
     → IsNameDecided held → IsNameFault held fault → HasOnlyFault bytes (Name fault)
 only_name bytes held fault decided holds one names found = record {
   has = (held, holds, found);
-  only = λ other h. name_alone held fault names found other (statement_fault bytes held holds one other (token_fault bytes holds.tokens decided holds.reads other h));
+  only = λ other h. name_alone holds.tokens held fault names found other (statement_fault bytes held holds one other (token_fault bytes holds.tokens decided holds.reads other h));
 }
 
--- ---- the one form
+-- ---- types
 
-unbuilt_alone : (held : List Statement) (number : ℕ) → IsNameDecided held → HasOrder held → IsUnbuilt held number
-    → (other : ProgramFault) → HasStatementFault held other → other ≡ Unbuilt number
-unbuilt_alone held number decided order unbuilt (Name fault) h = absurd (decided.not_both order.0 fault order.1 h)
-unbuilt_alone held number decided order unbuilt (Unbuilt other) h = ap Unbuilt (one_unbuilt held other number h.1 unbuilt)
-unbuilt_alone held number decided order unbuilt (Large what other) h = absurd h
-unbuilt_alone held number decided order unbuilt (Syntax other) h = absurd h
-unbuilt_alone held number decided order unbuilt (Text place) h = absurd h
-unbuilt_alone held number decided order unbuilt (Lex other) h = absurd h
+the_first : {X : Type 0} (xs : List X) (x y : X) → first xs ≡ Some x → first xs ≡ Some y → y ≡ x
+the_first xs x y a b = Some-injective (sym b ∙ a)
 
-pub only_unbuilt : (bytes : List ℕ) (held : List Statement) (number : ℕ) → IsDecided bytes → (holds : HoldsStatements bytes held) → parsing.IsDecided holds.tokens
-    → IsNameDecided held → HasOrder held → IsUnbuilt held number → HasOnlyFault bytes (Unbuilt number)
-only_unbuilt bytes held number decided holds one names order unbuilt = record {
-  has = (held, holds, order, unbuilt);
-  only = λ other h. inl (unbuilt_alone held number names order unbuilt other (statement_fault bytes held holds one other (token_fault bytes holds.tokens decided holds.reads other h)));
+type_alone : (tokens : List Token) (held : List Statement) (number place : ℕ) (rule : TypeRule) → IsNameDecided held → IsMistyped tokens held number place rule
+    → (other : ProgramFault) → HasStatementFault tokens held other → other ≡ Typing number place rule
+type_alone tokens held number place rule decided found (Name fault) h = absurd (decided.not_both found.order fault found.resolved h)
+type_alone tokens held number place rule decided found (Typing other_number other_place other_rule) h =
+    let order : h.order ≡ found.order = decided.one_order h.order found.order h.resolved found.resolved in
+    let fault : h.fault ≡ found.fault =
+    the_first (faults_of_program (known_of_program held) held found.order) found.fault h.fault found.first
+    (subst (λ (o : List ℕ). IsTypeFault (known_of_program held) held o h.fault) order h.first) in
+    let a : other_number ≡ number = h.statement_is ∙ ap (λ (f : TypeFault). f.statement) fault ∙ sym found.statement_is in
+    let b : other_place ≡ place = h.place_is ∙ ap (λ (f : TypeFault). begin_of tokens f.place) fault ∙ sym found.place_is in
+    let r : other_rule ≡ rule = h.rule_is ∙ ap (λ (f : TypeFault). f.rule) fault ∙ sym found.rule_is in
+    ap (λ (n : ℕ). Typing n other_place other_rule) a ∙ ap (λ (n : ℕ). Typing number n other_rule) b ∙ ap (Typing number place) r
+type_alone tokens held number place rule decided found (Large what other) h = absurd h
+type_alone tokens held number place rule decided found (Syntax other) h = absurd h
+type_alone tokens held number place rule decided found (Text other) h = absurd h
+type_alone tokens held number place rule decided found (Lex other) h = absurd h
+
+pub only_type : (bytes : List ℕ) (held : List Statement) (number place : ℕ) (rule : TypeRule) → IsDecided bytes → (holds : HoldsStatements bytes held)
+    → parsing.IsDecided holds.tokens → IsNameDecided held → IsMistyped holds.tokens held number place rule → HasOnlyFault bytes (Typing number place rule)
+only_type bytes held number place rule decided holds one names found = record {
+  has = (held, holds, found);
+  only = λ other h. inl (type_alone holds.tokens held number place rule names found other (statement_fault bytes held holds one other (token_fault bytes holds.tokens decided holds.reads other h)));
 }
 
-faultless_form : (held : List Statement) (program : Program) → IsNameDecided held → HasOrder held → AreOf held program
-    → (other : ProgramFault) → HasStatementFault held other → ⊥
-faultless_form held program decided order form (Name fault) h = decided.not_both order.0 fault order.1 h
-faultless_form held program decided order form (Unbuilt number) h = form_is_built held program number form h.1
-faultless_form held program decided order form (Large what number) h = h
-faultless_form held program decided order form (Syntax other) h = h
-faultless_form held program decided order form (Text place) h = h
-faultless_form held program decided order form (Lex other) h = h
+faultless : (tokens : List Token) (held : List Statement) (order : List ℕ) → IsNameDecided held → IsResolved held order → faults_of_program (known_of_program held) held order ≡ []
+    → (other : ProgramFault) → HasStatementFault tokens held other → ⊥
+faultless tokens held order decided resolved no_fault (Name fault) h = decided.not_both order fault resolved h
+faultless tokens held order decided resolved no_fault (Typing number place rule) h =
+    let same : h.order ≡ order = decided.one_order h.order order h.resolved resolved in
+    let found : first (faults_of_program (known_of_program held) held order) ≡ Some h.fault = subst (λ (o : List ℕ). IsTypeFault (known_of_program held) held o h.fault) same h.first in
+    None-not-Some (sym (ap first no_fault) ∙ found)
+faultless tokens held order decided resolved no_fault (Large what number) h = h
+faultless tokens held order decided resolved no_fault (Syntax other) h = h
+faultless tokens held order decided resolved no_fault (Text place) h = h
+faultless tokens held order decided resolved no_fault (Lex other) h = h
 
-pub holds_program : (bytes : List ℕ) (held : List Statement) (program : Program) → IsDecided bytes → (holds : HoldsStatements bytes held) → parsing.IsDecided holds.tokens
-    → IsNameDecided held → HasOrder held → AreOf held program → HoldsProgram bytes program
-holds_program bytes held program decided holds one names order form = record {
+pub holds_program : (bytes : List ℕ) (held : List Statement) (order : List ℕ) (typed : Typed) → IsDecided bytes → (holds : HoldsStatements bytes held) → parsing.IsDecided holds.tokens
+    → IsNameDecided held → IsResolved held order → IsTyped (known_of_program held) (lists_of held) held order typed → HoldsProgram bytes (program_of typed)
+holds_program bytes held order typed decided holds one names resolved is_typed = record {
   statements = held;
   holds = holds;
-  resolved = order;
-  form = form;
-  faultless = λ fault h. faultless_form held program names order form fault (statement_fault bytes held holds one fault (token_fault bytes holds.tokens decided holds.reads fault h));
+  order = order;
+  resolved = resolved;
+  typed = typed;
+  is_typed = is_typed;
+  program_is = refl;
+  faultless = λ fault h. faultless holds.tokens held order names resolved is_typed.faultless fault (statement_fault bytes held holds one fault (token_fault bytes holds.tokens decided holds.reads fault h));
 }

@@ -4,6 +4,7 @@ pub mod Words
 -- what a call did to its objects
 pub mod Devices
 -- statuses and their lines on standard error
+pub mod TypeTexts
 pub mod Statuses
 -- what was taken from the corpus, and how a run ends
 pub mod Taken
@@ -12,7 +13,6 @@ pub mod Endings
 pub mod Run
 -- what a program file holds, and its faults
 pub mod Limits
-pub mod OneForm
 pub mod ProgramTexts
 pub mod ProgramFaults
 -- what the top call promises
@@ -21,6 +21,8 @@ pub mod Outcome
 -- what is read of a program file, and what it is compiled to
 pub mod ProgramFile
 pub mod Programs
+-- the rows that outputs show
+pub mod Shown
 -- a run under way
 pub mod Prefixes
 pub mod Progress

@@ -1,5 +1,5 @@
 -- The faults of a program file's bytes, each with its exact cause.
-use Rattle.std.specs.Prelude.{◌≡◌, ℕ, ◌+◌, ◌<◌, ◌≤◌, ◌⊎◌, List, length, ⊤}
+use Rattle.std.specs.Prelude.{◌≡◌, ℕ, ◌+◌, ◌<◌, ◌≤◌, ◌⊎◌, List, length, map, slice_index_or, ⊤}
 use Rattle.std.specs.Str.{IsUtf8, IsValidUpTo}
 use Rattle.span_token.specs.declared.refusal.Failure.{Failure}
 use Rattle.span_token.specs.declared.refusal.Failure.TheVariants.{OutOfMemory, Fault}
@@ -11,11 +11,15 @@ use Rattle.aql_parser.specs.Faults.{kinds_in, IsSyntaxFault}
 use Rattle.aql_parser.specs.Nesting.{IsNesting, nesting_limit}
 use Rattle.aqlx_top.specs.Limits.{program_limit, statement_limit}
 use Rattle.aqlx_top.specs.declared.status.ProgramFault.{ProgramFault}
-use Rattle.aqlx_top.specs.declared.status.ProgramFault.TheVariants.{Text, Large, Lex, Syntax, Name, Unbuilt}
+use Rattle.aqlx_top.specs.declared.status.ProgramFault.TheVariants.{Text, Large, Lex, Syntax, Name, Type as Typing}
 use Rattle.aqlx_top.specs.declared.status.What.TheVariants.{Bytes, Statements, Nesting}
-use Rattle.aqlx_top.specs.OneForm.{IsUnbuilt, AreOf}
 use Rattle.aqlx_top.specs.ProgramTexts.{ReadsAs, IsWithinLimits, HoldsStatements}
-use Rattle.aqlx_top.specs.Run.{Program}
+use Rattle.aqlx_top.specs.Run.{Program, Typed, program_of}
+use Rattle.aql_types.specs.declared.fault.TypeFault.{TypeFault}
+use Rattle.aql_types.specs.declared.fault.TypeRule.{TypeRule}
+use Rattle.aql_types.specs.Known.{known_of_program}
+use Rattle.aql_types.specs.Programs.{IsTyped, IsTypeFault}
+use Rattle.aql_tables.specs.Programs.{lists_of}
 use Rattle.view_graph.specs.Answers.{IsNameFault, IsResolved, IsCycleFault}
 
 -- more statements than a program may have
@@ -26,9 +30,19 @@ HasTooMany kinds number = (number ≡ length (runs_of kinds)) × (statement_limi
 abbrev pub IsTooDeep : List Kind → ℕ → Type 0
 IsTooDeep kinds number = (length (runs_of kinds) ≤ statement_limit) × IsNesting kinds number × (nesting_limit < number)
 
--- the names of the statements are resolved: the views have an order
-abbrev pub HasOrder : List Statement → Type 0
-HasOrder statements = (order : List ℕ) × IsResolved statements order
+-- the byte at which the token with this number begins
+abbrev pub begin_of : List Token → ℕ → ℕ
+begin_of tokens number = slice_index_or (map (λ token. token.begin) tokens) number 0
+
+-- the names are resolved, and a rule of types is broken in that statement, by a part whose first token begins at that byte
+pub record IsMistyped (tokens : List Token) (statements : List Statement) (statement place : ℕ) (rule : TypeRule) : Type 0 where
+  pub order : List ℕ
+  pub resolved : IsResolved statements order
+  pub fault : TypeFault
+  pub first : IsTypeFault (known_of_program statements) statements order fault
+  pub statement_is : statement ≡ fault.statement
+  pub place_is : place ≡ begin_of tokens fault.place
+  pub rule_is : rule ≡ fault.rule
 
 -- the bytes of a program file have the fault
 abbrev pub HasFault : List ℕ → ProgramFault → Type 0
@@ -40,8 +54,8 @@ HasFault bytes (Large Nesting number) = (tokens : List Token) × ReadsAs bytes t
 HasFault bytes (Syntax fault) =
     (tokens : List Token) × ReadsAs bytes tokens × IsWithinLimits (kinds_in tokens) × IsSyntaxFault tokens fault.statement fault.line
 HasFault bytes (Name fault) = (statements : List Statement) × HoldsStatements bytes statements × IsNameFault statements fault
-HasFault bytes (Unbuilt number) =
-    (statements : List Statement) × HoldsStatements bytes statements × HasOrder statements × IsUnbuilt statements number
+HasFault bytes (Typing statement place rule) =
+    (statements : List Statement) × (holds : HoldsStatements bytes statements) × IsMistyped holds.tokens statements statement place rule
 
 -- both are cycles
 abbrev pub AreCycles : ProgramFault → ProgramFault → Type 0
@@ -76,6 +90,9 @@ IsFaultless bytes = (fault : ProgramFault) → ¬ (HasFault bytes fault)
 pub record HoldsProgram (bytes : List ℕ) (program : Program) : Type 0 where
   pub statements : List Statement
   pub holds : HoldsStatements bytes statements
-  pub resolved : HasOrder statements
-  pub form : AreOf statements program
+  pub order : List ℕ
+  pub resolved : IsResolved statements order
+  pub typed : Typed
+  pub is_typed : IsTyped (known_of_program statements) (lists_of statements) statements order typed
+  pub program_is : program ≡ program_of typed
   pub faultless : IsFaultless bytes

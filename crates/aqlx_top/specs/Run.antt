@@ -1,47 +1,59 @@
--- What a program of one view means on a corpus, and how a run of it ends.
-use Rattle.std.specs.Prelude.{◌≡◌, ℕ, List, [], ◌∷◌, map, Option, None, Some}
-use Rattle.span_token.specs.Documents.{Doc, whole_of}
-use Rattle.span_token.specs.Extents.{Extent}
-use Rattle.row_values.specs.Datums.{Datum, null, span}
+-- What a program means on a corpus, and how a run of it ends.
+use Rattle.std.specs.Prelude.{ℕ, List, [], ◌∷◌, map, slice_index_or, codes, Option, None, Some}
+use Rattle.span_token.specs.Documents.{Doc}
+use Rattle.row_values.specs.Datums.{Datum}
 use Rattle.row_values.specs.Outputs.{OutputNames}
-use Rattle.aql_regex_extract.specs.Matches.{match_rows}
+use Rattle.scalar_ops.specs.Tables.{Lists}
 use Rattle.corpus_json.specs.Outputs.{output_line}
+use Rattle.aql_typed.specs.declared.tree.TypedView.{TypedView}
+use Rattle.aql_typed.specs.declared.tree.Output.{Output}
+use Rattle.aql_typed.specs.Trees.{Query}
+use Rattle.aql_typed.specs.Views.{body_of}
+use Rattle.aql_typed.specs.Programs.{column_names}
+use Rattle.aql_typed.specs.Meaning.{output_rows}
 use Rattle.aqlx_top.specs.declared.status.Status.{Status}
 use Rattle.aqlx_top.specs.Devices.{SourceEnds, SinkEnds}
 use Rattle.aqlx_top.specs.Endings.{Came, InPart}
 
--- a program of one view: its name, its pattern, and the name of its one column
+-- a program: its outputs with their columns, the view that each of them shows, or the document, the bodies of its views,
+-- and its patterns and dictionaries
 pub record Program : Type 0 where
-  pub view : List ℕ
-  pub pattern : List ℕ
-  pub column : List ℕ
+  pub outputs : List OutputNames
+  pub shown : List (Option ℕ)
+  pub bodies : List Query
+  pub lists : Lists
 
--- an extent as a value; a group that takes no part is Null
-abbrev pub extent_datum : Option Extent → Datum
-extent_datum None = null
-extent_datum (Some extent) = span extent
+-- a typed program: its views, its patterns and dictionaries, its outputs
+abbrev pub Typed : Type 0
+Typed = List TypedView × (Lists × List Output)
 
--- the rows of a pattern on a document: its successive matches in the whole text, each as its span
-abbrev pub rows_for : List ℕ → Doc → List (List Datum)
-rows_for pattern document = map (map extent_datum) (match_rows pattern document (whole_of document) (0 ∷ []))
+-- the names of the columns of a view; the document has one
+abbrev pub columns_shown : List TypedView → Option ℕ → List (List ℕ)
+columns_shown views None = codes "text" ∷ []
+columns_shown views (Some n) = slice_index_or (map column_names views) n []
 
--- the line that is written for a document: the rows of a pattern's matches in its whole text, under an output of one column
-abbrev pub line_for : List OutputNames → List ℕ → Doc → List ℕ
-line_for outputs pattern document = output_line document outputs (rows_for pattern document ∷ [])
+abbrev pub names_of : List TypedView → Output → OutputNames
+names_of views out = record { name = out.name; columns = columns_shown views out.view }
 
--- the program's one output
-abbrev pub output_of : Program → OutputNames
-output_of program = record { name = program.view; columns = program.column ∷ [] }
+-- the outputs of a typed program with their columns
+abbrev pub outputs_of : Typed → List OutputNames
+outputs_of typed = map (names_of typed.0) typed.1.1
+
+abbrev pub program_of : Typed → Program
+program_of typed = record {
+  outputs = outputs_of typed;
+  shown = map (λ out. out.view) typed.1.1;
+  bodies = map body_of typed.0;
+  lists = typed.1.0;
+}
+
+-- the rows of each output on a document
+abbrev pub rows_for : Program → Doc → List (List (List Datum))
+rows_for program document = map (output_rows program.lists document program.bodies) program.shown
 
 -- the line that a program means on a document
 abbrev pub line_of : Program → Doc → List ℕ
-line_of program = line_for (output_of program ∷ []) program.pattern
-
--- the outputs are one of one column
-pub record IsOneColumn (outputs : List OutputNames) : Type 0 where
-  pub name : List ℕ
-  pub column : List ℕ
-  pub outputs_are : outputs ≡ (record { name = name; columns = column ∷ [] }) ∷ []
+line_of program document = output_line document program.outputs (rows_for program document)
 
 -- a run of a program that came to this status
 abbrev pub Ran : Program → SourceEnds → SinkEnds → Status → Type 0

@@ -6,12 +6,13 @@ use Rattle.aqlx_top.specs.Devices.{SinkEnds, Gained, HasSent, IsUntouched}
 use Rattle.aqlx_top.specs.declared.status.Status.{Status}
 use Rattle.aqlx_top.specs.declared.status.Status.TheVariants.{Done, Program, Usage, Corpus, ReadFault, WriteFault}
 use Rattle.aqlx_top.specs.declared.status.ProgramFault.{ProgramFault}
-use Rattle.aqlx_top.specs.declared.status.ProgramFault.TheVariants.{Text, Large, Lex, Syntax, Name, Unbuilt}
+use Rattle.aqlx_top.specs.declared.status.ProgramFault.TheVariants.{Text, Large, Lex, Syntax, Name, Type as Typing}
 use Rattle.aqlx_top.specs.declared.status.What.{What}
 use Rattle.aqlx_top.specs.declared.status.What.TheVariants.{Bytes, Statements, Nesting}
 use Rattle.aqlx_top.specs.declared.status.CorpusFault.{CorpusFault}
 use Rattle.aqlx_top.specs.declared.status.CorpusFault.TheVariants.{BadLine, LineLong, CorpusLarge}
 use Rattle.view_graph.specs.declared.fault.NameFault.{NameFault}
+use Rattle.aqlx_top.specs.TypeTexts.{rule_text}
 use Rattle.view_graph.specs.declared.fault.NameFault.TheVariants.{DuplicateName, UnknownView, UnknownDictionary, DuplicateOutput, Cycle}
 
 -- the exit status
@@ -58,7 +59,7 @@ program_text (Large what number) = codes "program too large: " ++ what_text what
 program_text (Lex fault) = codes "no token at byte " ++ decimal fault.place
 program_text (Syntax fault) = codes "syntax: statement " ++ decimal fault.statement ++ codes ", line " ++ decimal fault.line
 program_text (Name fault) = name_text fault
-program_text (Unbuilt statement) = statement_text statement (codes "not built yet")
+program_text (Typing statement place rule) = codes "statement " ++ decimal statement ++ codes ", byte " ++ decimal place ++ codes ": " ++ rule_text rule
 
 abbrev pub corpus_text : CorpusFault → List ℕ
 corpus_text (BadLine line) = codes "corpus line " ++ decimal line ++ codes " is not a document"

@@ -4,6 +4,7 @@ use Rattle.span_token.specs.Documents.{Doc}
 use Rattle.span_token.specs.declared.refusal.OutOfMemory.{OutOfMemory}
 use Rattle.corpus_json.specs.Reading.{Reading}
 use Rattle.row_values.specs.Outputs.{OutputNames}
+use Rattle.scalar_ops.specs.Tables.{Lists}
 use Rattle.aqlx_top.specs.declared.run.Work.{Work}
 use Rattle.aqlx_top.specs.declared.run.Turn.{Turn}
 use Rattle.aqlx_top.specs.declared.run.Turn.TheVariants.{Next, Ended}
@@ -18,9 +19,9 @@ Turned piece corpus before now reading pending number (Ok (Ended status)) = Fini
 Turned piece corpus before now reading pending number (Err _) = InPart piece corpus before now
 
 -- a run at its beginning: nothing is read, looked at or pending
-pub record Begins (work : Work) (outputs : List OutputNames) (pattern : List ℕ) : Type 0 where
+pub record Begins (work : Work) (outputs : List OutputNames) (lists : Lists) : Type 0 where
   pub outputs_are : work.layout ≡ outputs
-  pub searches : work.searcher ≡ pattern
+  pub tables : work.tools ≡ lists
   pub reader : work.reader ≡ record { ready = []; taken = 0; last = None }
   pub pending : work.pending.items ≡ []
   pub number : work.number ≡ 0
@@ -28,6 +29,6 @@ pub record Begins (work : Work) (outputs : List OutputNames) (pattern : List ℕ
 -- what sending leaves alone
 pub record IsKept (before now : Work) : Type 0 where
   pub layout : now.layout ≡ before.layout
-  pub searcher : now.searcher ≡ before.searcher
+  pub tools : now.tools ≡ before.tools
   pub reader : now.reader ≡ before.reader
   pub number : now.number ≡ before.number

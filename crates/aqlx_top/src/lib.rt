@@ -8,22 +8,24 @@
 #![tactic(auto)]
 
 mod answer;
-mod extraction;
 mod limits;
-mod one_form;
+mod outputs;
 mod program;
 mod program_file;
 mod program_text;
 mod put;
 mod run;
 mod status;
+mod stub;
 mod status_line;
 mod top;
+mod type_line;
 mod words;
 
 pub use aql_lexer::LexFault;
 pub use aql_parser::SyntaxFault;
 pub use limits::{PROGRAM_LIMIT, STATEMENT_LIMIT};
+pub use aql_types::TypeRule;
 pub use status::{CorpusFault, ProgramFault, Status, What};
 pub use top::aqlx;
 pub use view_graph::NameFault;

@@ -1,30 +1,32 @@
-ghost use Rattle.std.specs.Prelude.{◌≡◌, [], ◌∷◌, ◌≤◌, All, IfErr, IfOk, IfNone, IfSome, length, map};
+ghost use Rattle.std.specs.Prelude.{◌≡◌, ◌≤◌, All, IfErr, IfOk, length, map};
 ghost use Rattle.std.specs.Str.{IsUtf8};
+ghost use Rattle.aql_lexer.specs.Kinds.{token_of};
 ghost use Rattle.aql_syntax.specs.Shapes.{IsFormed};
 ghost use Rattle.aql_syntax.specs.Views.{statement_of};
 ghost use Rattle.aqlx_top.specs.Limits.{program_limit};
-ghost use Rattle.aqlx_top.specs.OneForm.{IsViewIn};
-ghost use Rattle.aqlx_top.specs.ProgramFaults.{HasCause};
-ghost use Rattle.aqlx_top.specs.Programs.{IsBuiltFrom, IsCompiledFrom, IsFormedFrom, IsRefusedFor, IsUnbuiltFor, program_of};
-ghost use Rattle.view_graph.specs.Answers.{IsNameDecided};
-ghost use Rattle.aqlx_top.specs.Run.{Program, output_of};
+ghost use Rattle.aqlx_top.specs.ProgramFaults.{HasCause, begin_of};
+ghost use Rattle.aqlx_top.specs.Programs.{IsBuiltFrom, IsCompiledFrom, IsRefusedFor};
+ghost use Rattle.view_graph.specs.Answers.{IsNameDecided, IsResolved};
 
 use crate::ProgramFault;
-use crate::one_form::{Parts, is_output_of, view_of};
+use crate::outputs::outputs_of;
 use crate::program_text::{check_sizes, text_of, tokens_of};
+use crate::stub::check;
+use aql_lexer::Tok;
 use aql_parser::parse;
-use aql_regex_extract::{Pattern, compile_pattern};
 use aql_syntax::Statement;
+use aql_typed::Typed;
+use aql_types::TypeFault;
 use row_values::Output;
-use span_token::{Failure, OutOfMemory, OwnedList, OwnedText};
+use span_token::Failure;
 use std::alloc::Global;
-use view_graph::resolve;
+use view_graph::{Graph, resolve};
 
-/// A program of one view, ready to run: its output and its compiled pattern.
+/// A program, ready to run: typed, with its outputs as they are written.
 #[derive(Drop)]
 pub(crate) struct Compiled {
+    pub typed: Typed,
     pub outputs: Vec<Output>,
-    pub pattern: Pattern,
 }
 
 /// The program that a file's bytes hold, or their fault.
@@ -45,72 +47,62 @@ fn compile_text(alloc: Global, text: &str) -> Result<Compiled, Failure<ProgramFa
     let toks = tokens_of(alloc, text)?;
     check_sizes(&toks)?;
     match parse(alloc, &toks) {
-        Ok(statements) => build(alloc, statements),
+        Ok(statements) => build(alloc, &toks, statements),
         Err(Failure::Fault(fault)) => Err(Failure::Fault(ProgramFault::Syntax(fault))),
         Err(Failure::OutOfMemory) => Err(Failure::OutOfMemory),
     }
 }
 
-/// The program of these statements, or the fault of their names, or the first statement that keeps them
-/// from being of the one form.
-fn build(alloc: Global, statements: Vec<Statement>) -> Result<Compiled, Failure<ProgramFault>>
+/// The program of these statements, or the fault of their names or types.
+fn build(
+    alloc: Global,
+    toks: &[Tok],
+    statements: Vec<Statement>,
+) -> Result<Compiled, Failure<ProgramFault>>
     requires formed { All IsFormed (map statement_of statements.items) }
     ensures built { IfOk result (IsBuiltFrom (map statement_of statements.items)) }
-    ensures fault { IfErr result (IsRefusedFor (map statement_of statements.items)) }
+    ensures fault { IfErr result (IsRefusedFor (map token_of toks.now) (map statement_of statements.items)) }
     ensures decided { IsNameDecided (map statement_of statements.items) }
 {
     match resolve(alloc, statements) {
-        Ok(graph) => build_form(alloc, graph.statements()),
+        Ok(graph) => typed(alloc, toks, &graph),
         Err(Failure::Fault(fault)) => Err(Failure::Fault(ProgramFault::Name(fault))),
         Err(Failure::OutOfMemory) => Err(Failure::OutOfMemory),
     }
 }
 
-/// The program of these statements, or the first statement that keeps them from being of the one form.
-fn build_form(alloc: Global, statements: &[Statement]) -> Result<Compiled, Failure<ProgramFault>>
-    ensures built { IfOk result (IsFormedFrom (map statement_of statements.now)) }
-    ensures fault { IfErr result (IsUnbuiltFor (map statement_of statements.now)) }
+/// The program of a graph, or the fault of its types.
+fn typed(alloc: Global, toks: &[Tok], graph: &Graph) -> Result<Compiled, Failure<ProgramFault>>
+    requires resolved { IsResolved (map statement_of graph.now.0) graph.now.1 }
+    ensures built { IfOk result (IsBuiltFrom (map statement_of graph.now.0)) }
+    ensures fault { IfErr result (IsRefusedFor (map token_of toks.now) (map statement_of graph.now.0)) }
 {
-    let Some(parts) = first_view(statements) else {
-        return Err(unbuilt(1));
-    };
-    let pattern = match compile_pattern(alloc, parts.pattern) {
-        Ok(pattern) => pattern,
-        Err(Failure::Fault(_)) => return Err(unbuilt(1)),
-        Err(Failure::OutOfMemory) => return Err(Failure::OutOfMemory),
-    };
-    match statements.get(1) {
-        Some(second) if is_output_of(second, parts.view) => {}
-        _ => return Err(unbuilt(2)),
+    match check(alloc, graph) {
+        Ok(typed) => {
+            let outputs = outputs_of(alloc, &typed)?;
+            Ok(Compiled { typed, outputs })
+        }
+        Err(Failure::Fault(fault)) => Err(Failure::Fault(placed(toks, fault))),
+        Err(Failure::OutOfMemory) => Err(Failure::OutOfMemory),
     }
-    if statements.len() > 2 {
-        return Err(unbuilt(3));
+}
+
+/// The fault with the byte at which its part begins.
+fn placed(toks: &[Tok], fault: TypeFault) -> ProgramFault
+    ensures { result ≡ ProgramFault.Type fault.statement (begin_of (map token_of toks.now) fault.place) fault.rule }
+{
+    let TypeFault {
+        statement,
+        place,
+        rule,
+    } = fault;
+    let place = match toks.get(place as usize) {
+        Some(tok) => tok.begin,
+        None => 0,
+    };
+    ProgramFault::Type {
+        statement,
+        place,
+        rule,
     }
-    let outputs = one_output(alloc, parts)?;
-    Ok(Compiled { outputs, pattern })
-}
-
-fn unbuilt(statement: u32) -> Failure<ProgramFault>
-    ensures { result ≡ Failure.Fault (ProgramFault.Unbuilt statement) }
-{
-    Failure::Fault(ProgramFault::Unbuilt { statement })
-}
-
-/// The parts of statement 1, where it is a view of the one form.
-fn first_view(statements: &[Statement]) -> Option<Parts<'_>>
-    ensures found { IfSome result (λ parts. IsViewIn (map statement_of statements.now) (program_of parts)) }
-    ensures none { IfNone result ((program : Program) → ¬ (IsViewIn (map statement_of statements.now) program)) }
-{
-    view_of(statements.first()?)
-}
-
-fn one_output(alloc: Global, parts: Parts<'_>) -> Result<Vec<Output>, OutOfMemory>
-    ensures { IfOk result (λ outputs. outputs.items ≡ output_of (program_of parts.entry) ∷ []) }
-{
-    let mut columns = OwnedList::new(alloc);
-    columns.push(OwnedText::copied(alloc, parts.column)?)?;
-    let output = Output::new(OwnedText::copied(alloc, parts.view)?, columns)?;
-    let mut outputs = Vec::new(alloc);
-    outputs.push(output)?;
-    Ok(outputs)
 }

@@ -4,17 +4,18 @@ ghost use Rattle.span_token.specs.Documents.{Doc};
 ghost use Rattle.aqlx_top.specs.Devices.{SourceEnds, source_ends, sink_ends, source_between, sink_between};
 ghost use Rattle.aqlx_top.specs.Endings.{InPart};
 ghost use Rattle.aqlx_top.specs.Progress.{Stands, Finished, IsGoing, IsRunTo};
-ghost use Rattle.aqlx_top.specs.Run.{line_for, IsOneColumn};
+ghost use Rattle.aqlx_top.specs.Run.{line_of, outputs_of, program_of};
 ghost use Rattle.aqlx_top.specs.Turns.{Turned, Begins, IsKept};
 
 use crate::answer::answer;
 use crate::put::{put, put_and_flush};
 use crate::{CorpusFault, Status};
 use aql_io::{Failed, Sink, Source};
-use aql_regex_extract::{Pattern, Searcher};
+use aql_typed::Typed;
 use corpus_json::{Layout, LineBuffer, Step};
 use row_values::Output;
-use span_token::{OutOfMemory, Span};
+use scalar_ops::Tools;
+use span_token::OutOfMemory;
 use std::alloc::Global;
 
 /// How many bytes of output are held before they are written.
@@ -27,8 +28,7 @@ pub(crate) struct Work<'p> {
     pub reader: LineBuffer,
     pub line: Vec<u8>,
     pub number: u64,
-    pub searcher: Searcher<'p>,
-    pub found: Vec<Option<Span>>,
+    pub tools: Tools<'p>,
     pub pending: Vec<u8>,
 }
 
@@ -38,30 +38,30 @@ pub(crate) enum Turn {
     Ended(Status),
 }
 
-/// Runs a pattern over a corpus: writes the line of each document, until a line is bad, the corpus
+/// Runs a program over a corpus: writes the line of each document, until a line is bad, the corpus
 /// ends, or it can't be read or written any more. What is written is flushed at the end.
 pub(crate) fn run<S: Source, O: Sink>(
     alloc: Global,
+    typed: &Typed,
     outputs: &[Output],
-    pattern: &Pattern,
     corpus: &mut S,
     out: &mut O,
 ) -> Result<Status, OutOfMemory>
-    requires one { IsOneColumn outputs.now }
-    ensures ran { IfOk result (IsRunTo (line_for outputs.now pattern.now)
+    requires outputs { outputs.now ≡ outputs_of typed.now }
+    ensures ran { IfOk result (IsRunTo (line_of (program_of typed.now))
         (source_between S.left S.faults corpus.old corpus.new)
         (sink_between O.held O.flushed O.faults out.old out.new)) }
-    ensures part { OnErr result (InPart (line_for outputs.now pattern.now)
+    ensures part { OnErr result (InPart (line_of (program_of typed.now))
         (source_between S.left S.faults corpus.old corpus.new)
         (O.held out.old) (O.held out.new)) }
 {
-    let mut work = begin(alloc, outputs, pattern)?;
+    let mut work = begin(alloc, typed, outputs)?;
     'lines: loop {
         match send_in_time(out, &mut work) {
             Ok(()) => {}
             Err(Failed) => return Ok(Status::WriteFault),
         }
-        match take_turn(alloc, &mut work, corpus)? {
+        match take_turn(alloc, typed, &mut work, corpus)? {
             Turn::Next => {}
             Turn::Ended(status) => return Ok(finish(out, &work.pending, status)),
         }
@@ -70,18 +70,17 @@ pub(crate) fn run<S: Source, O: Sink>(
 
 fn begin<'p>(
     alloc: Global,
+    typed: &'p Typed,
     outputs: &'p [Output],
-    pattern: &'p Pattern,
 ) -> Result<Work<'p>, OutOfMemory>
-    ensures { IfOk result (λ work. Begins work outputs.now pattern.now) }
+    ensures { IfOk result (λ work. Begins work outputs.now typed.now.1.0) }
 {
     Ok(Work {
         layout: Layout::new(alloc, outputs)?,
         reader: LineBuffer::new(alloc)?,
         line: Vec::new(alloc),
         number: 0,
-        searcher: Searcher::new(alloc, pattern)?,
-        found: Vec::new(alloc),
+        tools: Tools::new(alloc, typed.tables())?,
         pending: Vec::new(alloc),
     })
 }
@@ -108,18 +107,20 @@ fn send_in_time<O: Sink>(out: &mut O, work: &mut Work<'_>) -> Result<(), Failed>
 /// Looks at the next line, and puts what is written for it after what is pending.
 fn take_turn<S: Source>(
     alloc: Global,
+    typed: &Typed,
     work: &mut Work<'_>,
     corpus: &mut S,
 ) -> Result<Turn, OutOfMemory>
-    requires one { IsOneColumn work.old.layout }
+    requires layout { work.old.layout ≡ outputs_of typed.now }
+    requires tables { work.old.tools ≡ typed.now.1.0 }
     requires room { work.old.number < 2 ^ 63 }
     requires going { IsGoing work.old.reader }
     ensures turned { (left : Option (List ℕ)) (faults : ℕ) (before now : Option (List ℕ)) →
-        Stands (line_for work.old.layout work.old.searcher) (source_ends left (S.left corpus.old) faults (S.faults corpus.old)) before now work.old.reader work.old.pending.items work.old.number →
-        Turned (line_for work.old.layout work.old.searcher) (source_ends left (S.left corpus.new) faults (S.faults corpus.new)) before now work.new.reader work.new.pending.items work.new.number result }
+        Stands (line_of (program_of typed.now)) (source_ends left (S.left corpus.old) faults (S.faults corpus.old)) before now work.old.reader work.old.pending.items work.old.number →
+        Turned (line_of (program_of typed.now)) (source_ends left (S.left corpus.new) faults (S.faults corpus.new)) before now work.new.reader work.new.pending.items work.new.number result }
     ensures counts { IfOk result (λ came. came ≡ Turn.Next → work.new.number ≡ work.old.number + 1) }
     ensures going { IfOk result (λ came. came ≡ Turn.Next → IsGoing work.new.reader) }
-    ensures same { (work.new.layout ≡ work.old.layout) × (work.new.searcher ≡ work.old.searcher) }
+    ensures same { (work.new.layout ≡ work.old.layout) × (work.new.tools ≡ work.old.tools) }
 {
     match work.reader.next_line(corpus, &mut work.line)? {
         Step::Line => {
@@ -128,9 +129,9 @@ fn take_turn<S: Source>(
             let _taken = work.reader.taken();
             if answer(
                 alloc,
+                typed,
                 &work.layout,
-                &mut work.searcher,
-                &mut work.found,
+                &mut work.tools,
                 &work.line,
                 &mut work.pending,
             )? {

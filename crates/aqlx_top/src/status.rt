@@ -3,6 +3,7 @@ ghost use Rattle.aqlx_top.specs.Statuses.{code_of};
 
 use aql_lexer::LexFault;
 use aql_parser::SyntaxFault;
+use aql_types::TypeRule;
 use view_graph::NameFault;
 
 /// How a run ended, want of memory apart.
@@ -24,8 +25,8 @@ pub enum Status {
 
 /// Why a program is refused.
 ///
-/// The faults are looked for in this order: bytes, text, tokens, statements, nesting, syntax, names, cycle,
-/// and what isn't built. A program has the first one alone; of several cycles any may be told.
+/// The faults are looked for in this order: bytes, text, tokens, statements, nesting, syntax, names, cycle
+/// and types. A program has the first one alone; of several cycles any may be told.
 ///
 /// Meaning: `HasFault`, `specs/ProgramFaults.antt`.
 #[derive(Debug, Drop)]
@@ -41,9 +42,13 @@ pub enum ProgramFault {
     Syntax(SyntaxFault),
     /// A name is defined twice or not at all, two outputs have one name, or views use one another in a circle.
     Name(NameFault),
-    /// This statement, from 1, is the first that keeps the program from being one view of a pattern and its
-    /// output.
-    Unbuilt { statement: u32 },
+    /// A rule of types is broken in this statement, from 1, by the part whose first token begins at this
+    /// byte of the program, from 0.
+    Type {
+        statement: u32,
+        place: u32,
+        rule: TypeRule,
+    },
 }
 
 /// What a program has too much of.

@@ -4,6 +4,7 @@ ghost use Rattle.aqlx_top.specs.Stages.{IsToldAs, IsWrittenAs};
 ghost use Rattle.aqlx_top.specs.Statuses.{message_of, error_line, program_text, name_text, statement_text, after_commas, corpus_text, what_text};
 
 use crate::put::put_and_flush;
+use crate::type_line::text_of_rule;
 use crate::{CorpusFault, NameFault, ProgramFault, Status, SyntaxFault, What};
 use aql_io::{Failed, Sink};
 use span_token::{OutOfMemory, OwnedText};
@@ -75,7 +76,15 @@ fn text_of_program_fault(alloc: Global, fault: &ProgramFault) -> Result<String, 
         }
         ProgramFault::Syntax(fault) => text_of_syntax_fault(alloc, fault),
         ProgramFault::Name(fault) => text_of_name_fault(alloc, fault),
-        ProgramFault::Unbuilt { statement } => of_statement(alloc, *statement, "not built yet"),
+        ProgramFault::Type {
+            statement,
+            place,
+            rule,
+        } => {
+            let said = text_of_rule(alloc, rule)?;
+            let said = format!(in alloc; "{place}: {said}")?;
+            Ok(format!(in alloc; "statement {statement}, byte {said}")?)
+        }
     }
 }
 
