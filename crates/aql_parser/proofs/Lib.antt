@@ -14,3 +14,4 @@ pub mod StatementRules
 pub mod RunRules
 pub mod ProgramRules
 pub mod Standing
+pub mod Followed

@@ -196,6 +196,14 @@ impl<'t> Cursor<'t> {
         Err(Failure::Fault(NoTree))
     }
 
+    /// Takes this symbol, after `value`, and gives that back.
+    pub fn expect_after<T: Drop>(&mut self, value: T, symbol: u8) -> Result<T, Refused>
+        ensures { Gives (λ given. given) (spec.mapped (λ _. value) (spec.take_if (spec.sees_symbol symbol)) self.old.at self.old.kinds) result self.new }
+    {
+        self.expect(symbol)?;
+        Ok(value)
+    }
+
     /// Takes this keyword.
     pub fn expect_word(&mut self, word: &str) -> Result<(), Refused>
         ensures { Gives (λ u. u) (spec.take_if (spec.sees_word word.now) self.old.at self.old.kinds) result self.new }

@@ -94,8 +94,7 @@ fn closed(alloc: Global, depth: u32, toks: &mut Cursor<'_>) -> Result<Query, Ref
     ensures { Gives query_of ((spec.read_query depth ◁ symbol ")") toks.old.at toks.old.kinds) result toks.new }
 {
     let inner = query(alloc, depth, toks)?;
-    toks.expect(b')')?;
-    Ok(inner)
+    toks.expect_after(inner, b')')
 }
 
 /// What follows the first of the queries that are put together.

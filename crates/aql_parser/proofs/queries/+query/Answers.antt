@@ -1,10 +1,11 @@
 use Rattle.std.proofs.Common.{subst, sym, arith}
 use Rattle.aql_syntax.specs.Trees.{Query}
 use Rattle.aql_syntax.specs.Views.{query_of, source_of}
-use Rattle.aql_parser.specs.Readers.{Reader, Gives, sees, sees_sign}
-use Rattle.aql_parser.specs.Reading.Queries.{side, within, read_source}
+use Rattle.aql_parser.specs.Readers.{Reader, Gives, sees, sees_sign, symbol}
+use Rattle.aql_parser.specs.Reading.Queries.{side, within, read_source, read_query}
 use Rattle.aql_parser.proofs.Lists.{list_begins, list_begins_after, list_returns, list_continues}
 use Rattle.aql_parser.proofs.Depths.{within_more, within_none}
+use Rattle.aql_parser.proofs.Followed.{given_after}
 use Rattle.aql_parser.proofs.queries.+query.Goals as goal
 
 pub sources-loop-turn-init : goal.sources-loop-turn-init
@@ -42,3 +43,7 @@ parenthesis-returns t c =
 
 pub parenthesis-returns-then-depth-eq0 : goal.parenthesis-returns-then-depth-eq0
 parenthesis-returns-then-depth-eq0 t c = within_none c.args.depth c.if-depth-eq0.true _ _
+
+pub closed-returns : goal.closed-returns
+closed-returns t c =
+    given_after query_of c.in_ok-inner.inner (read_query c.args.depth) (symbol ")") _ _ _ _ c.expect_after.result _ c.in_ok-inner.ensures c.expect_after.ensures

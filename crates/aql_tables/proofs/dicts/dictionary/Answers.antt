@@ -21,6 +21,6 @@ returns-in-Some-Dictionary c =
     found_entries (map statement_of statements) c.args.name.now c.order-order.result.now c.order-order.ensures.resolved number
     (subst (FindsDictionary (map statement_of statements) c.args.name.now) c.in-Some.is c.dictionary.ensures)
     (name_of c.in-Some-Dictionary.field-0-0) c.as_slice.result.now
-    (ap (λ (ss : List declared.Statement). statement_at (map statement_of ss) (number - 1)) (sym c.statements.ensures)
+    (ap (λ (ss : List declared.Statement). statement_at (map statement_of ss) (number - 1)) (sym c.statements.ensures.same)
     ∙ (statement_found c.statements.result.now (number - 1) found at.3.0 (sym at.1)
     ∙ (ap statement_of c.in-Some-Dictionary.field-0-is ∙ ap (dictionary (name_of c.in-Some-Dictionary.field-0-0)) (sym c.as_slice.ensures.value))))

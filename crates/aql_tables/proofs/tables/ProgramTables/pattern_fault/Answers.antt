@@ -1,4 +1,4 @@
-use Rattle.std.proofs.Common.{◌≡◌, ◌∙◌, ap, sym, subst, Option, Some}
+use Rattle.std.proofs.Common.{◌∙◌, ap, sym, subst, Some}
 use Rattle.aql_tables.specs.declared.patterns.Verdict.{Verdict}
 use Rattle.aql_tables.specs.Kept.{IsTold}
 use Rattle.aql_tables.specs.VerdictLaws.{pattern_is}
