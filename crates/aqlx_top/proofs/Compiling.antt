@@ -18,7 +18,7 @@ use Rattle.aql_syntax.specs.Trees.{Statement}
 use Rattle.aql_syntax.specs.Programs.{AreTokensOf, placed_in}
 use Rattle.aqlx_top.specs.declared.program.Compiled.{Compiled}
 use Rattle.aqlx_top.specs.declared.status.ProgramFault.{ProgramFault}
-use Rattle.aqlx_top.specs.declared.status.ProgramFault.TheVariants.{Text, Large, Lex, Syntax, Name, Type as Typing}
+use Rattle.aqlx_top.specs.declared.status.ProgramFault.TheVariants.{Text, Large, Lex, Syntax, Name, Mistyped}
 use Rattle.aqlx_top.specs.declared.status.What.TheVariants.{Bytes, Statements, Nesting}
 use Rattle.aqlx_top.specs.ProgramFaults.{HasCause, HasOnlyFault, HasTooMany, IsTooDeep, IsTooLargeFor}
 use Rattle.aqlx_top.specs.ProgramTexts.{ReadsAs, IsWithinLimits, HoldsStatements}
@@ -44,7 +44,7 @@ module _ (text : List ℕ) (toks : List Tok) (decided : IsDecided text) (reads :
   refused_sizes (Fault (Lex fault)) h = absurd h
   refused_sizes (Fault (Syntax fault)) h = absurd h
   refused_sizes (Fault (Name fault)) h = absurd h
-  refused_sizes (Fault (Typing statement place rule)) h = absurd h
+  refused_sizes (Fault (Mistyped statement place rule)) h = absurd h
   refused_sizes OutOfMemory h = absurd h
 
   module _ (within : IsWithinLimits (kinds_of toks)) (one : parsing.IsDecided (map token_of toks)) where
@@ -71,7 +71,7 @@ module _ (text : List ℕ) (toks : List Tok) (decided : IsDecided text) (reads :
 
         pub refused_form : (failure : Failure ProgramFault) → IsRefusedFor (map token_of toks) trees failure → HasCause text failure
         refused_form (Fault (Name fault)) h = only_name text trees fault decided held one names h
-        refused_form (Fault (Typing statement place rule)) h = only_type text trees statement place rule decided held one names h
+        refused_form (Fault (Mistyped statement place rule)) h = only_type text trees statement place rule decided held one names h
         refused_form (Fault (Large what number)) h = absurd h
         refused_form (Fault (Text place)) h = absurd h
         refused_form (Fault (Lex fault)) h = absurd h

@@ -6,6 +6,8 @@ pub mod Documents
 pub mod Readings
 pub mod Turns
 pub mod ProgramLaws
+pub mod Begins
+pub mod Showing
 pub mod Compiling
 pub mod StatusLines
 pub mod Answers

@@ -1,7 +1,8 @@
 -- A program file's bytes have one fault at most: what is found first is the only one.
-use Rattle.std.proofs.Common.{◌≡◌, ℕ, ◌+◌, ◌<◌, ◌≤◌, ◌⊎◌, inl, inr, List, length, ap, ap₂, sym, subst, ◌∙◌, refl, arith}
+use Rattle.std.proofs.Common.{◌≡◌, ℕ, ◌+◌, ◌<◌, ◌≤◌, ◌⊎◌, inl, inr, List, [], Option, Some, unwrap_or, length, ap, ap₂, sym, subst, ◌∙◌, refl, arith}
 use Rattle.std.specs.Str.{IsUtf8, IsValidUpTo}
 use Rattle.std.specs.Str.Lossy.{utf8_valid_len}
+use Rattle.std.proofs.lemmas.Option.{none-some}
 use Rattle.std.proofs.lemmas.Str.{utf8_valid_len-IsUtf8, utf8_valid_len-IsValidUpTo}
 use Rattle.aql_lexer.specs.Kinds.{Kind, Token}
 use Rattle.aql_lexer.specs.Reading.{IsFault, IsDecided}
@@ -14,7 +15,7 @@ use Rattle.aql_syntax.specs.Trees.{Statement}
 use Rattle.aql_syntax.specs.Programs.{AreTokensOf, placed_in}
 use Rattle.aqlx_top.specs.Limits.{program_limit}
 use Rattle.aqlx_top.specs.declared.status.ProgramFault.{ProgramFault}
-use Rattle.aqlx_top.specs.declared.status.ProgramFault.TheVariants.{Text, Large, Lex, Syntax, Name, Type as Typing}
+use Rattle.aqlx_top.specs.declared.status.ProgramFault.TheVariants.{Text, Large, Lex, Syntax, Name, Mistyped}
 use Rattle.aqlx_top.specs.declared.status.What.TheVariants.{Bytes, Statements, Nesting}
 use Rattle.aqlx_top.specs.ProgramFaults.{HasFault, HasOnlyFault, begin_of, IsMistyped, AreOneFault, HasTooMany, IsTooDeep, HoldsProgram}
 use Rattle.view_graph.specs.Answers.{IsNameFault, IsNameDecided, IsResolved}
@@ -51,7 +52,7 @@ large_alone bytes large (Large Statements number) h = let small = h.1.small in a
 large_alone bytes large (Large Nesting number) h = let small = h.1.small in absurd (omega arith)
 large_alone bytes large (Syntax fault) h = let small = h.1.small in absurd (omega arith)
 large_alone bytes large (Name fault) h = let small = h.1.reads.small in absurd (omega arith)
-large_alone bytes large (Typing statement place rule) h = let small = h.1.reads.small in absurd (omega arith)
+large_alone bytes large (Mistyped statement place rule) h = let small = h.1.reads.small in absurd (omega arith)
 
 pub only_large : (bytes : List ℕ) → program_limit < length bytes → HasOnlyFault bytes (Large Bytes (program_limit + 1))
 only_large bytes large = record { has = (large, refl); only = λ other h. inl (large_alone bytes large other h) }
@@ -65,7 +66,7 @@ text_alone bytes place small stops (Large Statements number) h = absurd (not_tex
 text_alone bytes place small stops (Large Nesting number) h = absurd (not_text bytes place h.1.text stops)
 text_alone bytes place small stops (Syntax fault) h = absurd (not_text bytes place h.1.text stops)
 text_alone bytes place small stops (Name fault) h = absurd (not_text bytes place h.1.reads.text stops)
-text_alone bytes place small stops (Typing statement place rule) h = absurd (not_text bytes place h.1.reads.text stops)
+text_alone bytes place small stops (Mistyped number other rule) h = absurd (not_text bytes place h.1.reads.text stops)
 
 pub only_text : (bytes : List ℕ) (place : ℕ) → length bytes ≤ program_limit → IsValidUpTo bytes place → HasOnlyFault bytes (Text place)
 only_text bytes place small stops = record { has = (small, stops); only = λ other h. inl (text_alone bytes place small stops other h) }
@@ -82,7 +83,7 @@ lex_alone bytes fault small text decided at (Large Statements number) h = absurd
 lex_alone bytes fault small text decided at (Large Nesting number) h = absurd (decided.not_both h.0 fault.place h.1.reading at)
 lex_alone bytes fault small text decided at (Syntax other) h = absurd (decided.not_both h.0 fault.place h.1.reading at)
 lex_alone bytes fault small text decided at (Name other) h = absurd (decided.not_both h.1.tokens fault.place h.1.reads.reading at)
-lex_alone bytes fault small text decided at (Typing statement place rule) h = absurd (decided.not_both h.1.tokens fault.place h.1.reads.reading at)
+lex_alone bytes fault small text decided at (Mistyped statement place rule) h = absurd (decided.not_both h.1.tokens fault.place h.1.reads.reading at)
 
 pub only_lex : (bytes : List ℕ) (fault : LexFault) → length bytes ≤ program_limit → IsUtf8 bytes → IsDecided bytes → IsFault bytes fault.place
     → HasOnlyFault bytes (Lex fault)
@@ -91,7 +92,7 @@ only_lex bytes fault small text decided at = record { has = (small, text, at); o
 -- what all faults of a text with these statements are: a fault of the statements
 abbrev pub HasStatementFault : List Token → List Statement → ProgramFault → Type 0
 HasStatementFault tokens statements (Name fault) = IsNameFault statements fault
-HasStatementFault tokens statements (Typing statement place rule) = IsMistyped tokens statements statement place rule
+HasStatementFault tokens statements (Mistyped statement place rule) = IsMistyped tokens statements statement place rule
 HasStatementFault tokens statements _ = ⊥
 
 -- what all faults of a text with these tokens are: a fault of the tokens
@@ -102,9 +103,9 @@ HasTokenFault bytes tokens (Syntax fault) = IsWithinLimits (kinds_in tokens) × 
 HasTokenFault bytes tokens (Name fault) =
     IsWithinLimits (kinds_in tokens)
     × ((statements : List Statement) × AreTokensOf (kinds_in tokens) statements × (placed_in (kinds_in tokens) statements ≡ statements) × HasStatementFault tokens statements (Name fault))
-HasTokenFault bytes tokens (Typing statement place rule) =
+HasTokenFault bytes tokens (Mistyped statement place rule) =
     IsWithinLimits (kinds_in tokens)
-    × ((statements : List Statement) × AreTokensOf (kinds_in tokens) statements × (placed_in (kinds_in tokens) statements ≡ statements) × HasStatementFault tokens statements (Typing statement place rule))
+    × ((statements : List Statement) × AreTokensOf (kinds_in tokens) statements × (placed_in (kinds_in tokens) statements ≡ statements) × HasStatementFault tokens statements (Mistyped statement place rule))
 HasTokenFault bytes tokens _ = ⊥
 
 same_tokens : (bytes : List ℕ) (tokens others : List Token) → IsDecided bytes → ReadsAs bytes tokens → ReadsAs bytes others → others ≡ tokens
@@ -124,8 +125,8 @@ token_fault bytes tokens decided reads (Syntax fault) h =
 token_fault bytes tokens decided reads (Name fault) h =
     subst (λ (ts : List Token). HasTokenFault bytes ts (Name fault)) (same_tokens bytes tokens h.1.tokens decided reads h.1.reads)
     (h.1.within, (h.0, h.1.trees, h.1.placed, h.2))
-token_fault bytes tokens decided reads (Typing statement place rule) h =
-    subst (λ (ts : List Token). HasTokenFault bytes ts (Typing statement place rule)) (same_tokens bytes tokens h.1.tokens decided reads h.1.reads)
+token_fault bytes tokens decided reads (Mistyped statement place rule) h =
+    subst (λ (ts : List Token). HasTokenFault bytes ts (Mistyped statement place rule)) (same_tokens bytes tokens h.1.tokens decided reads h.1.reads)
     (h.1.within, (h.0, h.1.trees, h.1.placed, h.2))
 
 -- ---- sizes
@@ -146,7 +147,7 @@ many_alone bytes tokens number many (Large Statements other) h = ap (Large State
 many_alone bytes tokens number many (Large Nesting other) h = let few = h.0 in let e = many.0 in let long = many.1 in absurd (omega arith)
 many_alone bytes tokens number many (Syntax fault) h = let few = h.0.statements in let e = many.0 in let long = many.1 in absurd (omega arith)
 many_alone bytes tokens number many (Name fault) h = let few = h.0.statements in let e = many.0 in let long = many.1 in absurd (omega arith)
-many_alone bytes tokens number many (Typing statement place rule) h = let few = h.0.statements in let e = many.0 in let long = many.1 in absurd (omega arith)
+many_alone bytes tokens number many (Mistyped statement place rule) h = let few = h.0.statements in let e = many.0 in let long = many.1 in absurd (omega arith)
 many_alone bytes tokens number many (Text place) h = absurd h
 many_alone bytes tokens number many (Lex fault) h = absurd h
 many_alone bytes tokens number many (Large Bytes other) h = absurd h
@@ -157,7 +158,7 @@ deep_alone bytes tokens number deep (Large Statements other) h = let few = deep.
 deep_alone bytes tokens number deep (Large Nesting other) h = ap (Large Nesting) (one_nesting (kinds_in tokens) other number h.1 deep.1)
 deep_alone bytes tokens number deep (Syntax fault) h = absurd (not_deeper (kinds_in tokens) number h.0.nesting deep.1 deep.2)
 deep_alone bytes tokens number deep (Name fault) h = absurd (not_deeper (kinds_in tokens) number h.0.nesting deep.1 deep.2)
-deep_alone bytes tokens number deep (Typing statement place rule) h = absurd (not_deeper (kinds_in tokens) number h.0.nesting deep.1 deep.2)
+deep_alone bytes tokens number deep (Mistyped statement place rule) h = absurd (not_deeper (kinds_in tokens) number h.0.nesting deep.1 deep.2)
 deep_alone bytes tokens number deep (Text place) h = absurd h
 deep_alone bytes tokens number deep (Lex fault) h = absurd h
 deep_alone bytes tokens number deep (Large Bytes other) h = absurd h
@@ -183,7 +184,7 @@ syntax_alone bytes tokens fault within decided found (Syntax other) h =
     let one = decided.one_fault other.statement fault.statement other.line fault.line h.1 found in
     ap₂ (λ (s l : ℕ). Syntax (record { statement = s; line = l })) one.0 one.1
 syntax_alone bytes tokens fault within decided found (Name other) h = absurd (decided.not_both h.1.0 fault.statement fault.line h.1.1 found)
-syntax_alone bytes tokens fault within decided found (Typing statement place rule) h = absurd (decided.not_both h.1.0 fault.statement fault.line h.1.1 found)
+syntax_alone bytes tokens fault within decided found (Mistyped statement place rule) h = absurd (decided.not_both h.1.0 fault.statement fault.line h.1.1 found)
 syntax_alone bytes tokens fault within decided found (Text place) h = absurd h
 syntax_alone bytes tokens fault within decided found (Lex other) h = absurd h
 syntax_alone bytes tokens fault within decided found (Large Bytes number) h = absurd h
@@ -210,9 +211,9 @@ statement_fault bytes held holds one (Syntax fault) h = absurd (one.not_both hel
 statement_fault bytes held holds one (Name fault) h =
     let same : h.1.0 ≡ held = same_statements holds.tokens held h.1.0 one holds.trees h.1.1 holds.placed h.1.2 in
     subst (λ (xs : List Statement). HasStatementFault holds.tokens xs (Name fault)) same h.1.3
-statement_fault bytes held holds one (Typing statement place rule) h =
+statement_fault bytes held holds one (Mistyped statement place rule) h =
     let same : h.1.0 ≡ held = same_statements holds.tokens held h.1.0 one holds.trees h.1.1 holds.placed h.1.2 in
-    subst (λ (xs : List Statement). HasStatementFault holds.tokens xs (Typing statement place rule)) same h.1.3
+    subst (λ (xs : List Statement). HasStatementFault holds.tokens xs (Mistyped statement place rule)) same h.1.3
 statement_fault bytes held holds one (Text place) h = absurd h
 statement_fault bytes held holds one (Lex fault) h = absurd h
 statement_fault bytes held holds one (Large Bytes number) h = absurd h
@@ -223,7 +224,7 @@ name_alone : (tokens : List Token) (held : List Statement) (fault : NameFault) �
     → (other : ProgramFault) → HasStatementFault tokens held other → AreOneFault other (Name fault)
 name_alone tokens held fault decided found (Name other) h =
     elim (decided.one_fault other fault h found) [ inl same ↦ inl (ap Name same) | inr cycles ↦ inr cycles ]
-name_alone tokens held fault decided found (Typing statement place rule) h = absurd (decided.not_both h.order fault h.resolved found)
+name_alone tokens held fault decided found (Mistyped statement place rule) h = absurd (decided.not_both h.order fault h.resolved found)
 name_alone tokens held fault decided found (Large what number) h = absurd h
 name_alone tokens held fault decided found (Syntax other) h = absurd h
 name_alone tokens held fault decided found (Text place) h = absurd h
@@ -239,12 +240,12 @@ only_name bytes held fault decided holds one names found = record {
 -- ---- types
 
 the_first : {X : Type 0} (xs : List X) (x y : X) → first xs ≡ Some x → first xs ≡ Some y → y ≡ x
-the_first xs x y a b = Some-injective (sym b ∙ a)
+the_first {X = X} xs x y a b = ap (λ (o : Option X). unwrap_or o x) (sym b ∙ a)
 
 type_alone : (tokens : List Token) (held : List Statement) (number place : ℕ) (rule : TypeRule) → IsNameDecided held → IsMistyped tokens held number place rule
-    → (other : ProgramFault) → HasStatementFault tokens held other → other ≡ Typing number place rule
+    → (other : ProgramFault) → HasStatementFault tokens held other → other ≡ Mistyped number place rule
 type_alone tokens held number place rule decided found (Name fault) h = absurd (decided.not_both found.order fault found.resolved h)
-type_alone tokens held number place rule decided found (Typing other_number other_place other_rule) h =
+type_alone tokens held number place rule decided found (Mistyped other_number other_place other_rule) h =
     let order : h.order ≡ found.order = decided.one_order h.order found.order h.resolved found.resolved in
     let fault : h.fault ≡ found.fault =
     the_first (faults_of_program (known_of_program held) held found.order) found.fault h.fault found.first
@@ -252,14 +253,14 @@ type_alone tokens held number place rule decided found (Typing other_number othe
     let a : other_number ≡ number = h.statement_is ∙ ap (λ (f : TypeFault). f.statement) fault ∙ sym found.statement_is in
     let b : other_place ≡ place = h.place_is ∙ ap (λ (f : TypeFault). begin_of tokens f.place) fault ∙ sym found.place_is in
     let r : other_rule ≡ rule = h.rule_is ∙ ap (λ (f : TypeFault). f.rule) fault ∙ sym found.rule_is in
-    ap (λ (n : ℕ). Typing n other_place other_rule) a ∙ ap (λ (n : ℕ). Typing number n other_rule) b ∙ ap (Typing number place) r
+    ap (λ (n : ℕ). Mistyped n other_place other_rule) a ∙ ap (λ (n : ℕ). Mistyped number n other_rule) b ∙ ap (Mistyped number place) r
 type_alone tokens held number place rule decided found (Large what other) h = absurd h
 type_alone tokens held number place rule decided found (Syntax other) h = absurd h
 type_alone tokens held number place rule decided found (Text other) h = absurd h
 type_alone tokens held number place rule decided found (Lex other) h = absurd h
 
 pub only_type : (bytes : List ℕ) (held : List Statement) (number place : ℕ) (rule : TypeRule) → IsDecided bytes → (holds : HoldsStatements bytes held)
-    → parsing.IsDecided holds.tokens → IsNameDecided held → IsMistyped holds.tokens held number place rule → HasOnlyFault bytes (Typing number place rule)
+    → parsing.IsDecided holds.tokens → IsNameDecided held → IsMistyped holds.tokens held number place rule → HasOnlyFault bytes (Mistyped number place rule)
 only_type bytes held number place rule decided holds one names found = record {
   has = (held, holds, found);
   only = λ other h. inl (type_alone holds.tokens held number place rule names found other (statement_fault bytes held holds one other (token_fault bytes holds.tokens decided holds.reads other h)));
@@ -268,10 +269,10 @@ only_type bytes held number place rule decided holds one names found = record {
 faultless : (tokens : List Token) (held : List Statement) (order : List ℕ) → IsNameDecided held → IsResolved held order → faults_of_program (known_of_program held) held order ≡ []
     → (other : ProgramFault) → HasStatementFault tokens held other → ⊥
 faultless tokens held order decided resolved no_fault (Name fault) h = decided.not_both order fault resolved h
-faultless tokens held order decided resolved no_fault (Typing number place rule) h =
+faultless tokens held order decided resolved no_fault (Mistyped number place rule) h =
     let same : h.order ≡ order = decided.one_order h.order order h.resolved resolved in
     let found : first (faults_of_program (known_of_program held) held order) ≡ Some h.fault = subst (λ (o : List ℕ). IsTypeFault (known_of_program held) held o h.fault) same h.first in
-    None-not-Some (sym (ap first no_fault) ∙ found)
+    none-some h.fault (sym (ap first no_fault) ∙ found)
 faultless tokens held order decided resolved no_fault (Large what number) h = h
 faultless tokens held order decided resolved no_fault (Syntax other) h = h
 faultless tokens held order decided resolved no_fault (Text place) h = h

@@ -11,7 +11,7 @@ use Rattle.aql_parser.specs.Faults.{kinds_in, IsSyntaxFault}
 use Rattle.aql_parser.specs.Nesting.{IsNesting, nesting_limit}
 use Rattle.aqlx_top.specs.Limits.{program_limit, statement_limit}
 use Rattle.aqlx_top.specs.declared.status.ProgramFault.{ProgramFault}
-use Rattle.aqlx_top.specs.declared.status.ProgramFault.TheVariants.{Text, Large, Lex, Syntax, Name, Type as Typing}
+use Rattle.aqlx_top.specs.declared.status.ProgramFault.TheVariants.{Text, Large, Lex, Syntax, Name, Mistyped}
 use Rattle.aqlx_top.specs.declared.status.What.TheVariants.{Bytes, Statements, Nesting}
 use Rattle.aqlx_top.specs.ProgramTexts.{ReadsAs, IsWithinLimits, HoldsStatements}
 use Rattle.aqlx_top.specs.Run.{Program, Typed, program_of}
@@ -54,7 +54,7 @@ HasFault bytes (Large Nesting number) = (tokens : List Token) × ReadsAs bytes t
 HasFault bytes (Syntax fault) =
     (tokens : List Token) × ReadsAs bytes tokens × IsWithinLimits (kinds_in tokens) × IsSyntaxFault tokens fault.statement fault.line
 HasFault bytes (Name fault) = (statements : List Statement) × HoldsStatements bytes statements × IsNameFault statements fault
-HasFault bytes (Typing statement place rule) =
+HasFault bytes (Mistyped statement place rule) =
     (statements : List Statement) × (holds : HoldsStatements bytes statements) × IsMistyped holds.tokens statements statement place rule
 
 -- both are cycles

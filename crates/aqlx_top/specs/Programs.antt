@@ -10,7 +10,7 @@ use Rattle.aql_types.specs.Programs.{IsTyped}
 use Rattle.aql_tables.specs.Programs.{lists_of}
 use Rattle.aqlx_top.specs.declared.program.Compiled.{Compiled}
 use Rattle.aqlx_top.specs.declared.status.ProgramFault.{ProgramFault}
-use Rattle.aqlx_top.specs.declared.status.ProgramFault.TheVariants.{Name, Type as Typing}
+use Rattle.aqlx_top.specs.declared.status.ProgramFault.TheVariants.{Name, Mistyped}
 use Rattle.aqlx_top.specs.ProgramFaults.{HoldsProgram, IsMistyped}
 use Rattle.aqlx_top.specs.Run.{program_of, outputs_of}
 
@@ -34,5 +34,5 @@ pub record IsBuiltFrom (statements : List Statement) (compiled : Compiled) : Typ
 abbrev pub IsRefusedFor : List Token → List Statement → Failure ProgramFault → Type 0
 IsRefusedFor tokens statements OutOfMemory = ⊤
 IsRefusedFor tokens statements (Fault (Name fault)) = IsNameFault statements fault
-IsRefusedFor tokens statements (Fault (Typing statement place rule)) = IsMistyped tokens statements statement place rule
+IsRefusedFor tokens statements (Fault (Mistyped statement place rule)) = IsMistyped tokens statements statement place rule
 IsRefusedFor tokens statements (Fault _) = ⊥

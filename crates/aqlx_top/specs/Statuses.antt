@@ -6,7 +6,7 @@ use Rattle.aqlx_top.specs.Devices.{SinkEnds, Gained, HasSent, IsUntouched}
 use Rattle.aqlx_top.specs.declared.status.Status.{Status}
 use Rattle.aqlx_top.specs.declared.status.Status.TheVariants.{Done, Program, Usage, Corpus, ReadFault, WriteFault}
 use Rattle.aqlx_top.specs.declared.status.ProgramFault.{ProgramFault}
-use Rattle.aqlx_top.specs.declared.status.ProgramFault.TheVariants.{Text, Large, Lex, Syntax, Name, Type as Typing}
+use Rattle.aqlx_top.specs.declared.status.ProgramFault.TheVariants.{Text, Large, Lex, Syntax, Name, Mistyped}
 use Rattle.aqlx_top.specs.declared.status.What.{What}
 use Rattle.aqlx_top.specs.declared.status.What.TheVariants.{Bytes, Statements, Nesting}
 use Rattle.aqlx_top.specs.declared.status.CorpusFault.{CorpusFault}
@@ -46,6 +46,10 @@ listed (name ∷ names) = name ++ after_commas names
 abbrev pub statement_text : ℕ → List ℕ → List ℕ
 statement_text statement text = codes "statement " ++ decimal statement ++ codes ": " ++ text
 
+-- and of a place in it
+abbrev pub place_text : ℕ → ℕ → List ℕ → List ℕ
+place_text statement place text = codes "statement " ++ decimal statement ++ codes ", byte " ++ decimal place ++ codes ": " ++ text
+
 abbrev pub name_text : NameFault → List ℕ
 name_text (DuplicateName statement name) = statement_text statement (name ++ codes " is defined again")
 name_text (UnknownView statement name) = statement_text statement (codes "no view " ++ name)
@@ -59,7 +63,7 @@ program_text (Large what number) = codes "program too large: " ++ what_text what
 program_text (Lex fault) = codes "no token at byte " ++ decimal fault.place
 program_text (Syntax fault) = codes "syntax: statement " ++ decimal fault.statement ++ codes ", line " ++ decimal fault.line
 program_text (Name fault) = name_text fault
-program_text (Typing statement place rule) = codes "statement " ++ decimal statement ++ codes ", byte " ++ decimal place ++ codes ": " ++ rule_text rule
+program_text (Mistyped statement place rule) = place_text statement place (rule_text rule)
 
 abbrev pub corpus_text : CorpusFault → List ℕ
 corpus_text (BadLine line) = codes "corpus line " ++ decimal line ++ codes " is not a document"

@@ -1,12 +1,14 @@
 //! What is written for a line of the corpus.
 
 ghost use Rattle.std.specs.Prelude.{◌≡◌, ◌≤◌, [], ◌∷◌, ◌++◌, All, not, IfOk, IfSome, OnOk, ◌<◌, length, map, option_map};
+ghost use Rattle.span_token.specs.Documents.{whole_of};
+ghost use Rattle.row_values.specs.Datums.{span};
 ghost use Rattle.row_values.specs.Rows.{RowsLieIn};
 ghost use Rattle.corpus_json.specs.Documents.{is_bad_line};
 ghost use Rattle.corpus_json.specs.Inputs.{doc_of};
 ghost use Rattle.corpus_json.specs.Outputs.{output_line, rows_of, width_of};
 ghost use Rattle.aql_typed.specs.Fitting.{widths_of};
-ghost use Rattle.aql_typed.specs.Meaning.{document_rows, meanings};
+ghost use Rattle.aql_typed.specs.Meaning.{meanings};
 ghost use Rattle.aql_typed.specs.Programs.{AreTypedOutputs, NamesView};
 ghost use Rattle.aql_typed.specs.Views.{body_of};
 ghost use Rattle.aqlx_top.specs.Endings.{written_for};
@@ -90,7 +92,7 @@ fn label_of(input: &Input) -> Option<&str>
 
 /// The rows of the document as a view: the span of its whole text.
 fn whole_row<'d>(alloc: Global, document: &Document<'d>) -> Result<Rows<'d>, OutOfMemory>
-    ensures rows { IfOk result (λ rows. rows ≡ record { width = 1; rows = document_rows document.now }) }
+    ensures rows { IfOk result (λ rows. rows ≡ record { width = 1; rows = (span (whole_of document.now) ∷ []) ∷ [] }) }
     ensures lies { IfOk result (λ rows. RowsLieIn document.now rows.rows) }
 {
     let mut rows = Rows::new(alloc, 1);
@@ -114,7 +116,7 @@ fn append_rows<'d>(
     requires rows { map (λ list. list.rows) all.now ≡ meanings typed.now.1.0 document.now (map body_of typed.now.0) }
     requires widths { map (λ list. list.width) all.now ≡ widths_of (map body_of typed.now.0) }
     requires lies { All (λ list. RowsLieIn document.now list.rows) all.now }
-    requires whole { whole.now ≡ record { width = 1; rows = document_rows document.now } }
+    requires whole { whole.now ≡ record { width = 1; rows = (span (whole_of document.now) ∷ []) ∷ [] } }
     requires whole_lies { RowsLieIn document.now whole.now.rows }
     ensures bytes { OnOk result (pending.new.items ≡ pending.old.items ++ line_of (program_of typed.now) document.now) }
 {

@@ -89,20 +89,28 @@ fn typed(alloc: Global, toks: &[Tok], graph: &Graph) -> Result<Compiled, Failure
 
 /// The fault with the byte at which its part begins.
 fn placed(toks: &[Tok], fault: TypeFault) -> ProgramFault
-    ensures { result ≡ ProgramFault.Type fault.statement (begin_of (map token_of toks.now) fault.place) fault.rule }
+    ensures { result ≡ ProgramFault.Mistyped fault.statement (begin_of (map token_of toks.now) fault.place) fault.rule }
 {
     let TypeFault {
         statement,
         place,
         rule,
     } = fault;
-    let place = match toks.get(place as usize) {
-        Some(tok) => tok.begin,
-        None => 0,
-    };
-    ProgramFault::Type {
+    ProgramFault::Mistyped {
         statement,
-        place,
+        place: begin_at(toks, place),
         rule,
+    }
+}
+
+/// The byte at which a token begins, by its number from 0; 0 where there is none.
+fn begin_at(toks: &[Tok], number: u32) -> u32
+    ensures { result ≡ begin_of (map token_of toks.now) number }
+{
+    let number = number as usize;
+    if number < toks.len() {
+        toks[number].begin
+    } else {
+        0
     }
 }

@@ -44,7 +44,7 @@ pub enum ProgramFault {
     Name(NameFault),
     /// A rule of types is broken in this statement, from 1, by the part whose first token begins at this
     /// byte of the program, from 0.
-    Type {
+    Mistyped {
         statement: u32,
         place: u32,
         rule: TypeRule,

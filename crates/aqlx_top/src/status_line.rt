@@ -1,7 +1,7 @@
 ghost use Rattle.std.specs.Prelude.{◌≡◌, ◌≢◌, ◌++◌, [], IfOk, OnOk, OnErr, string_bytes};
 ghost use Rattle.aqlx_top.specs.Devices.{sink_between, IsUntouched};
 ghost use Rattle.aqlx_top.specs.Stages.{IsToldAs, IsWrittenAs};
-ghost use Rattle.aqlx_top.specs.Statuses.{message_of, error_line, program_text, name_text, statement_text, after_commas, corpus_text, what_text};
+ghost use Rattle.aqlx_top.specs.Statuses.{message_of, error_line, program_text, name_text, statement_text, place_text, after_commas, corpus_text, what_text};
 
 use crate::put::put_and_flush;
 use crate::type_line::text_of_rule;
@@ -76,14 +76,13 @@ fn text_of_program_fault(alloc: Global, fault: &ProgramFault) -> Result<String, 
         }
         ProgramFault::Syntax(fault) => text_of_syntax_fault(alloc, fault),
         ProgramFault::Name(fault) => text_of_name_fault(alloc, fault),
-        ProgramFault::Type {
+        ProgramFault::Mistyped {
             statement,
             place,
             rule,
         } => {
             let said = text_of_rule(alloc, rule)?;
-            let said = format!(in alloc; "{place}: {said}")?;
-            Ok(format!(in alloc; "statement {statement}, byte {said}")?)
+            at_byte(alloc, *statement, *place, said.as_str())
         }
     }
 }
@@ -121,6 +120,15 @@ fn of_statement(alloc: Global, statement: u32, said: &str) -> Result<String, Out
     ensures { IfOk result (λ text. string_bytes text ≡ statement_text statement said.now) }
 {
     Ok(format!(in alloc; "statement {statement}: {said}")?)
+}
+
+/// What is said of a place in a statement.
+fn at_byte(alloc: Global, statement: u32, place: u32, said: &str) -> Result<String, OutOfMemory>
+    ensures { IfOk result (λ text. string_bytes text ≡ place_text statement place said.now) }
+{
+    let first = format!(in alloc; "statement {statement}, byte ")?;
+    let second = format!(in alloc; "{first}{place}")?;
+    Ok(format!(in alloc; "{second}: {said}")?)
 }
 
 fn text_of_cycle(alloc: Global, views: &[OwnedText]) -> Result<String, OutOfMemory>

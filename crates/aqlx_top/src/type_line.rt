@@ -25,12 +25,16 @@ pub(crate) fn text_of_rule(alloc: Global, rule: &TypeRule) -> Result<String, Out
         }
         TypeRule::SchemaMismatch => Ok(String::from_str(alloc, "schemas differ")?),
         TypeRule::NotGrouped => Ok(String::from_str(alloc, "not grouped")?),
-        TypeRule::BadRange { low, high } => Ok(format!(in alloc; "range {low} to {high}")?),
+        TypeRule::BadRange { low, high } => {
+            let first = format!(in alloc; "range {low} to ")?;
+            Ok(format!(in alloc; "{first}{high}")?)
+        }
         TypeRule::UnknownPolicy(name) => named(alloc, "no policy ", name),
         TypeRule::BadPattern => Ok(String::from_str(alloc, "bad pattern")?),
-        TypeRule::PatternLarge { bytes, weight } => Ok(format!(in alloc;
-            "pattern too large: {bytes} bytes, weight {weight}"
-        )?),
+        TypeRule::PatternLarge { bytes, weight } => {
+            let first = format!(in alloc; "pattern too large: {bytes} bytes, weight ")?;
+            Ok(format!(in alloc; "{first}{weight}")?)
+        }
         TypeRule::BadGroup(number) => Ok(format!(in alloc; "no group {number}")?),
     }
 }

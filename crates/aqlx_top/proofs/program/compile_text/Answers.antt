@@ -30,4 +30,4 @@ returns-in-Ok-clause-fault c =
     (law.refused_form c.args.text.now c.in_ok-toks.toks.items c.tokens_of.ensures.decided c.in_ok-toks.ensures.tokens
     (rw c.deref.ensures.value at c.in_ok-check_sizes.ensures.within) (rw c.deref-2.ensures.value at c.parse.ensures.decided)
     (map statement_of c.in-Ok.statements.items) (rw c.deref-2.ensures.value at c.in-Ok.ensures.trees) (rw c.deref-2.ensures.value at c.in-Ok.ensures.placed) c.build.ensures.decided)
-    c.build.ensures.fault
+    (rw c.deref-in-Ok.ensures.value at c.build.ensures.fault)
