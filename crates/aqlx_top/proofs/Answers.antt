@@ -1,5 +1,5 @@
 -- From what was carried out and reported to the promise of the top call.
-use Rattle.std.proofs.Common.{◌≡◌, ◌≢◌, ℕ, ◌<◌, true, false, Bool, List, [], ◌∷◌, ◌++◌, length, ap, sym, subst, ◌∙◌, refl, arith, length-append, append_assoc, Option, Some, None, Result, Ok, Err, IsErr, IfSome, IfOk, OnErr, IsSomeAnd, if◌then◌else◌, ◌||◌, All, inl, inr, ◌⊎◌}
+use Rattle.std.proofs.Common.{◌≡◌, ◌≢◌, ℕ, ◌<◌, true, false, Bool, List, [], ◌∷◌, ◌++◌, length, unwrap_or, ap, sym, subst, ◌∙◌, refl, arith, length-append, append_assoc, Option, Some, None, Result, Ok, Err, IsErr, IfSome, IfOk, OnErr, IsSomeAnd, if◌then◌else◌, ◌||◌, All, inl, inr, ◌⊎◌}
 use Rattle.std.proofs.lemmas.List.{append-nil}
 use Rattle.std.proofs.lemmas.List.Elements.{All-append, All-head, All-tail, All-nil, All-cons}
 use Rattle.std.proofs.lemmas.Bool.{lt-ltb, ltb-true}
@@ -224,7 +224,7 @@ no_corpus_fault piece corpus out CorpusLarge came of_documents =
 
 -- words name one file
 one_name : (words : List (List ℕ)) (a b : List ℕ) → IsRun words a → IsRun words b → a ≡ b
-one_name words a b run other = let e = sym run ∙ other in cc
+one_name words a b run other = ap (λ (o : Option (List ℕ)). unwrap_or o a) (sym run ∙ other)
 
 -- a file that tells its text holds that text alone
 told_text : (told : Option Names) (name text other : List ℕ) → IsSomeAnd told (λ names. names name ≡ Some text)
