@@ -13,6 +13,7 @@ NAMES = [
     "groups-10", "groups-1000", "groups-all", "rows-copied", "rows-sorted", "first-ten",
     "follows-few", "follows-all", "follows-tok-few", "follows-tok-all",
     "overlaps-few", "overlaps-all", "contains-few", "contains-all",
+    "equal-numbers", "long-spans", "digit-spans", "dictionary-behind",
 ]
 SPOKEN = re.compile(r"^(\S+): (\d+) MB/s, best of \d+, (\d+) us, came to (\d+)$")
 

@@ -10,6 +10,7 @@
 mod bench;
 mod consolidations;
 mod dictionaries;
+mod filtering;
 mod grouping;
 mod joining;
 mod lexing;
@@ -23,11 +24,13 @@ use bench::{Mode, run};
 use consolidations::{SpanRows, Work, nested};
 use dict_match::DictScratch;
 use dictionaries::{Dictionary, entries, first_line, pass_of};
+use filtering::{Cond, DocRows, Filter, tables_of};
 use grouping::{FirstRows, Groups, Keep, numbered};
 use joining::{Joins, Pairs, Sides, Test};
 use lexing::Lexing;
 use patterns::{Matches, Runs};
 use rows::{Order, RowPairs, pairs};
+use scalar_ops::Tools;
 use span_sets::Policy;
 use span_token::{Document, OwnedList, OwnedText, Span, tokens_of_text};
 use std::alloc::Global;
@@ -59,12 +62,14 @@ enum Kind {
     FirstRows(Keep),
     /// Rows of one span on two sides, joined.
     Joins(Test, Pairs),
+    /// Rows of a span and two numbers, filtered.
+    Filter(Cond),
     /// The tokens of a program text.
     ProgramTokens,
 }
 
 /// The benches with their names.
-const BENCHES: [(&str, Kind); 39] = [
+const BENCHES: [(&str, Kind); 43] = [
     ("tokens", Kind::Tokens),
     ("digits", Kind::Pattern("[0-9]+")),
     ("dates", Kind::Pattern(r"\b\d{4}-\d{2}-\d{2}\b")),
@@ -129,6 +134,10 @@ const BENCHES: [(&str, Kind); 39] = [
     ("overlaps-all", Kind::Joins(Test::Overlaps, Pairs::All)),
     ("contains-few", Kind::Joins(Test::Contains, Pairs::Few)),
     ("contains-all", Kind::Joins(Test::Contains, Pairs::All)),
+    ("equal-numbers", Kind::Filter(Cond::EqualNumbers)),
+    ("long-spans", Kind::Filter(Cond::LongSpan)),
+    ("digit-spans", Kind::Filter(Cond::DigitSpan)),
+    ("dictionary-behind", Kind::Filter(Cond::DictBehind)),
     ("program-tokens", Kind::ProgramTokens),
 ];
 
@@ -164,6 +173,7 @@ fn run_kind<R: Eprint + Print + Clock + AllocGlobal>(
         Kind::Groups(number) => run_groups(rt, mode, name, number, text),
         Kind::FirstRows(keep) => run_first_rows(rt, mode, name, keep, text),
         Kind::Joins(test, pairs) => run_joins(rt, mode, name, test, pairs, text),
+        Kind::Filter(cond) => run_filter(rt, mode, name, cond, text),
         Kind::ProgramTokens => run(rt, mode, name, &mut Lexing { alloc, text }),
     }
 }
@@ -325,6 +335,38 @@ fn run_joins<R: Eprint + Print + Clock + AllocGlobal>(
         test,
     };
     run(rt, mode, name, &mut bench)
+}
+
+fn run_filter<R: Eprint + Print + Clock + AllocGlobal>(
+    rt: &R,
+    mode: Mode,
+    name: &str,
+    cond: Cond,
+    text: &str,
+) -> Result<()> {
+    let alloc = rt.alloc();
+    if text.len() > tokens::LIMIT {
+        bail!("{name}: the file is too long");
+    }
+    let Ok(pattern) = compile_pattern(alloc, "[0-9]+") else {
+        bail!("{name}: no pattern");
+    };
+    let docs = documents(alloc, text)?;
+    let entries = entries(alloc, docs.as_slice(), 100)?;
+    let tables = tables_of(alloc, pattern, entries)?;
+    let both = DocRows::new(alloc, Document::new(alloc, text, None)?)?;
+    let tools = Tools::new(alloc, &tables)?;
+    run(
+        rt,
+        mode,
+        name,
+        &mut Filter {
+            alloc,
+            tools,
+            both,
+            cond,
+        },
+    )
 }
 
 /// Each bench once over the short text.

@@ -14,3 +14,5 @@ pub mod Telling
 pub mod Listing
 -- what is mentioned in trees with lists
 pub mod MentionsViews
+-- rows of the definitions
+mod Examples

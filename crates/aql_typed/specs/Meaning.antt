@@ -32,6 +32,11 @@ group_value (Some e) = span e
 abbrev pub one_column : List Extent → Rows
 one_column = map (λ e. span e ∷ [])
 
+-- the first rows, in row order
+abbrev pub cut : List ℕ → Option ℕ → Rows → Rows
+cut order None rows = rows
+cut order (Some n) rows = sorted (limited order (Some n) rows)
+
 module _ (lists : Lists) (doc : Doc) where
   -- the values of expressions for a row
   abbrev pub row_of : List Term → List Datum → List Datum
@@ -52,27 +57,25 @@ module _ (lists : Lists) (doc : Doc) where
   projected (grouped_by keys arguments aggregates) rows =
       sorted (grouped (range_with_len 0 (length keys)) aggregates (map (row_of (keys ++ arguments)) rows))
 
-  -- the first rows, in row order
-  abbrev pub cut : List ℕ → Option ℕ → Rows → Rows
-  cut order None rows = rows
-  cut order (Some n) rows = sorted (limited order (Some n) rows)
-
-  -- the rows that are found in one row of the source: one for each match in the span of the column, nothing where it has
-  -- no span
-  abbrev pub found_in : Extraction → List Datum → Rows
-  found_in (regex column p groups) row =
-      of_some (λ source. map (map group_value) (of_pattern lists p (λ pattern. match_rows pattern doc source groups))) (span_in column row)
+  -- what is found in one row of the source, one row of groups for each match in the span of the column; nothing where it
+  -- has no span
+  abbrev pub found_in : Extraction → List Datum → List (List (Option Extent))
+  found_in (regex column p groups) row = of_some (λ source. of_pattern lists p (λ pattern. match_rows pattern doc source groups)) (span_in column row)
   found_in (token_regex column low high p groups) row =
-      of_some (λ source. map (map group_value) (of_pattern lists p (λ pattern. run_rows pattern doc source low high groups))) (span_in column row)
+      of_some (λ source. of_pattern lists p (λ pattern. run_rows pattern doc source low high groups)) (span_in column row)
   found_in (dict column d) row =
-      of_some (λ source. one_column (of_dict lists d (λ dictionary. dict_matches dictionary doc source))) (span_in column row)
+      of_some (λ source. map (λ e. Some e ∷ []) (of_dict lists d (λ dictionary. dict_matches dictionary doc source))) (span_in column row)
   found_in (blocks column low high from to tokens) row = []
 
-  -- for each row of the source the items' values, followed by what is found; blocks stand for all rows together
+  -- a row for each match in one row of the source: the items' values, followed by the spans of the groups
+  abbrev pub extracted_from : List Term → Extraction → List Datum → Rows
+  extracted_from items extraction row = map (λ found. row_of items row ++ map group_value found) (found_in extraction row)
+
+  -- those of all rows; blocks stand for all rows together
   abbrev pub extracted : List Term → Extraction → Rows → Rows
   extracted items (blocks column low high from to tokens) rows =
       one_column (blocks_of (is_neighbour doc tokens from to) low high (filter_map (span_in column) rows))
-  extracted items extraction rows = flat_map (λ row. map (λ found. row_of items row ++ found) (found_in extraction row)) rows
+  extracted items extraction rows = flat_map (extracted_from items extraction) rows
 
   -- a selection: of the combinations of its sources' rows
   abbrev pub select_rows : SelectClauses → Rows → Rows

@@ -1,6 +1,9 @@
 //! The work of the benches of `aql_bench`, written by hand over the crate `regex` and std. For comparison only.
 //!
 //! usage: layers NAME FILE ROUNDS
+#[path = "../filters.rs"]
+mod filters;
+
 use smallvec::{SmallVec, smallvec};
 use std::collections::HashMap;
 use std::time::{Duration, Instant};
@@ -604,6 +607,7 @@ fn main() {
         "overlaps-all" => join(name, &text, rounds, "overlaps", true),
         "contains-few" => join(name, &text, rounds, "contains", false),
         "contains-all" => join(name, &text, rounds, "contains", true),
+        "equal-numbers" | "long-spans" | "digit-spans" | "dictionary-behind" => filters::filter(name, &text, rounds),
         _ => {
             eprintln!("no bench has the name {name}");
             std::process::exit(2);

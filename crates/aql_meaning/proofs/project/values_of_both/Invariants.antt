@@ -1,0 +1,12 @@
+use Rattle.std.proofs.Common.{◌≡◌, ◌++◌, map, take, length}
+use Rattle.row_values.specs.Rows.{RowsLieIn}
+use Rattle.aql_typed.specs.Meaning.{row_of}
+use Rattle.aql_meaning.proofs.project.values_of_both.Given as goal
+
+abbrev pub invariant-loop-row : goal.invariant-loop-row
+invariant-loop-row l = record {
+  rows : l.out.rows ≡ map (row_of l.fn.tools l.doc (l.keys ++ l.arguments)) (take l.row-index l.rows);
+  width : l.out.width ≡ length (l.keys ++ l.arguments);
+  lies : RowsLieIn l.doc l.out.rows;
+  same : l.tools ≡ l.fn.tools;
+}

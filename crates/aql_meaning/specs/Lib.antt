@@ -1,0 +1,9 @@
+-- Words of public clauses
+-- the rows of views, and those of an output
+pub mod RowLists
+pub mod Outputs
+-- Words of private clauses
+-- what a search in a row wants, and where what is found lies
+pub mod Finds
+-- what sources mean, with their widths
+pub mod Sources
