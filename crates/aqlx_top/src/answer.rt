@@ -15,7 +15,7 @@ ghost use Rattle.aqlx_top.specs.Endings.{written_for};
 ghost use Rattle.aqlx_top.specs.Run.{line_of, outputs_of, program_of};
 ghost use Rattle.aqlx_top.specs.Shown.{rows_shown};
 
-use crate::stub::slow;
+use aql_meaning::slow;
 use aql_typed::{Output, Typed};
 use corpus_json::{Input, Layout, NotDocument, append_document, read_document};
 use row_values::{Row, Rows, Value};
