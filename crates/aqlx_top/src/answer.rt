@@ -25,10 +25,12 @@ use std::alloc::Global;
 use std::mem;
 
 /// Puts what is written for a line of the corpus after what is pending: a line for a document, and
-/// nothing for a blank line. False where the line is neither.
+/// nothing for a blank line. False where the line is neither. Documents keep their tokens where
+/// `with_tokens`; what is written is the same.
 pub(crate) fn answer(
     alloc: Global,
     typed: &Typed,
+    with_tokens: bool,
     layout: &Layout<'_>,
     tools: &mut Tools<'_>,
     line: &[u8],
@@ -43,7 +45,7 @@ pub(crate) fn answer(
 {
     match read_document(alloc, line) {
         Ok(Some(input)) => {
-            write_for(alloc, typed, layout, tools, &input, pending)?;
+            write_for(alloc, typed, with_tokens, layout, tools, &input, pending)?;
             Ok(true)
         }
         Ok(None) => Ok(true),
@@ -56,6 +58,7 @@ pub(crate) fn answer(
 fn write_for(
     alloc: Global,
     typed: &Typed,
+    with_tokens: bool,
     layout: &Layout<'_>,
     tools: &mut Tools<'_>,
     input: &Input,
@@ -67,18 +70,26 @@ fn write_for(
     ensures bytes { OnOk result (pending.new.items ≡ pending.old.items ++ line_of (program_of typed.now) (doc_of input.now)) }
     ensures same { tools.new ≡ tools.old }
 {
-    let document = document_of(alloc, input)?;
+    let document = document_of(alloc, with_tokens, input)?;
     let all = slow(alloc, tools, &document, typed)?;
     let whole = whole_row(alloc, &document)?;
     append_rows(alloc, typed, layout, &document, all.as_slice(), &whole, pending)
 }
 
-/// The document that was read.
-fn document_of<'d>(alloc: Global, input: &'d Input) -> Result<Document<'d>, OutOfMemory>
+/// The document that was read, with its tokens kept or not.
+fn document_of<'d>(
+    alloc: Global,
+    with_tokens: bool,
+    input: &'d Input,
+) -> Result<Document<'d>, OutOfMemory>
     requires short { length input.now.text ≤ 16777216 }
     ensures { IfOk result (λ document. document ≡ doc_of input.now) }
 {
-    Document::new(alloc, input.text.as_str(), label_of(input))
+    if with_tokens {
+        Document::new(alloc, input.text.as_str(), label_of(input))
+    } else {
+        Document::plain(alloc, input.text.as_str(), label_of(input))
+    }
 }
 
 fn label_of(input: &Input) -> Option<&str>

@@ -8,6 +8,7 @@
 #![tactic(auto)]
 
 mod answer;
+mod asks;
 mod limits;
 mod outputs;
 mod program;

@@ -8,6 +8,7 @@ ghost use Rattle.aqlx_top.specs.Run.{line_of, outputs_of, program_of};
 ghost use Rattle.aqlx_top.specs.Turns.{Turned, Begins, IsKept};
 
 use crate::answer::answer;
+use crate::asks::asks_for_tokens;
 use crate::put::{put, put_and_flush};
 use crate::{CorpusFault, Status};
 use aql_io::{Failed, Sink, Source};
@@ -29,6 +30,7 @@ pub(crate) struct Work<'p> {
     pub line: Vec<u8>,
     pub number: u64,
     pub tools: Tools<'p>,
+    pub with_tokens: bool,
     pub pending: Vec<u8>,
 }
 
@@ -81,6 +83,7 @@ fn begin<'p>(
         line: Vec::new(alloc),
         number: 0,
         tools: Tools::new(alloc, typed.tables())?,
+        with_tokens: asks_for_tokens(typed),
         pending: Vec::new(alloc),
     })
 }
@@ -130,6 +133,7 @@ fn take_turn<S: Source>(
             if answer(
                 alloc,
                 typed,
+                work.with_tokens,
                 &work.layout,
                 &mut work.tools,
                 &work.line,

@@ -12,11 +12,55 @@ const DIGIT: &str = "{\"views\":{\"P\":[{\"num\":{\"begin\":0,\"end\":1,\"text\"
 
 #[test]
 fn refusals_have_their_status_and_their_line(rt: HostRuntime) -> Result<(), Fail> {
-    let rows: [(&[&str], &str, u8, &str, &str); 7] = [
+    let rows: [(&[&str], &str, u8, &str, &str); 15] = [
         (&["run"], NO_NUMBERS, 2, "", USAGE),
         (&["run", "p.aql", "p.aql"], NO_NUMBERS, 2, "", USAGE),
         (&["walk", "p.aql"], NO_NUMBERS, 2, "", USAGE),
         (&[], NO_NUMBERS, 2, "", USAGE),
+        (
+            &["run", "p.aql", "--workers", "0"],
+            NO_NUMBERS,
+            2,
+            "",
+            USAGE,
+        ),
+        (
+            &["run", "p.aql", "--workers", "17"],
+            NO_NUMBERS,
+            2,
+            "",
+            USAGE,
+        ),
+        (
+            &["run", "p.aql", "--workers", "-1"],
+            NO_NUMBERS,
+            2,
+            "",
+            USAGE,
+        ),
+        (&["run", "p.aql", "--workers=4"], NO_NUMBERS, 2, "", USAGE),
+        (&["run", "--workers", "4"], NO_NUMBERS, 2, "", USAGE),
+        (
+            &["run", "p.aql", "--workers", "004"],
+            "{\"text\":\"1\"}",
+            0,
+            DIGIT,
+            "",
+        ),
+        (
+            &["run", "--workers", "16", "p.aql"],
+            "{\"text\":\"1\"}",
+            0,
+            DIGIT,
+            "",
+        ),
+        (
+            &["--workers", "1", "run", "p.aql"],
+            "{\"text\":\"1\"}",
+            0,
+            DIGIT,
+            "",
+        ),
         (&["run", "q.aql"], NO_NUMBERS, 4, "", READ_FAULT),
         (
             &["run", "p.aql"],
@@ -196,11 +240,11 @@ fn a_line_that_cannot_be_written_is_a_write_fault(rt: HostRuntime) -> Result<(),
         (&[], NUMBERS, "", &[], 2, USAGE),
         (
             &["run", "p.aql"],
-            "",
+            "output view Q;",
             "",
             &[],
             1,
-            "aqlx: statement 1: not built yet\n",
+            "aqlx: statement 1: no view Q\n",
         ),
         (
             &["run", "p.aql"],

@@ -8,6 +8,8 @@ mod devices;
 #[cfg(test)]
 mod documents;
 #[cfg(test)]
+mod language;
+#[cfg(test)]
 mod programs;
 #[cfg(test)]
 mod setup;

@@ -3,60 +3,6 @@ use crate::setup::{NO_NUMBERS, Setup, run, usual};
 use std::alloc::Global;
 use std::test::Fail;
 
-const NOT_BUILT_1: &str = "aqlx: statement 1: not built yet\n";
-
-const NOT_BUILT_2: &str = "aqlx: statement 2: not built yet\n";
-
-/// Each row: a program that isn't of the one form, and the line that names the first statement off it.
-const UNBUILT: [(&str, &str); 13] = [
-    ("", NOT_BUILT_1),
-    ("-- nothing\n/* at all */", NOT_BUILT_1),
-    (
-        "create view P as extract regex /(/ on D.text as n from Document D; output view P;",
-        NOT_BUILT_1,
-    ),
-    (
-        "create view P as extract regex /a{300}{300}/ on D.text as n from Document D; output view P;",
-        NOT_BUILT_1,
-    ),
-    (
-        "create view P as extract regex /a/ on E.text as n from Document D; output view P;",
-        NOT_BUILT_1,
-    ),
-    (
-        "create view P as extract regex /a/ on Document.text as n from Document D; output view P;",
-        NOT_BUILT_1,
-    ),
-    (
-        "create view P as extract regex /a/ on D.Text as n from Document D; output view P;",
-        NOT_BUILT_1,
-    ),
-    (
-        "create view P as extract regex /a/ on 1 tokens in D.text as n from Document D; output view P;",
-        NOT_BUILT_1,
-    ),
-    (
-        "create view P as extract regex /a/ on D.text return group 0 as n from Document D; output view P;",
-        NOT_BUILT_1,
-    ),
-    (
-        "create view P as extract D.text, regex /a/ on D.text as n from Document D; output view P;",
-        NOT_BUILT_1,
-    ),
-    (
-        "create view P as extract regex /a/ on D.text as n from Document D limit 1; output view P;",
-        NOT_BUILT_1,
-    ),
-    (
-        "create view P as extract regex /a/ on D.text as n from Document D;",
-        NOT_BUILT_2,
-    ),
-    (
-        "create view P as extract regex /a/ on D.text as n from Document D; output view P as 'P';",
-        NOT_BUILT_2,
-    ),
-];
-
 /// Each row: a program whose names can't be resolved, and its line.
 const UNRESOLVED: [(&str, &str); 12] = [
     ("output view P;", "aqlx: statement 1: no view P\n"),
@@ -117,9 +63,77 @@ fn names_that_cannot_be_resolved_are_told(rt: HostRuntime) -> Result<(), Fail> {
     Ok(())
 }
 
+/// Each row: a program with a fault of types, and its line.
+const MISTYPED: [(&str, &str); 16] = [
+    (
+        r#"create view A as select D.txt from Document D; output view A;"#,
+        "aqlx: statement 1, byte 24: no column txt\n",
+    ),
+    (
+        r#"create view P as extract regex /(/ on D.text as n from Document D;"#,
+        "aqlx: statement 1, byte 31: bad pattern\n",
+    ),
+    (
+        r#"create view P as extract regex /a{1000}{1000}/ on D.text as n from Document D;"#,
+        "aqlx: statement 1, byte 31: pattern too large: 13 bytes, weight 1000000\n",
+    ),
+    (
+        r#"create view A as select GetLength(3) as n from Document D;"#,
+        "aqlx: statement 1, byte 34: wanted Span, found Integer\n",
+    ),
+    (
+        r#"create view P as extract regex /[0-9]+/ on D.text as num from Document D; create view G as select P.num, Count(*) as n from P;"#,
+        "aqlx: statement 2, byte 98: not grouped\n",
+    ),
+    (
+        r#"create view A as select E.text from Document D;"#,
+        "aqlx: statement 1, byte 24: no alias E\n",
+    ),
+    (
+        r#"create view A as select D.text from Document D, Document D;"#,
+        "aqlx: statement 1, byte 57: alias D again\n",
+    ),
+    (
+        r#"create view A as select D.text, D.text from Document D;"#,
+        "aqlx: statement 1, byte 32: column text again\n",
+    ),
+    (
+        r#"create view A as select Nope(D.text) as n from Document D where 1;"#,
+        "aqlx: statement 1, byte 24: no function Nope\n",
+    ),
+    (
+        r#"create view A as (select D.text from Document D) union all (select D.text as t from Document D);"#,
+        "aqlx: statement 1, byte 60: schemas differ\n",
+    ),
+    (
+        r#"create view A as extract regex /a/ on between 2 and 1 tokens in D.text as n from Document D;"#,
+        "aqlx: statement 1, byte 46: range 2 to 1\n",
+    ),
+    (
+        r#"create view A as select D.text from Document D consolidate on D.text using 'Best';"#,
+        "aqlx: statement 1, byte 75: no policy Best\n",
+    ),
+    (
+        r#"create view A as extract regex /(a)/ on D.text return group 2 as n from Document D;"#,
+        "aqlx: statement 1, byte 60: no group 2\n",
+    ),
+    (
+        r#"create view A as select D.text from Document D limit -1;"#,
+        "aqlx: statement 1, byte 53: range -1 to -1\n",
+    ),
+    (
+        r#"create view A as select D.text as t from Document D where Follows(D.text, D.text, 3, 2) order by u;"#,
+        "aqlx: statement 1, byte 82: range 3 to 2\n",
+    ),
+    (
+        r#"create view B as select A.y from A; create view A as select D.text as x from Document D;"#,
+        "aqlx: statement 1, byte 24: no column y\n",
+    ),
+];
+
 #[test]
-fn the_first_statement_off_the_one_form_is_named(rt: HostRuntime) -> Result<(), Fail> {
-    for (program, line) in &UNBUILT {
+fn faults_of_types_have_their_place(rt: HostRuntime) -> Result<(), Fail> {
+    for (program, line) in &MISTYPED {
         let ran = run(rt.alloc(), &usual(program, NO_NUMBERS))?;
         assert_eq!(rt; ran.code, 1, "of {program}");
         assert_eq!(rt; ran.out.bytes().len(), 0, "of {program}");
@@ -170,13 +184,13 @@ fn views(alloc: Global, count: u32) -> Result<String, Fail> {
 fn two_thousand_statements_are_read_and_one_more_is_not(rt: HostRuntime) -> Result<(), Fail> {
     let alloc = rt.alloc();
     let rows = [
-        (2000u32, NOT_BUILT_2),
-        (2001, "aqlx: program too large: statements 2001\n"),
+        (2000u32, 0u8, ""),
+        (2001, 1, "aqlx: program too large: statements 2001\n"),
     ];
-    for (count, line) in &rows {
+    for (count, code, line) in &rows {
         let program = views(alloc, *count)?;
         let ran = run(alloc, &usual(program.as_str(), NO_NUMBERS))?;
-        assert_eq!(rt; ran.code, 1, "of {count} statements");
+        assert_eq!(rt; ran.code, *code, "of {count} statements");
         assert_eq!(rt; ran.err.bytes(), line.as_bytes(), "of {count} statements");
     }
     Ok(())
@@ -186,10 +200,10 @@ fn two_thousand_statements_are_read_and_one_more_is_not(rt: HostRuntime) -> Resu
 fn sixty_four_parentheses_are_read_and_one_more_is_not(rt: HostRuntime) -> Result<(), Fail> {
     let alloc = rt.alloc();
     let rows = [
-        (63usize, NOT_BUILT_1),
-        (64, "aqlx: program too large: nesting 65\n"),
+        (63usize, 0u8, ""),
+        (64, 1, "aqlx: program too large: nesting 65\n"),
     ];
-    for (count, line) in &rows {
+    for (count, code, line) in &rows {
         let mut program = String::from_str(
             alloc,
             "create view P as select D.text from Document D where ",
@@ -203,7 +217,7 @@ fn sixty_four_parentheses_are_read_and_one_more_is_not(rt: HostRuntime) -> Resul
         }
         program.push_str(");")?;
         let ran = run(alloc, &usual(program.as_str(), NO_NUMBERS))?;
-        assert_eq!(rt; ran.code, 1, "of {count} calls");
+        assert_eq!(rt; ran.code, *code, "of {count} calls");
         assert_eq!(rt; ran.err.bytes(), line.as_bytes(), "of {count} calls");
     }
     Ok(())
@@ -213,18 +227,18 @@ fn sixty_four_parentheses_are_read_and_one_more_is_not(rt: HostRuntime) -> Resul
 fn a_program_of_the_limit_is_read_and_a_longer_one_is_not(rt: HostRuntime) -> Result<(), Fail> {
     let alloc = rt.alloc();
     let rows = [
-        (1_048_576usize, NOT_BUILT_1),
-        (1_048_577, "aqlx: program too large: bytes 1048577\n"),
-        (1_100_000, "aqlx: program too large: bytes 1048577\n"),
+        (1_048_576usize, 0u8, ""),
+        (1_048_577, 1, "aqlx: program too large: bytes 1048577\n"),
+        (1_100_000, 1, "aqlx: program too large: bytes 1048577\n"),
     ];
-    for (count, line) in &rows {
+    for (count, code, line) in &rows {
         let spaces = vec![in alloc; b' '; *count]?;
         let setup = Setup {
             program: &spaces,
             ..usual("", NO_NUMBERS)
         };
         let ran = run(alloc, &setup)?;
-        assert_eq!(rt; ran.code, 1, "of {count} bytes");
+        assert_eq!(rt; ran.code, *code, "of {count} bytes");
         assert_eq!(rt; ran.err.bytes(), line.as_bytes(), "of {count} bytes");
     }
     Ok(())
