@@ -33,13 +33,17 @@ pub record ViewTyping : Type 0 where
 abbrev pub view_of : List ℕ → QueryTyping → View
 view_of name query = record { name = name; columns = query.columns; body = query.body }
 
+-- what stands for a statement that creates no view
+abbrev pub no_view : View
+no_view = record { name = []; columns = []; body = typed.union typed.no_queries }
+
 module _ (known : Known) where
   -- the view of a statement, above the views below it
   abbrev pub typing_of_statement : List View → ℕ → Statement → ViewTyping
   typing_of_statement below number (create name query) =
       let t = typing_of_query known below query in
       record { faults = map (fault_in number) t.faults; view = view_of name.text t }
-  typing_of_statement below number statement = record { faults = []; view = record { name = []; columns = []; body = typed.union typed.no_queries } }
+  typing_of_statement below number statement = record { faults = []; view = no_view }
 
   module _ (program : List Statement) where
     -- the views with these numbers, in their order, each above those before it

@@ -5,16 +5,28 @@
 //! on `aql_tables` for patterns and dictionaries and on `aql_typed` for typed programs.
 #![tactic(auto)]
 
+mod below;
 mod call;
+mod clause;
+mod columns;
 mod copying;
 mod expression;
+mod extraction;
 mod fault;
 mod function;
 mod given;
 mod item;
+mod key;
 mod known;
+mod label;
+mod looked;
+mod program;
+mod query;
 mod refusal;
 mod scope;
+mod selection;
+mod sides;
+mod source;
 mod wanted;
 
 pub use fault::{TypeFault, TypeRule};
