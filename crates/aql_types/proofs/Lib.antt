@@ -21,3 +21,4 @@ pub mod FitsQueries
 pub mod FitsOutputs
 pub mod FitsPrograms
 pub mod ProgramFirsts
+pub mod Sorting

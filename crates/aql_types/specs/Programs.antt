@@ -77,13 +77,17 @@ abbrev pub output_in : List View → Statement → List Output
 output_in views (output name alias) = output_with views name (output_name (output name alias))
 output_in views statement = []
 
+-- the outputs, in the order of their statements
+abbrev pub outputs_in : List View → List Statement → List Output
+outputs_in views program = flat_map (output_in views) program
+
 -- by the bytes of their names
 abbrev pub by_name : Output → Output → Ordering
 by_name a b = slice_cmp nat_cmp a.name b.name
 
 -- the outputs of a program
 abbrev pub outputs_of_program : List View → List Statement → List Output
-outputs_of_program views program = sorted_by by_name (flat_map (output_in views) program)
+outputs_of_program views program = sorted_by by_name (outputs_in views program)
 
 -- a view of the code
 abbrev pub view_seen : TypedView → View
