@@ -21,7 +21,8 @@ use view_graph::Graph;
 /// The typed program of a graph, or its first fault of types.
 ///
 /// Views are checked by rank and then by statement, the parts of a statement in one order; a program has
-/// one first fault, or none. Takes time about linear in the program, and recurs as deep as it nests.
+/// one first fault, or none. Recurs as deep as the program nests. A source looks through the views below
+/// it, and a column through those of its source.
 ///
 /// Meaning: `IsTyped` and `IsTypeFault`, `specs/Programs.antt`.
 pub fn check(alloc: Global, graph: &Graph) -> Result<Typed, Failure<TypeFault>>
