@@ -1,9 +1,10 @@
 -- The clauses after the sources.
-use Rattle.std.specs.Prelude.{ℕ, pos, Bool, true, false, not, ◌||◌, List, [], ◌∷◌, ◌++◌, Option, Some, None, map, flat_map, option_map, is_none, int_le, nat_abs, codes}
+use Rattle.std.specs.Prelude.{ℕ, pos, Bool, true, false, not, ◌||◌, List, [], ◌∷◌, ◌++◌, Option, Some, None, map, flat_map, option_map, is_none, int_le, nat_abs, codes, if◌then◌else◌}
 use Rattle.aql_syntax.specs.Trees.{Name, Number, Term, column, bare, Item, Cons}
 use Rattle.aql_typed.specs.Trees.{Consolidation}
 use Rattle.span_sets.specs.declared.policy.Policy.{Policy}
 use Rattle.span_sets.specs.declared.policy.Policy.TheVariants as policy
+use Rattle.scalar_ops.specs.declared.kind.Kind.{Kind}
 use Rattle.scalar_ops.specs.declared.kind.Kind.TheVariants as kind
 use Rattle.scalar_ops.specs.Expressions as expressed
 use Rattle.aql_types.specs.declared.fault.Breach.{Breach}
@@ -13,7 +14,7 @@ use Rattle.aql_types.specs.Faults.{broken}
 use Rattle.aql_types.specs.Functions.{entry_named}
 use Rattle.aql_types.specs.Known.{Known}
 use Rattle.aql_types.specs.Typings.{Typing, term_meant, Content, expression, row_count, aggregated, ItemTyping}
-use Rattle.aql_types.specs.Scopes.{Scope, item_named}
+use Rattle.aql_types.specs.Scopes.{Scope}
 use Rattle.aql_types.specs.Calls.{wrong_argument}
 use Rattle.aql_types.specs.Expressions.{typing}
 use Rattle.aql_types.specs.Items.{place_of}
@@ -48,16 +49,18 @@ bad_limit (Some n) = broken (not (int_le (pos 0) n.value)) n.at (BadRange n.valu
 abbrev pub limit_of : Option Number → Option ℕ
 limit_of limit = option_map (λ n. nat_abs n.value) limit
 
--- NotGrouped: of a selection that groups by these keys, an item is neither an aggregate nor equal to a key; at the item
 abbrev pub is_aggregate : Content → Bool
 is_aggregate (expression meant) = false
 is_aggregate row_count = true
 is_aggregate (aggregated a meant) = true
 
+-- NotGrouped: of a selection that groups by these keys, an item is neither an aggregate nor equal to a key; at the item
 module _ (items : List Item) (keys : List Term) where
+  abbrev pub ungrouped : Item → ItemTyping → List Breach
+  ungrouped item typed = broken (not (is_aggregate typed.content || is_key items keys item)) typed.at NotGrouped
+
   abbrev pub not_grouped : List Item → List ItemTyping → List Breach
-  not_grouped (item ∷ more) (typed ∷ more_typed) =
-      broken (not (is_aggregate typed.content || is_key items keys item)) typed.at NotGrouped ++ not_grouped more more_typed
+  not_grouped (item ∷ more) (typed ∷ more_typed) = ungrouped item typed ++ not_grouped more more_typed
   not_grouped more typed = []
 
 -- an `order by` key that is no item keeps the column's name, or this text
@@ -66,42 +69,48 @@ name_kept (column at alias name) = name.text
 name_kept (bare at name) = name.text
 name_kept term = codes "order by"
 
--- UnknownColumn: an `order by` key equals no item's expression; at the expression
+-- UnknownColumn: an `order by` key equals no item's expression, or is a bare name that is no output name; at the expression
 abbrev pub no_item : List Item → Term → List Breach
 no_item items key = broken (not (has_item items key)) (place_of key) (UnknownColumn (name_kept key))
 
+-- the expression is a bare name
+abbrev pub is_bare : Term → Bool
+is_bare (bare at name) = true
+is_bare term = false
+
+-- an expression that is wanted to be of a kind
+abbrev pub kind_faults : Known → Kind → Typing → List Breach
+kind_faults known wanted t = t.faults ++ wrong_argument known (OfKind wanted) t
+
 module _ (known : Known) (scope : Scope) where
-  -- each condition is Boolean
-  abbrev pub condition_faults : Typing → List Breach
-  condition_faults t = t.faults ++ wrong_argument known (OfKind kind.Boolean) t
-
-  abbrev pub conditions_faults : List Term → List Breach
-  conditions_faults conds = flat_map (λ cond. condition_faults (typing known scope cond)) conds
-
-  -- a group key is wanted Any
-  abbrev pub key_faults : Typing → List Breach
-  key_faults t = t.faults ++ wrong_argument known (OfKind kind.Any) t
-
-  abbrev pub keys_faults : List Term → List Breach
-  keys_faults keys = flat_map (λ key. key_faults (typing known scope key)) keys
+  -- conditions are Boolean, group keys are wanted Any
+  abbrev pub each_faults : Kind → List Term → List Breach
+  each_faults wanted exprs = flat_map (λ expr. kind_faults known wanted (typing known scope expr)) exprs
 
   -- the target of a consolidation is a Span; the target is checked before the policy
+  abbrev pub cons_faults : Cons → List Breach
+  cons_faults cons = kind_faults known kind.Span (typing known scope cons.target) ++ unknown_policy cons.policy
+
   abbrev pub consolidation_faults : Option Cons → List Breach
   consolidation_faults None = []
-  consolidation_faults (Some cons) =
-      let t = typing known scope cons.target in
-      t.faults ++ (wrong_argument known (OfKind kind.Span) t ++ unknown_policy cons.policy)
+  consolidation_faults (Some cons) = cons_faults cons
 
   abbrev pub terms_of : List Term → List expressed.Term
   terms_of exprs = map (λ expr. term_meant (typing known scope expr).meant) exprs
 
+  abbrev pub consolidation_for : Cons → Consolidation
+  consolidation_for cons = record { policy = policy_of cons.policy; target = term_meant (typing known scope cons.target).meant }
+
   abbrev pub consolidation_of : Option Cons → Option Consolidation
-  consolidation_of cons = option_map (λ c. record { policy = policy_of c.policy; target = term_meant (typing known scope c.target).meant }) cons
+  consolidation_of cons = option_map consolidation_for cons
 
-  -- an `order by` key: an output name, also of an aggregate, or an expression that is an item
-  abbrev pub order_faults : List Item → List ItemTyping → Term → List Breach
-  order_faults items typed (bare at name) = broken (is_none (item_named name.text typed)) at (UnknownColumn name.text)
-  order_faults items typed key = (typing known scope key).faults ++ no_item items key
+  -- what is wrong with an `order by` key by itself: a bare name stands for its item, also for an aggregate
+  abbrev pub key_faults : Term → List Breach
+  key_faults key = if is_bare key then [] else (typing known scope key).faults
 
-  abbrev pub orders_faults : List Item → List ItemTyping → List Term → List Breach
-  orders_faults items typed keys = flat_map (order_faults items typed) keys
+  -- an `order by` key is an item
+  abbrev pub order_faults : List Item → Term → List Breach
+  order_faults items key = key_faults key ++ no_item items key
+
+  abbrev pub orders_faults : List Item → List Term → List Breach
+  orders_faults items keys = flat_map (order_faults items) keys

@@ -1,21 +1,20 @@
 -- Extractions: the parts in the order of checking, and what an extraction is without a fault.
 use Rattle.std.specs.Prelude.{ℕ, ℤ, pos, Bool, true, false, not, ◌&&◌, List, [], ◌∷◌, ◌++◌, Option, Some, None, map, flat_map, int_le, nat_abs}
-use Rattle.aql_syntax.specs.Trees.{Name, Number, Item, Tail, Range, one, two, Flag, exact, ignore_case, Spec, pattern, dict, blocks}
-use Rattle.aql_typed.specs.Trees as typed
+use Rattle.aql_syntax.specs.Trees.{Name, Number, Item, Tail, Range, one, two, Group, Flag, exact, ignore_case, Spec, pattern, dict, blocks}
+use Rattle.aql_typed.specs.Trees as tree
 use Rattle.aql_typed.specs.declared.tree.Column.{Column}
 use Rattle.scalar_ops.specs.declared.kind.Kind.TheVariants as kind
 use Rattle.aql_types.specs.declared.fault.Breach.{Breach}
 use Rattle.aql_types.specs.declared.fault.TypeRule.TheVariants.{BadRange, BadGroup}
-use Rattle.aql_types.specs.declared.wanted.Wanted.TheVariants.{OfKind}
 use Rattle.aql_types.specs.Faults.{broken}
 use Rattle.aql_types.specs.Known.{Known}
 use Rattle.aql_types.specs.Typings.{Typing, ItemTyping, column_meant}
-use Rattle.aql_types.specs.Scopes.{Visible, no_names, names_of_columns, Scope, typing_of_column}
-use Rattle.aql_types.specs.Calls.{are_gap_bounds, wrong_argument}
+use Rattle.aql_types.specs.Scopes.{Visible, names_of_columns, Scope, typing_of_column}
+use Rattle.aql_types.specs.Calls.{are_gap_bounds}
 use Rattle.aql_types.specs.Expressions.{wrong_pattern}
 use Rattle.aql_types.specs.Items.{duplicate_columns, faults_of_items, columns_of_items, names_of_items, extract_item}
-use Rattle.aql_types.specs.Clauses.{bad_limit, limit_of, conditions_faults, consolidation_faults, terms_of, consolidation_of}
-use Rattle.aql_types.specs.Selections.{QueryTyping, SourceTyping, visible_in, plain_terms}
+use Rattle.aql_types.specs.Clauses.{bad_limit, limit_of, each_faults, kind_faults, consolidation_faults, terms_of, consolidation_of}
+use Rattle.aql_types.specs.Selections.{QueryTyping, SourceTyping, row_of, plain_terms}
 
 -- both ends of a range; one integer is both
 abbrev pub low_of : Range → Number
@@ -50,6 +49,12 @@ abbrev pub bad_group : ℕ → Option Number → List Breach
 bad_group count None = []
 bad_group count (Some n) = broken (not (int_le (pos 0) n.value && int_le n.value (pos count))) n.at (BadGroup n.value)
 
+abbrev pub bad_groups : ℕ → List Group → List Breach
+bad_groups count groups = flat_map (λ group. bad_group count group.number) groups
+
+abbrev pub group_numbers : List Group → List ℕ
+group_numbers groups = map (λ group. group_number group.number) groups
+
 -- blocks stand without items
 abbrev pub items_beside : Spec → List Item → List Item
 items_beside (pattern text bound alias name groups) items = items
@@ -68,13 +73,19 @@ name_on (dict table flag alias name out) = name
 name_on (blocks count gap tokens alias name out) = name
 
 -- the names of the columns that are found; each is a Span
+abbrev pub names_of_groups : List Group → List Name
+names_of_groups groups = map (λ group. group.name) groups
+
 abbrev pub names_found : Spec → List Name
-names_found (pattern text bound alias name groups) = map (λ group. group.name) groups
+names_found (pattern text bound alias name groups) = names_of_groups groups
 names_found (dict table flag alias name out) = out ∷ []
 names_found (blocks count gap tokens alias name out) = out ∷ []
 
+abbrev pub span_columns : List Name → List Column
+span_columns names = map (λ name. record { name = name.text; kind = kind.Span }) names
+
 abbrev pub columns_found : Spec → List Column
-columns_found spec = map (λ name. record { name = name.text; kind = kind.Span }) (names_found spec)
+columns_found spec = span_columns (names_found spec)
 
 -- a dictionary is compared with case where `Exact` is written
 abbrev pub is_exact_flag : Option Flag → Bool
@@ -82,78 +93,88 @@ is_exact_flag None = false
 is_exact_flag (Some exact) = true
 is_exact_flag (Some ignore_case) = false
 
-abbrev pub pattern_looked_for : ℕ → ℕ → List ℕ → Option Range → typed.Extraction
-pattern_looked_for column p groups None = typed.regex column p groups
+abbrev pub pattern_looked_for : ℕ → ℕ → List ℕ → Option Range → tree.Extraction
+pattern_looked_for column p groups None = tree.regex column p groups
 pattern_looked_for column p groups (Some range) =
-    typed.token_regex column (nat_abs (low_of range).value) (nat_abs (high_of range).value) p groups
+    tree.token_regex column (nat_abs (low_of range).value) (nat_abs (high_of range).value) p groups
+
+-- the ranges of blocks: of spans, and of gaps
+abbrev pub block_faults : Range → Range → List Breach
+block_faults count gap = bad_range are_count_bounds count ++ bad_range are_gap_bounds gap
+
+abbrev pub blocks_looked_for : ℕ → Range → Range → Bool → tree.Extraction
+blocks_looked_for column count gap tokens =
+    tree.blocks column (nat_abs (low_of count).value) (nat_abs (high_of count).value) (low_of gap).value (high_of gap).value tokens
+
+-- `on`: a column, at its alias, which is a Span
+abbrev pub typing_on : List Visible → Spec → Typing
+typing_on sources spec = typing_of_column sources (alias_on spec).at (alias_on spec) (name_on spec)
+
+-- in `having` and `consolidate on` bare names are the columns that are given, and there are no aliases
+abbrev pub column_scope : List Column → Scope
+column_scope columns = record { sources = []; names = names_of_columns columns }
 
 module _ (known : Known) where
+  -- a pattern, its bound and its groups
+  abbrev pub pattern_faults : Name → Option Range → List Group → List Breach
+  pattern_faults text bound groups =
+      wrong_pattern text.at (known.pattern_fault text.text)
+      ++ (bad_bound bound ++ bad_groups (known.group_count text.text) groups)
+
   -- the pattern, its bound and its groups; the ranges of blocks. A dictionary that is named is defined
   abbrev pub spec_faults : Spec → List Breach
-  spec_faults (pattern text bound alias name groups) =
-      wrong_pattern text.at (known.pattern_fault text.text)
-      ++ (bad_bound bound ++ flat_map (λ group. bad_group (known.group_count text.text) group.number) groups)
+  spec_faults (pattern text bound alias name groups) = pattern_faults text bound groups
   spec_faults (dict table flag alias name out) = []
-  spec_faults (blocks count gap tokens alias name out) = bad_range are_count_bounds count ++ bad_range are_gap_bounds gap
+  spec_faults (blocks count gap tokens alias name out) = block_faults count gap
 
   -- what is looked for, in the column with this number
-  abbrev pub looked_for : ℕ → Spec → typed.Extraction
+  abbrev pub looked_for : ℕ → Spec → tree.Extraction
   looked_for column (pattern text bound alias name groups) =
-      pattern_looked_for column (known.pattern_place text.text) (map (λ group. group_number group.number) groups) bound
-  looked_for column (dict table flag alias name out) = typed.dict column (known.dict_place table.text (is_exact_flag flag))
-  looked_for column (blocks count gap tokens alias name out) =
-      typed.blocks column (nat_abs (low_of count).value) (nat_abs (high_of count).value) (low_of gap).value (high_of gap).value tokens
+      pattern_looked_for column (known.pattern_place text.text) (group_numbers groups) bound
+  looked_for column (dict table flag alias name out) = tree.dict column (known.dict_place table.text (is_exact_flag flag))
+  looked_for column (blocks count gap tokens alias name out) = blocks_looked_for column count gap tokens
 
-  module _ (source : SourceTyping) (items : List Item) (spec : Spec) (tail : Tail) where
-    abbrev pub sources_seen : List Visible
-    sources_seen = visible_in (source ∷ [])
+  -- `having`, `consolidate`, `limit`
+  abbrev pub tail_faults : Scope → Tail → List Breach
+  tail_faults scope tail =
+      each_faults known scope kind.Boolean tail.conds ++ (consolidation_faults known scope tail.cons ++ bad_limit tail.limit)
 
-    abbrev pub source_scope : Scope
-    source_scope = record { sources = sources_seen; names = no_names }
-
+  -- what an extraction finds in the rows of its source, in a scope where no bare name stands for anything
+  module _ (row : Scope) (items : List Item) (spec : Spec) (tail : Tail) where
     abbrev pub items_extracted : List ItemTyping
-    items_extracted = map (extract_item known source_scope) (items_beside spec items)
-
-    -- `on`: a column, at its alias, which is a Span
-    abbrev pub typing_on : Typing
-    typing_on = typing_of_column sources_seen (alias_on spec).at (alias_on spec) (name_on spec)
-
-    abbrev pub on_faults : List Breach
-    on_faults = typing_on.faults ++ wrong_argument known (OfKind kind.Span) typing_on
+    items_extracted = map (extract_item known row) (items_beside spec items)
 
     -- the items, and then what is found
     abbrev pub columns_given : List Column
     columns_given = columns_of_items items_extracted ++ columns_found spec
 
-    -- in `having` and `consolidate on` bare names are these columns, and there are no aliases
-    abbrev pub column_scope : Scope
-    column_scope = record { sources = []; names = names_of_columns columns_given }
-
-    -- the source, items, `on`, the pattern or dictionary, ranges, groups, output names, `having`, `consolidate`, `limit`
-    abbrev pub extraction_faults : List Breach
-    extraction_faults =
-        source.faults
-        ++ (faults_of_items items_extracted
-        ++ (on_faults
+    -- items, `on`, the pattern or dictionary, ranges, groups, output names, `having`, `consolidate`, `limit`
+    abbrev pub found_faults : List Breach
+    found_faults =
+        faults_of_items items_extracted
+        ++ (kind_faults known kind.Span (typing_on row.sources spec)
         ++ (spec_faults spec
         ++ (duplicate_columns (names_of_items items_extracted ++ names_found spec)
-        ++ (conditions_faults known column_scope tail.conds
-        ++ (consolidation_faults known column_scope tail.cons
-        ++ bad_limit tail.limit))))))
+        ++ tail_faults (column_scope columns_given) tail)))
 
-    abbrev pub extract_clauses : typed.ExtractClauses
+    abbrev pub extract_clauses : tree.ExtractClauses
     extract_clauses = record {
       items = plain_terms items_extracted;
-      extraction = looked_for (column_meant typing_on.meant) spec;
-      conds = terms_of known column_scope tail.conds;
-      consolidate = consolidation_of known column_scope tail.cons;
+      extraction = looked_for (column_meant (typing_on row.sources spec).meant) spec;
+      conds = terms_of known (column_scope columns_given) tail.conds;
+      consolidate = consolidation_of known (column_scope columns_given) tail.cons;
       limit = limit_of tail.limit;
     }
 
-    abbrev pub extraction : ℕ → QueryTyping
-    extraction at = record {
-      at = at;
-      faults = extraction_faults;
-      columns = columns_given;
-      body = typed.extract source.body extract_clauses;
-    }
+-- the scope of a row of its one source
+abbrev pub row_of_one : SourceTyping → Scope
+row_of_one source = row_of (source ∷ [])
+
+-- an extraction: its source, and then what it finds
+abbrev pub extraction : Known → SourceTyping → List Item → Spec → Tail → ℕ → QueryTyping
+extraction known source items spec tail at = record {
+  at = at;
+  faults = source.faults ++ found_faults known (row_of_one source) items spec tail;
+  columns = columns_given known (row_of_one source) items spec tail;
+  body = tree.extract source.body (extract_clauses known (row_of_one source) items spec tail);
+}

@@ -1,8 +1,8 @@
 -- Which key is which item: expressions are compared as trees without places, where a bare name stands for the
 -- expression of the item with that output name.
-use Rattle.std.specs.Prelude.{ℕ, Bool, List, Option, Some, None, find}
+use Rattle.std.specs.Prelude.{ℕ, Bool, List, Option, Some, None, find, length, nat_lt}
 use Rattle.std.specs.Str.{bytes_eq}
-use Rattle.std.specs.List.{list_any, position_or_len}
+use Rattle.std.specs.List.{position_or_len}
 use Rattle.aql_syntax.specs.Trees.{Term, int, str, regex, column, bare, call, star, Terms, no_terms, more_terms, Item}
 use Rattle.aql_syntax.specs.Sameness.{is_same}
 use Rattle.aql_types.specs.Items.{output_name}
@@ -36,16 +36,16 @@ module _ (items : List Item) where
   abbrev pub is_item : Term → Item → Bool
   is_item key item = is_same (written_out key) item.expr
 
-  -- some key is equal to the item; the place of the first such key, from 0
-  abbrev pub is_key : List Term → Item → Bool
-  is_key keys item = list_any (λ key. is_item key item) keys
-
+  -- the place of the first key that is equal to the item, from 0; the number of keys where none is
   abbrev pub key_place : List Term → Item → ℕ
   key_place keys item = position_or_len (λ key. is_item key item) keys
 
-  -- some item is equal to the key; the place of the first such item, from 0
-  abbrev pub has_item : Term → Bool
-  has_item key = list_any (is_item key) items
+  abbrev pub is_key : List Term → Item → Bool
+  is_key keys item = nat_lt (key_place keys item) (length keys)
 
+  -- the place of the first item that is equal to the key, from 0; the number of items where none is
   abbrev pub item_place : Term → ℕ
   item_place key = position_or_len (is_item key) items
+
+  abbrev pub has_item : Term → Bool
+  has_item key = nat_lt (item_place key) (length items)

@@ -25,3 +25,5 @@ pub mod Callees
 pub mod Refusals
 pub mod Knowns
 pub mod Views
+pub mod Parts
+pub mod Sources

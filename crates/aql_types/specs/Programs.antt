@@ -33,13 +33,17 @@ pub record ViewTyping : Type 0 where
 abbrev pub view_of : List ℕ → QueryTyping → View
 view_of name query = record { name = name; columns = query.columns; body = query.body }
 
+-- what stands for a statement that creates no view
+abbrev pub no_view : View
+no_view = record { name = []; columns = []; body = typed.union typed.no_queries }
+
 module _ (known : Known) where
   -- the view of a statement, above the views below it
   abbrev pub typing_of_statement : List View → ℕ → Statement → ViewTyping
   typing_of_statement below number (create name query) =
       let t = typing_of_query known below query in
       record { faults = map (fault_in number) t.faults; view = view_of name.text t }
-  typing_of_statement below number statement = record { faults = []; view = record { name = []; columns = []; body = typed.union typed.no_queries } }
+  typing_of_statement below number statement = record { faults = []; view = no_view }
 
   module _ (program : List Statement) where
     -- the views with these numbers, in their order, each above those before it
@@ -73,13 +77,17 @@ abbrev pub output_in : List View → Statement → List Output
 output_in views (output name alias) = output_with views name (output_name (output name alias))
 output_in views statement = []
 
+-- the outputs, in the order of their statements
+abbrev pub outputs_in : List View → List Statement → List Output
+outputs_in views program = flat_map (output_in views) program
+
 -- by the bytes of their names
 abbrev pub by_name : Output → Output → Ordering
 by_name a b = slice_cmp nat_cmp a.name b.name
 
 -- the outputs of a program
 abbrev pub outputs_of_program : List View → List Statement → List Output
-outputs_of_program views program = sorted_by by_name (flat_map (output_in views) program)
+outputs_of_program views program = sorted_by by_name (outputs_in views program)
 
 -- a view of the code
 abbrev pub view_seen : TypedView → View

@@ -1,8 +1,7 @@
 -- Queries: sources, selections, extractions, unions and differences.
-use Rattle.std.specs.Prelude.{ℕ, suc, Bool, true, false, not, ◌&&◌, List, [], ◌∷◌, ◌++◌, map, flat_map, codes, if◌then◌else◌}
+use Rattle.std.specs.Prelude.{Bool, List, None, Option, Some, [], codes, false, flat_map, if◌then◌else◌, map, not, suc, true, ℕ, ◌&&◌, ◌++◌, ◌∷◌}
 use Rattle.std.specs.Str.{bytes_eq}
 use Rattle.aql_syntax.specs.Trees.{Name, Query, select, extract, union, minus, Queries, no_queries, more_queries, Source, view, nested, Sources, no_sources, more_sources}
-use Rattle.aql_syntax.specs.Naming.{alias_of}
 use Rattle.aql_typed.specs.Trees as typed
 use Rattle.aql_typed.specs.declared.tree.Column.{Column}
 use Rattle.scalar_ops.specs.declared.kind.Kind.{Kind}
@@ -29,12 +28,15 @@ pub record Below : Type 0 where
 abbrev pub document_below : Below
 document_below = record { columns = record { name = codes "text"; kind = kind.Span } ∷ []; body = typed.document }
 
+abbrev pub view_below : ℕ → View → Below
+view_below number v = record { columns = v.columns; body = typed.view number }
+
 -- the view with this name, where the views count from `number`; `Document` is none of them, and each other name that a
 -- query uses is one
 abbrev pub view_named : List ℕ → ℕ → List View → Below
 view_named name number [] = document_below
 view_named name number (v ∷ views) =
-    if bytes_eq v.name name then record { columns = v.columns; body = typed.view number } else view_named name (suc number) views
+    if bytes_eq v.name name then view_below number v else view_named name (suc number) views
 
 -- the kinds that a column can have are told apart
 abbrev pub same_kind : Kind → Kind → Bool
@@ -44,19 +46,28 @@ same_kind kind.Text kind.Text = true
 same_kind kind.Span kind.Span = true
 same_kind k other = false
 
+abbrev pub same_column : Column → Column → Bool
+same_column c d = bytes_eq c.name d.name && same_kind c.kind d.kind
+
 -- equal names and kinds, place by place
 abbrev pub same_columns : List Column → List Column → Bool
 same_columns [] [] = true
-same_columns (c ∷ columns) (d ∷ others) = bytes_eq c.name d.name && (same_kind c.kind d.kind && same_columns columns others)
+same_columns (c ∷ columns) (d ∷ others) = same_column c d && same_columns columns others
 same_columns columns others = false
 
 abbrev pub faults_of_sides : List QueryTyping → List Breach
 faults_of_sides sides = flat_map (λ side. side.faults) sides
 
 -- SchemaMismatch: a later side differs from the first in a column's name, kind or place; at its first `select` or `extract`
+abbrev pub mismatch : QueryTyping → QueryTyping → List Breach
+mismatch first later = broken (not (same_columns first.columns later.columns)) later.at SchemaMismatch
+
+abbrev pub mismatches : QueryTyping → List QueryTyping → List Breach
+mismatches first later = flat_map (mismatch first) later
+
 abbrev pub mismatched : List QueryTyping → List Breach
 mismatched [] = []
-mismatched (side ∷ sides) = flat_map (λ later. broken (not (same_columns side.columns later.columns)) later.at SchemaMismatch) sides
+mismatched (side ∷ sides) = mismatches side sides
 
 abbrev pub first_at : List QueryTyping → ℕ
 first_at [] = 0
@@ -75,28 +86,44 @@ typing_of_sides sides body = record {
   body = body;
 }
 
+-- the alias, or else the view's name
+abbrev pub alias_or : Name → Option Name → Name
+alias_or name None = name
+alias_or name (Some alias) = alias
+
 abbrev pub typing_of_view : Name → Below → SourceTyping
 typing_of_view alias below = record { alias = alias; faults = []; columns = below.columns; body = below.body }
 
 abbrev pub typing_of_nested : Name → QueryTyping → SourceTyping
 typing_of_nested alias query = record { alias = alias; faults = query.faults; columns = query.columns; body = typed.nested query.body }
 
+abbrev pub bodies_of : List QueryTyping → List typed.Query
+bodies_of sides = map (λ t. t.body) sides
+
+abbrev pub union_of : List QueryTyping → QueryTyping
+union_of sides = typing_of_sides sides (typed.union (typed.as_queries (bodies_of sides)))
+
+abbrev pub minus_of : QueryTyping → QueryTyping → QueryTyping
+minus_of left right = typing_of_sides (left ∷ right ∷ []) (typed.minus left.body right.body)
+
+-- the same where the sides have no fault and equal columns
+abbrev pub minus_with : QueryTyping → QueryTyping → QueryTyping
+minus_with left right = record { at = left.at; faults = []; columns = left.columns; body = typed.minus left.body right.body }
+
 module _ (known : Known) (below : List View) where
   abbrev mutual
     pub typing_of_query : Query → QueryTyping
     typing_of_query (select at items sources clauses) = selection known (typings_of_sources sources) items clauses at
     typing_of_query (extract at items spec source tail) = extraction known (typing_of_source source) items spec tail at
-    typing_of_query (union sides) =
-        let typings = typings_of_queries sides in typing_of_sides typings (typed.union (typed.as_queries (map (λ t. t.body) typings)))
-    typing_of_query (minus left right) =
-        let a = typing_of_query left in let b = typing_of_query right in typing_of_sides (a ∷ b ∷ []) (typed.minus a.body b.body)
+    typing_of_query (union sides) = union_of (typings_of_queries sides)
+    typing_of_query (minus left right) = minus_of (typing_of_query left) (typing_of_query right)
 
     pub typings_of_queries : Queries → List QueryTyping
     typings_of_queries no_queries = []
     typings_of_queries (more_queries query queries) = typing_of_query query ∷ typings_of_queries queries
 
     pub typing_of_source : Source → SourceTyping
-    typing_of_source (view name alias) = typing_of_view (alias_of (view name alias)) (view_named name.text 0 below)
+    typing_of_source (view name alias) = typing_of_view (alias_or name alias) (view_named name.text 0 below)
     typing_of_source (nested query alias) = typing_of_nested alias (typing_of_query query)
 
     pub typings_of_sources : Sources → List SourceTyping

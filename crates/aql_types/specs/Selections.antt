@@ -2,10 +2,11 @@
 use Rattle.std.specs.Prelude.{ℕ, ◌+◌, Bool, ◌||◌, List, [], ◌∷◌, ◌++◌, map, flat_map, length, nat_lt, if◌then◌else◌}
 use Rattle.std.specs.List.{list_any}
 use Rattle.aql_syntax.specs.Trees.{Name, Term, Item, Clauses}
-use Rattle.aql_typed.specs.Trees as typed
+use Rattle.aql_typed.specs.Trees as tree
 use Rattle.aql_typed.specs.declared.tree.Column.{Column}
 use Rattle.group_agg.specs.declared.agg.Agg.{Agg}
 use Rattle.group_agg.specs.declared.agg.Agg.TheVariants as agg
+use Rattle.scalar_ops.specs.declared.kind.Kind.TheVariants as kind
 use Rattle.scalar_ops.specs.Expressions as expressed
 use Rattle.aql_types.specs.declared.fault.Breach.{Breach}
 use Rattle.aql_types.specs.declared.fault.TypeRule.TheVariants.{DuplicateAlias}
@@ -17,7 +18,7 @@ use Rattle.aql_types.specs.Typings.{term_meant, Content, expression, row_count, 
 use Rattle.aql_types.specs.Scopes.{Visible, no_names, names_of_items as stand_for_items, Scope}
 use Rattle.aql_types.specs.Items.{duplicate_columns, faults_of_items, columns_of_items, names_of_items, select_item}
 use Rattle.aql_types.specs.Keys.{key_place, item_place}
-use Rattle.aql_types.specs.Clauses.{is_aggregate, not_grouped, bad_limit, limit_of, conditions_faults, keys_faults, consolidation_faults, orders_faults, terms_of, consolidation_of}
+use Rattle.aql_types.specs.Clauses.{is_aggregate, not_grouped, bad_limit, limit_of, each_faults, consolidation_faults, orders_faults, terms_of, consolidation_of}
 
 -- what is said of a query: the place of its first `select` or `extract`, its faults, its columns and what it is. The
 -- last two count only where there is no fault
@@ -25,28 +26,44 @@ pub record QueryTyping : Type 0 where
   pub at : ℕ
   pub faults : List Breach
   pub columns : List Column
-  pub body : typed.Query
+  pub body : tree.Query
 
 -- what is said of a source: its alias, its faults, its columns and what it is
 pub record SourceTyping : Type 0 where
   pub alias : Name
   pub faults : List Breach
   pub columns : List Column
-  pub body : typed.Source
+  pub body : tree.Source
 
 abbrev pub faults_of_sources : List SourceTyping → List Breach
 faults_of_sources sources = flat_map (λ source. source.faults) sources
 
+abbrev pub visible_source : SourceTyping → Visible
+visible_source source = record { alias = source.alias.text; columns = source.columns }
+
 abbrev pub visible_in : List SourceTyping → List Visible
-visible_in sources = map (λ source. record { alias = source.alias.text; columns = source.columns }) sources
+visible_in sources = map visible_source sources
+
+abbrev pub aliases_of : List SourceTyping → List Name
+aliases_of sources = map (λ source. source.alias) sources
+
+abbrev pub bodies_of : List SourceTyping → List tree.Source
+bodies_of sources = map (λ source. source.body) sources
+
+-- a selection of sources
+abbrev pub selected : List tree.Source → tree.SelectClauses → tree.Query
+selected sources clauses = tree.select (tree.as_sources sources) clauses
 
 -- DuplicateAlias: an alias equals an earlier one; at the alias, or at the view's name
 abbrev pub duplicate_aliases : List SourceTyping → List Breach
-duplicate_aliases sources = duplicate DuplicateAlias (map (λ source. source.alias) sources)
+duplicate_aliases sources = duplicate DuplicateAlias (aliases_of sources)
 
 -- a selection groups where it has keys or an aggregate
+abbrev pub has_aggregate : List ItemTyping → Bool
+has_aggregate items = list_any (λ item. is_aggregate item.content) items
+
 abbrev pub groups : List Term → List ItemTyping → Bool
-groups keys items = nat_lt 0 (length keys) || list_any (λ item. is_aggregate item.content) items
+groups keys items = nat_lt 0 (length keys) || has_aggregate items
 
 -- the arguments of the aggregates, from the left
 abbrev pub arguments_in : Content → List expressed.Term
@@ -86,59 +103,74 @@ plain_term content = expressed.string []
 abbrev pub plain_terms : List ItemTyping → List expressed.Term
 plain_terms items = map (λ item. plain_term item.content) items
 
-module _ (known : Known) (sources : List SourceTyping) (items : List Item) (clauses : Clauses) where
-  -- in an item and in `where` no bare name stands for anything
-  abbrev pub row_scope : Scope
-  row_scope = record { sources = visible_in sources; names = no_names }
+-- the grouping rule, where the selection groups
+abbrev pub grouped_faults : List Item → List ItemTyping → List Term → List Breach
+grouped_faults items typed keys = if groups keys typed then not_grouped items keys items typed else []
 
-  abbrev pub items_typed : List ItemTyping
-  items_typed = map (select_item known row_scope) items
+-- the columns: an expression each, or keys, arguments and aggregates
+abbrev pub projection_by : List expressed.Term → List Item → List ItemTyping → List Term → tree.Projection
+projection_by terms items typed keys =
+    if groups keys typed then tree.grouped_by terms (arguments_of typed) (aggs_of items keys (length keys) items typed)
+    else tree.plain (plain_terms typed)
 
-  -- in `consolidate on`, `group by` and `order by` a bare name stands for an item's expression
-  abbrev pub item_scope : Scope
-  item_scope = record { sources = visible_in sources; names = stand_for_items items_typed }
+-- the scope in which bare names stand for items
+abbrev pub scope_with : Scope → List ItemTyping → Scope
+scope_with row typed = record { sources = row.sources; names = stand_for_items typed }
 
-  abbrev pub do_group : Bool
-  do_group = groups clauses.group items_typed
+-- the clauses after the sources: of the rows in the scope `row`, and where bare names stand for items in the scope `scope`
+module _ (known : Known) (row scope : Scope) (items : List Item) (typed : List ItemTyping) (clauses : Clauses) where
+  -- `where`, `consolidate`, `group by`, the grouping rule, `order by`, `limit`
+  abbrev pub clause_faults : List Breach
+  clause_faults =
+      each_faults known row kind.Boolean clauses.conds
+      ++ (consolidation_faults known scope clauses.cons
+      ++ (each_faults known scope kind.Any clauses.group
+      ++ (grouped_faults items typed clauses.group
+      ++ (orders_faults known scope items clauses.order
+      ++ bad_limit clauses.limit))))
 
-  abbrev pub grouping_faults : List Breach
-  grouping_faults = if do_group then not_grouped items clauses.group items items_typed else []
+  abbrev pub projection : tree.Projection
+  projection = projection_by (terms_of known scope clauses.group) items typed clauses.group
 
-  -- sources from the left, aliases, items, item names, `where`, `consolidate`, `group by`, the grouping rule,
-  -- `order by`, `limit`
-  abbrev pub selection_faults : List Breach
-  selection_faults =
-      faults_of_sources sources
-      ++ (duplicate_aliases sources
-      ++ (faults_of_items items_typed
-      ++ (duplicate_columns (names_of_items items_typed)
-      ++ (conditions_faults known row_scope clauses.conds
-      ++ (consolidation_faults known item_scope clauses.cons
-      ++ (keys_faults known item_scope clauses.group
-      ++ (grouping_faults
-      ++ (orders_faults known item_scope items items_typed clauses.order
-      ++ bad_limit clauses.limit))))))))
-
-  abbrev pub projection : typed.Projection
-  projection =
-      if do_group
-      then typed.grouped_by (terms_of known item_scope clauses.group) (arguments_of items_typed)
-      (aggs_of items clauses.group (length clauses.group) items items_typed)
-      else typed.plain (plain_terms items_typed)
-
-  abbrev pub select_clauses : typed.SelectClauses
+  abbrev pub select_clauses : tree.SelectClauses
   select_clauses = record {
-    conds = terms_of known row_scope clauses.conds;
-    consolidate = consolidation_of known item_scope clauses.cons;
+    conds = terms_of known row clauses.conds;
+    consolidate = consolidation_of known scope clauses.cons;
     projection = projection;
     order = map (item_place items) clauses.order;
     limit = limit_of clauses.limit;
   }
 
-  abbrev pub selection : ℕ → QueryTyping
-  selection at = record {
-    at = at;
-    faults = selection_faults;
-    columns = columns_of_items items_typed;
-    body = typed.select (typed.as_sources (map (λ source. source.body) sources)) select_clauses;
-  }
+-- the rows of a selection, in a scope where no bare name stands for anything, as in an item and in `where`
+module _ (known : Known) (row : Scope) (items : List Item) (clauses : Clauses) where
+  abbrev pub items_typed : List ItemTyping
+  items_typed = map (select_item known row) items
+
+  -- in `consolidate on`, `group by` and `order by` a bare name stands for an item's expression
+  abbrev pub item_scope : Scope
+  item_scope = scope_with row items_typed
+
+  -- items, item names, and the clauses
+  abbrev pub rows_faults : List Breach
+  rows_faults =
+      faults_of_items items_typed
+      ++ (duplicate_columns (names_of_items items_typed) ++ clause_faults known row item_scope items items_typed clauses)
+
+  abbrev pub rows_clauses : tree.SelectClauses
+  rows_clauses = select_clauses known row item_scope items items_typed clauses
+
+-- the scope of a row of some sources
+abbrev pub row_over : List Visible → Scope
+row_over sources = record { sources = sources; names = no_names }
+
+abbrev pub row_of : List SourceTyping → Scope
+row_of sources = row_over (visible_in sources)
+
+-- a selection: its sources from the left, aliases, items, item names, and the clauses
+abbrev pub selection : Known → List SourceTyping → List Item → Clauses → ℕ → QueryTyping
+selection known sources items clauses at = record {
+  at = at;
+  faults = faults_of_sources sources ++ (duplicate_aliases sources ++ rows_faults known (row_of sources) items clauses);
+  columns = columns_of_items (items_typed known (row_of sources) items clauses);
+  body = selected (bodies_of sources) (rows_clauses known (row_of sources) items clauses);
+}

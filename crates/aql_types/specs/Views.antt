@@ -12,6 +12,8 @@ use Rattle.aql_types.specs.declared.scope.Names.TheVariants as stands
 use Rattle.aql_types.specs.declared.scope.Scope as declared_scope
 use Rattle.aql_syntax.specs.Views.{name_of}
 use Rattle.aql_types.specs.declared.item.CheckedItem.{CheckedItem}
+use Rattle.aql_types.specs.declared.label.Label.{Label}
+use Rattle.aql_syntax.specs.Trees.{Name}
 use Rattle.aql_types.specs.declared.item.Content as declared_content
 use Rattle.aql_types.specs.declared.item.Content.TheVariants as content
 use Rattle.aql_types.specs.Typings.{Meant, value, pattern, Typing, Content, expression, row_count, aggregated, ItemTyping}
@@ -48,3 +50,6 @@ names_seen (stands.OfColumns columns) = names_of_columns columns.now
 
 abbrev pub scope_of : declared_scope.Scope → Scope
 scope_of scope = record { sources = map visible_of scope.sources.now; names = names_seen scope.names }
+
+abbrev pub label_of : Label → Name
+label_of label = record { text = label.text.now; at = label.at }

@@ -10,6 +10,7 @@ use std::alloc::Global;
 use view_graph::Graph;
 
 /// A program with its patterns and dictionaries.
+#[derive(Clone, Copy)]
 pub(crate) struct Known<'a> {
     pub(crate) graph: &'a Graph,
     pub(crate) tables: &'a ProgramTables,

@@ -17,7 +17,6 @@ mod program_text;
 mod put;
 mod run;
 mod status;
-mod stub;
 mod status_line;
 mod top;
 mod type_line;

@@ -9,7 +9,7 @@ use Rattle.aql_types.specs.Refusals.{IsFirst}
 use Rattle.aql_types.specs.Knowns.{known_of}
 use Rattle.aql_types.specs.Typings.{ItemTyping}
 use Rattle.aql_types.specs.Views.{scope_of, item_seen}
-use Rattle.aql_types.proofs.Columns.{select_aggregate}
+use Rattle.aql_types.proofs.Told.{select_aggregate}
 use Rattle.aql_types.proofs.item.select_item.Goals as goal
 
 pub returns-in_ok-label-in-Some-clause-ok : goal.returns-in_ok-label-in-Some-clause-ok

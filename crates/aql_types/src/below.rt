@@ -1,0 +1,96 @@
+//! The views that a query may use, by their names.
+
+ghost use Rattle.std.specs.Prelude.{◌≡◌, ◌+◌, map, IfOk};
+ghost use Rattle.aql_syntax.specs.Views.{name_of};
+ghost use Rattle.aql_typed.specs.Views.{source_of};
+ghost use Rattle.aql_types.specs.Queries as spec;
+ghost use Rattle.aql_types.specs.Programs.{view_seen};
+ghost use Rattle.aql_types.specs.Sources.{source_seen, below_seen};
+
+use crate::source::CheckedSource;
+use aql_syntax::Ident;
+use aql_typed::{Column, TypedSource, TypedView};
+use scalar_ops::Kind;
+use span_token::{OutOfMemory, OwnedText};
+use std::alloc::Global;
+
+/// What a view's name stands for.
+#[derive(Debug, Drop)]
+pub(crate) struct Below {
+    columns: Vec<Column>,
+    body: TypedSource,
+}
+
+pub(crate) fn copied_columns(alloc: Global, columns: &[Column]) -> Result<Vec<Column>, OutOfMemory>
+    ensures { IfOk result (λ copies. copies.items ≡ columns.now) }
+{
+    let mut copies = Vec::new(alloc);
+    for column in columns {
+        let name = OwnedText::copied(alloc, column.name.as_str())?;
+        copies.push(Column {
+            name,
+            kind: column.kind,
+        })?;
+    }
+    Ok(copies)
+}
+
+/// The document: one column, the span of its text.
+fn document(alloc: Global) -> Result<Below, OutOfMemory>
+    ensures { IfOk result (λ b. below_seen b ≡ spec.document_below) }
+{
+    let name = OwnedText::copied(alloc, "text")?;
+    let mut columns = Vec::new(alloc);
+    columns.push(Column {
+        name,
+        kind: Kind::Span,
+    })?;
+    Ok(Below {
+        columns,
+        body: TypedSource::Document,
+    })
+}
+
+/// The view with this number.
+fn numbered(alloc: Global, place: usize, view: &TypedView) -> Result<Below, OutOfMemory>
+    ensures { IfOk result (λ b. below_seen b ≡ spec.view_below place (view_seen view.now)) }
+{
+    let Ok(number) = u32::try_from(place) else {
+        return Err(OutOfMemory);
+    };
+    let columns = copied_columns(alloc, &view.columns)?;
+    Ok(Below {
+        columns,
+        body: TypedSource::View(number),
+    })
+}
+
+/// The first view with a name, and the document where there is none.
+fn view_named(alloc: Global, name: &str, below: &[TypedView]) -> Result<Below, OutOfMemory>
+    ensures { IfOk result (λ b. below_seen b ≡ spec.view_named name.now 0 (map view_seen below.now)) }
+{
+    for (place, view) in below.iter().enumerate() {
+        if view.name.as_str() == name {
+            return numbered(alloc, place, view);
+        }
+    }
+    document(alloc)
+}
+
+/// A view as a source.
+pub(crate) fn view_source(
+    alloc: Global,
+    below: &[TypedView],
+    alias: &Ident,
+    name: &str,
+) -> Result<CheckedSource, OutOfMemory>
+    ensures { IfOk result (λ s. spec.typing_of_view (name_of alias.now) (spec.view_named name.now 0 (map view_seen below.now)) ≡ source_seen s) }
+{
+    let text = OwnedText::copied(alloc, alias.text.as_str())?;
+    let Below { columns, body } = view_named(alloc, name, below)?;
+    Ok(CheckedSource {
+        alias: Ident { text, at: alias.at },
+        columns,
+        body,
+    })
+}
