@@ -73,7 +73,15 @@ fn write_for(
     let document = document_of(alloc, with_tokens, input)?;
     let all = slow(alloc, tools, &document, typed)?;
     let whole = whole_row(alloc, &document)?;
-    append_rows(alloc, typed, layout, &document, all.as_slice(), &whole, pending)
+    append_rows(
+        alloc,
+        typed,
+        layout,
+        &document,
+        all.as_slice(),
+        &whole,
+        pending,
+    )
 }
 
 /// The document that was read, with its tokens kept or not.

@@ -79,7 +79,9 @@ fn projection_asks(projection: &Projection) -> bool {
     match projection {
         Projection::Plain(items) => exprs_ask(items.as_slice()),
         Projection::Grouped {
-            keys, arguments, ..
+            keys,
+            arguments,
+            ..
         } => exprs_ask(keys.as_slice()) || exprs_ask(arguments.as_slice()),
     }
 }

@@ -24,8 +24,8 @@ mod words;
 
 pub use aql_lexer::LexFault;
 pub use aql_parser::SyntaxFault;
-pub use limits::{PROGRAM_LIMIT, STATEMENT_LIMIT};
 pub use aql_types::TypeRule;
+pub use limits::{PROGRAM_LIMIT, STATEMENT_LIMIT};
 pub use status::{CorpusFault, ProgramFault, Status, What};
 pub use top::aqlx;
 pub use view_graph::NameFault;

@@ -32,10 +32,15 @@ pub enum Status {
 #[derive(Debug, Drop)]
 pub enum ProgramFault {
     /// The file's first `place` bytes are UTF-8, and no more of them.
-    Text { place: u32 },
+    Text {
+        place: u32,
+    },
     /// There is more of something than a program may have, and how many there are: 1,048,577 bytes, where
     /// there are more than 1,048,576, or the number of statements, or the deepest nesting.
-    Large { what: What, number: u64 },
+    Large {
+        what: What,
+        number: u64,
+    },
     /// At this byte neither white space nor a comment nor a token stands.
     Lex(LexFault),
     /// This statement is the first whose tokens are those of no tree.
