@@ -47,7 +47,7 @@ fn tokens_between(doc: &Document<'_>, from: u32, to: u32) -> u32
     doc.ended_by(to).saturating_sub(doc.begun_before(from))
 }
 
-/// Whether `a` and `b` share a character or are equal.
+/// Whether `a` and `b` share a character, an empty one lies strictly inside the other, or they are equal.
 ///
 /// Spans that touch don't overlap. An empty span overlaps itself, and a span around its place.
 ///
