@@ -16,15 +16,14 @@ use Rattle.std.proofs.lemmas.List.Quantifiers.{all_pairs_push}
 use Rattle.span_token.specs.Documents.{Doc, characters}
 use Rattle.span_token.specs.Extents.{Extent}
 use Rattle.dict_match.specs.declared.dict_use.DictUse.{DictUse}
-use Rattle.span_token.proofs.SpanOrderLaws.{in_order_is_unique}
+use Rattle.span_token.specs.SpanOrderLaws.{in_order_is_unique}
 use Rattle.span_token.specs.SourceTokens.{tokens_in, nth_token, run_extent, SomeTokens, InTextOrder}
 use Rattle.span_token.specs.SpanOrder.{IsBefore, AreInOrder}
 use Rattle.dict_match.specs.Dictionaries.{folded, texts_of, entry_texts, Agree, AgreesWith, IsMatch, AreMatches}
 use Rattle.dict_match.specs.DictMatches.{do_agree, does_agree, matches_from, matches_among, dict_matches, does_match}
 use Rattle.span_token.specs.Relations.{does_contain}
 use Rattle.span_token.specs.Tokens.{tokens_of}
-use Rattle.span_token.proofs.TokenCounts.{token_in_list, apart}
-use Rattle.span_token.proofs.TokenLaws.{token_not_empty}
+use Rattle.span_token.specs.TokenLaws.{token_not_empty, token_in_list, apart}
 use Rattle.dict_match.specs.Walks.{run_texts}
 
 -- ---- tests

@@ -12,7 +12,7 @@ use Rattle.std.proofs.lemmas.List.Elements.{All-push, All-weaker, All-contains, 
 use Rattle.std.proofs.lemmas.List.Filters.{length-filter_both}
 use Rattle.std.proofs.lemmas.List.MinMax.{ranks_by, IsStrictWeakOrder-flip}
 use Rattle.std.proofs.lemmas.List.Sums.{fold-append}
-use Rattle.aql_base.proofs.Bags.{SameBag-is}
+use Rattle.aql_base.specs.BagLaws.{SameBag-is}
 use Rattle.row_values.specs.Datums.{Datum, null, int, truth, text, span, datum_cmp, is_null, integer_of}
 use Rattle.row_values.specs.RowOrder.{datum_cmp_total, datum_cmp_exact}
 use Rattle.row_values.specs.Rows.{row_cmp, value_in}

@@ -10,7 +10,7 @@ use Rattle.std.proofs.lemmas.List.Sorted.{IsPermutation-to_front, sorted_far, ra
 use Rattle.std.proofs.lemmas.List.Elements.{All-append, All-tail}
 use Rattle.std.proofs.Math.ListN.{get_or-append}
 use Rattle.aql_base.specs.Sorting.{put_in_order, sorted_by}
-use Rattle.aql_base.proofs.Sorting.{IsSorted-tail, IsSorted-head, IsSorted-cons, IsSorted-sorted_by, SameBag-sorted_by, sorted_by-SameBag, sorted_by-in_order}
+use Rattle.aql_base.specs.SortingLaws.{IsSorted-tail, IsSorted-head, IsSorted-cons, IsSorted-sorted_by, SameBag-sorted_by, sorted_by-SameBag, sorted_by-in_order}
 
 pub take_within : {X : Type 0} (m n : ℕ) (xs : List X) → m ≤ n → take m (take n xs) ≡ take m xs
 take_within zero n xs h = refl

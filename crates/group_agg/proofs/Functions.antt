@@ -14,9 +14,9 @@ use Rattle.std.proofs.lemmas.List.Kept.{AllPairs-cons, IsStrictlySortedBy-dedup,
 use Rattle.std.proofs.lemmas.List.Sorted.{length_permutation, All-permutation, Contains-permutation, sorted_far}
 use Rattle.aql_base.specs.Bags.{SameBag}
 use Rattle.aql_base.specs.Sorting.{sorted_by}
-use Rattle.aql_base.proofs.Bags.{SameBag-refl, SameBag-sym, SameBag-trans, SameBag-is, SameBag-map, SameBag-filter}
-use Rattle.aql_base.proofs.Counts.{length-SameBag, told}
-use Rattle.aql_base.proofs.Sorting.{SameBag-sorted_by, IsSorted-sorted_by, sorted_by-SameBag}
+use Rattle.aql_base.specs.BagLaws.{SameBag-refl, SameBag-sym, SameBag-trans, SameBag-is, SameBag-map, SameBag-filter}
+use Rattle.aql_base.specs.CountLaws.{length-SameBag, told}
+use Rattle.aql_base.specs.SortingLaws.{SameBag-sorted_by, IsSorted-sorted_by, sorted_by-SameBag}
 use Rattle.row_values.specs.Datums.{Datum, null, int, datum_cmp, is_null}
 use Rattle.row_values.specs.RowOrder.{datum_cmp_total, row_cmp_total, row_cmp_exact, row_cmp_itself}
 use Rattle.row_values.specs.Rows.{RowList, row_cmp, value_in}

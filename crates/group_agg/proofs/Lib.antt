@@ -1,6 +1,3 @@
--- ---- for the crates above: what relations and functions say of each other, and that both go by bags alone
-pub mod Laws
--- ---- for this crate
 -- what an aggregate that is added up row by row gives
 pub mod Aggregates
 -- the keys of the rows, each once, and the tallies of their groups

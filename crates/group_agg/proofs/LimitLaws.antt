@@ -8,8 +8,8 @@ use Rattle.std.proofs.lemmas.List.Sorted.{length_permutation, All-permutation, s
 use Rattle.std.proofs.Math.Seq.{take-append_seam}
 use Rattle.aql_base.specs.Bags.{SameBag}
 use Rattle.aql_base.specs.Sorting.{sorted_by}
-use Rattle.aql_base.proofs.Bags.{SameBag-sym, SameBag-trans, SameBag-is, SameBag-append, SameBag-map}
-use Rattle.aql_base.proofs.Sorting.{SameBag-sorted_by, IsSorted-sorted_by, sorted_by-unique}
+use Rattle.aql_base.specs.BagLaws.{SameBag-sym, SameBag-trans, SameBag-is, SameBag-append, SameBag-map}
+use Rattle.aql_base.specs.SortingLaws.{SameBag-sorted_by, IsSorted-sorted_by, sorted_by-unique}
 use Rattle.row_values.specs.Datums.{Datum}
 use Rattle.row_values.specs.Rows.{RowList}
 use Rattle.group_agg.specs.Limits.{keyed_cmp, number_kept, IsLimited}

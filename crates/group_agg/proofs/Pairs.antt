@@ -9,7 +9,7 @@ use Rattle.std.proofs.lemmas.List.{length-append, length-take, length-map}
 use Rattle.std.proofs.lemmas.List.Elements.{All-push, All-take}
 use Rattle.std.proofs.lemmas.List.Sorted.{length_permutation, All-permutation}
 use Rattle.aql_base.specs.Sorting.{sorted_by}
-use Rattle.aql_base.proofs.Sorting.{SameBag-sorted_by}
+use Rattle.aql_base.specs.SortingLaws.{SameBag-sorted_by}
 use Rattle.row_values.specs.Datums.{Datum, null, datum_cmp}
 use Rattle.row_values.specs.Rows.{row_cmp, value_in}
 use Rattle.row_values.specs.RowOrder.{row_cmp_total, row_cmp_exact}

@@ -7,8 +7,8 @@ use Rattle.std.proofs.lemmas.Int.{ints}
 use Rattle.std.proofs.lemmas.List.Sorted.{Contains-permutation, All-permutation, sum_by-IsPermutation}
 use Rattle.std.proofs.lemmas.List.Sums.{sum_by-cons}
 use Rattle.aql_base.specs.Bags.{SameBag}
-use Rattle.aql_base.proofs.Bags.{SameBag-sym, SameBag-trans, SameBag-is, SameBag-map, SameBag-filter, SameBag-flat_map}
-use Rattle.aql_base.proofs.Counts.{length-SameBag}
+use Rattle.aql_base.specs.BagLaws.{SameBag-sym, SameBag-trans, SameBag-is, SameBag-map, SameBag-filter, SameBag-flat_map}
+use Rattle.aql_base.specs.CountLaws.{length-SameBag}
 use Rattle.row_values.specs.Datums.{Datum, null, int, truth, text, span, datum_cmp, is_null, integer_of}
 use Rattle.row_values.specs.Rows.{RowList, row_cmp, value_in}
 use Rattle.group_agg.specs.Groups.{key_of, group_of, values_of, integers_of, total_of, IsSum, IsFirst, IsAggregate, IsGrouped}

@@ -8,9 +8,9 @@ use Rattle.std.specs.declared.cmp.Ordering.TheVariants.{Equal}
 use Rattle.std.proofs.lemmas.List.Elements.{All-contains, Contains-get_or}
 use Rattle.std.proofs.lemmas.List.Sums.{sum_by-cons}
 use Rattle.aql_base.specs.Bags.{SameBag, count_of}
-use Rattle.aql_base.proofs.Bags.{SameBag-trans, SameBag-sym, SameBag-map, SameBag-is}
-use Rattle.aql_base.proofs.Counts.{number_of, some_passes, one_at, told, SameBag-from_counts}
-use Rattle.aql_base.proofs.Distinct.{AllPairs-tail, AllPairs-not_among}
+use Rattle.aql_base.specs.BagLaws.{SameBag-trans, SameBag-sym, SameBag-map, SameBag-is}
+use Rattle.aql_base.specs.CountLaws.{number_of, some_passes, one_at, told, SameBag-from_counts}
+use Rattle.aql_base.specs.DistinctLists.{AllPairs-tail, AllPairs-not_among}
 use Rattle.row_values.specs.Datums.{Datum}
 use Rattle.row_values.specs.RowOrder.{row_cmp_total, row_cmp_exact}
 use Rattle.group_agg.specs.Groups.{group_of, IsSum, IsFirst, values_of, integers_of, IsAggregate, IsGroupRow, IsGrouped}

@@ -3,8 +3,8 @@ use Rattle.std.proofs.Common.{◌≡◌, ℕ, List, map, sym, ap, subst, ◌∙�
 use Rattle.std.proofs.lemmas.List.Sorted.{IsPermutation-sym, Contains-permutation}
 use Rattle.aql_base.specs.Bags.{SameBag}
 use Rattle.span_token.specs.Extents.{Extent}
-use Rattle.span_token.proofs.Rising.{same_in_order}
-use Rattle.span_token.proofs.SpanOrderLaws.{in_order_is_unique}
+use Rattle.span_token.specs.RisingLists.{same_in_order}
+use Rattle.span_token.specs.SpanOrderLaws.{in_order_is_unique}
 use Rattle.span_sets.specs.Blocks.{AreDistinct, AreBlocksOf, AreBlocks, block_of}
 use Rattle.span_sets.proofs.BlockLists.{IsEarlier}
 

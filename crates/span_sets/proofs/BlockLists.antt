@@ -6,7 +6,7 @@ use Rattle.std.proofs.lemmas.List.{map-append, get_or-map, length-map}
 use Rattle.std.proofs.lemmas.List.Elements.{All-append, Contains-append_left, Contains-append_right, Contains-append_cases}
 use Rattle.std.proofs.lemmas.List.Kept.{AllPairs-cons}
 use Rattle.span_token.specs.Extents.{Extent}
-use Rattle.span_token.proofs.Rising.{AllPairs-head, AllPairs-tail, AllPairs-range, AllPairs-map, Contains-range, in_range}
+use Rattle.span_token.specs.RisingLists.{AllPairs-head, AllPairs-tail, AllPairs-range, AllPairs-map, Contains-range, in_range}
 use Rattle.span_sets.specs.Blocks.{IsRun, AreBlocksOf, span_at, block_of}
 use Rattle.span_sets.proofs.SpanLists.{Contains-shown, from_shown}
 

@@ -13,16 +13,16 @@ use Rattle.std.proofs.lemmas.List.Kept.{AllPairs-from_increasing, IsStrictlyIncr
 use Rattle.std.proofs.lemmas.List.Sorted.{IsPermutation-sym, Contains-permutation}
 use Rattle.aql_base.specs.Bags.{SameBag}
 use Rattle.aql_base.specs.Sorting.{sorted_by}
-use Rattle.aql_base.proofs.Counts.{told}
-use Rattle.aql_base.proofs.Sorting.{SameBag-sorted_by, IsSorted-sorted_by, sorted_by-SameBag}
+use Rattle.aql_base.specs.CountLaws.{told}
+use Rattle.aql_base.specs.SortingLaws.{SameBag-sorted_by, IsSorted-sorted_by, sorted_by-SameBag}
 use Rattle.span_token.specs.Documents.{Doc, characters}
 use Rattle.span_token.specs.Extents.{Extent}
 use Rattle.span_token.specs.Relations.{Follows, FollowsTok, does_follow, does_follow_tok, tokens_between}
 use Rattle.span_token.specs.SpanOrder.{IsBefore, extent_cmp}
 use Rattle.span_token.specs.Tokens.{tokens_of}
-use Rattle.span_token.proofs.ExtentLemmas.{same_extent}
-use Rattle.span_token.proofs.Rising.{Contains-cases, Contains-here, Contains-there, Contains-range, in_range}
-use Rattle.span_token.proofs.SpanOrderLaws.{before_from_Less}
+use Rattle.span_token.specs.ExtentLaws.{same_extent}
+use Rattle.span_token.specs.RisingLists.{Contains-cases, Contains-here, Contains-there, Contains-range, in_range}
+use Rattle.span_token.specs.SpanOrderLaws.{before_from_Less}
 use Rattle.span_sets.specs.Blocks.{IsNeighbour, AreDistinct, IsRun, AreBlocks, span_at, block_of, is_neighbour, is_run, ends_of, blocks_before, distinct_of, blocks_of}
 use Rattle.span_sets.proofs.BlockLaws.{AreBlocks-unique}
 use Rattle.span_sets.proofs.BlockLists.{HasRuns, HasRuns-none, HasRuns-more, HasRuns-all}

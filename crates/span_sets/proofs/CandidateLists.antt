@@ -10,9 +10,9 @@ use Rattle.std.proofs.lemmas.List.{get_or_default}
 use Rattle.std.proofs.lemmas.List.Elements.{All-cons, All-weaker, All-from_recursion}
 use Rattle.std.proofs.lemmas.List.Kept.{AllPairs-cons}
 use Rattle.std.proofs.lemmas.List.Sorted.{All-permutation as moved_all, Contains-permutation}
-use Rattle.aql_base.proofs.Distinct.{IsStrictlySortedBy-from_distinct}
+use Rattle.aql_base.specs.DistinctLists.{IsStrictlySortedBy-from_distinct}
 use Rattle.span_token.specs.Extents.{Extent}
-use Rattle.span_token.proofs.Rising.{Contains-here, Contains-there}
+use Rattle.span_token.specs.RisingLists.{Contains-here, Contains-there}
 use Rattle.span_sets.specs.Consolidation.{HasTarget}
 use Rattle.span_sets.specs.Candidates.{facing, candidate_of, candidates_from, nobody, nth, AreSorted, AreCandidatesOf}
 use Rattle.span_sets.specs.declared.candidate.Candidate.{Candidate}

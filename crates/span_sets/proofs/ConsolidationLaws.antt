@@ -12,8 +12,8 @@ use Rattle.std.proofs.lemmas.List.Sorted.{IsPermutation-filter_both, All-permuta
 use Rattle.std.proofs.Math.Seq.{take-append_seam}
 use Rattle.std.proofs.lemmas.Slice.Zip.{firsts-zip}
 use Rattle.aql_base.specs.Bags.{SameBag}
-use Rattle.aql_base.proofs.Bags.{SameBag-sym, SameBag-trans, SameBag-is, SameBag-map}
-use Rattle.aql_base.proofs.Sorting.{SameBag-sorted_by}
+use Rattle.aql_base.specs.BagLaws.{SameBag-sym, SameBag-trans, SameBag-is, SameBag-map}
+use Rattle.aql_base.specs.SortingLaws.{SameBag-sorted_by}
 use Rattle.row_values.specs.Datums.{Datum}
 use Rattle.row_values.specs.RowOrder.{row_cmp_total}
 use Rattle.row_values.specs.Rows.{RowList, row_cmp}

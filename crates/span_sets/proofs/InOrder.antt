@@ -11,7 +11,7 @@ use Rattle.std.proofs.lemmas.List.Sorted.{All-permutation, IsPermutation-sym, le
 use Rattle.std.proofs.lemmas.Slice.Zip.{firsts-zip, seconds-zip}
 use Rattle.std.proofs.Math.ListN.{get_or-map}
 use Rattle.aql_base.specs.Sorting.{put_in_order, sorted_by}
-use Rattle.aql_base.proofs.Sorting.{IsSorted-tail, IsSorted-head}
+use Rattle.aql_base.specs.SortingLaws.{IsSorted-tail, IsSorted-head}
 use Rattle.row_values.specs.Datums.{Datum}
 use Rattle.row_values.specs.RowOrder.{row_cmp_total}
 use Rattle.row_values.specs.Rows.{RowList, row_cmp, IsInOrder, sorted}

@@ -7,7 +7,7 @@ use Rattle.std.proofs.lemmas.List.{get_or_past}
 use Rattle.std.proofs.lemmas.List.Kept.{AllPairs-from_increasing, IsStrictlyIncreasing-filter}
 use Rattle.std.proofs.lemmas.List.FromFn.{length-range_with_len, get_or-range_with_len}
 use Rattle.span_token.specs.Extents.{Extent}
-use Rattle.span_token.proofs.Rising.{same_rising, Contains-here, Contains-there, Contains-cases, Contains-range, in_range}
+use Rattle.span_token.specs.RisingLists.{same_rising, Contains-here, Contains-there, Contains-cases, Contains-range, in_range}
 use Rattle.span_sets.specs.Consolidation.{HasTarget, Allows, Stays, IsKept}
 use Rattle.span_sets.specs.Candidates.{place_of, AreSorted, AreCandidatesOf, Passes, is_mirrored, marked_places}
 use Rattle.span_sets.specs.declared.candidate.Candidate.{Candidate}

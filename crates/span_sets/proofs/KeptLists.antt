@@ -6,9 +6,9 @@ use Rattle.std.proofs.lemmas.Bool.{cases_lt}
 use Rattle.std.proofs.lemmas.List.Kept.{AllPairs-from_increasing, IsStrictlyIncreasing-filter}
 use Rattle.std.proofs.lemmas.List.Sorted.{length_permutation}
 use Rattle.aql_base.specs.Sorting.{sorted_by}
-use Rattle.aql_base.proofs.Sorting.{SameBag-sorted_by, IsSorted-sorted_by}
+use Rattle.aql_base.specs.SortingLaws.{SameBag-sorted_by, IsSorted-sorted_by}
 use Rattle.span_token.specs.Extents.{Extent}
-use Rattle.span_token.proofs.Rising.{same_rising, Contains-range, in_range}
+use Rattle.span_token.specs.RisingLists.{same_rising, Contains-range, in_range}
 use Rattle.span_sets.specs.Candidates.{candidates_from, place_of, near_of, far_of, AreSorted, AreCandidatesOf}
 use Rattle.span_sets.specs.Consolidation.{HasTarget, ComesBefore, Allows, Stays, IsKept}
 use Rattle.span_sets.specs.KeptPlaces.{does_stay, kept_after, kept_places}

@@ -1,6 +1,3 @@
--- ---- for the crates above: what relations and functions say of each other, and that both go by bags alone
-pub mod Laws
--- ---- for this crate
 -- sorted candidates, what the policies ask of them, and the places that stay
 pub mod Sweeps
 pub mod Policies

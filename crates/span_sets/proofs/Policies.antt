@@ -3,7 +3,7 @@ use Rattle.std.proofs.Common.{◌≡◌, ◌≢◌, ℕ, ◌<◌, inl, inr, Bool
 use Rattle.std.proofs.lemmas.Bool.{cases_lt}
 use Rattle.span_token.specs.Extents.{Extent}
 use Rattle.span_token.specs.Relations.{ContainsExtent, Overlaps}
-use Rattle.span_token.proofs.ExtentLemmas.{same_extent}
+use Rattle.span_token.specs.ExtentLaws.{same_extent}
 use Rattle.span_sets.specs.Consolidation.{HasTarget, IsInnermost, IsFirstOfEqual, ComesBefore, IsFree, Allows}
 use Rattle.span_sets.specs.Candidates.{facing, mirrored, near_of, far_of, place_of, extent_at, AreSorted, AreAlike, IsNew, IsUncovered, IsClear, AreCandidatesOf, Passes, is_mirrored}
 use Rattle.span_sets.specs.declared.candidate.Candidate.{Candidate}

@@ -6,7 +6,7 @@ use Rattle.std.proofs.lemmas.Bool.{and_from, and_parts, leb-true, le-leb, ltb-tr
 use Rattle.std.proofs.lemmas.List.Folds.{Any-from_list_any, list_any_at}
 use Rattle.span_token.specs.Extents.{Extent}
 use Rattle.span_token.specs.Relations.{Overlaps, ContainsExtent, do_overlap, does_contain}
-use Rattle.span_token.proofs.ExtentLemmas.{same_extent}
+use Rattle.span_token.specs.ExtentLaws.{same_extent}
 use Rattle.span_sets.specs.Consolidation.{HasTarget, IsOutermost, IsInnermost, IsFirstOfEqual, ComesBefore, IsFree, Allows, Stays}
 use Rattle.span_sets.specs.KeptPlaces.{each_passes, are_same, is_outermost, is_innermost, is_first_of_equal, does_come_before, is_free, does_allow, does_stay}
 use Rattle.span_sets.specs.declared.policy.Policy.{Policy}

@@ -14,8 +14,8 @@ use Rattle.std.proofs.lemmas.List.Kept.{AllPairs-cons, IsStrictlySortedBy-dedup,
 use Rattle.std.proofs.lemmas.List.Sorted.{IsPermutation-sym, Contains-permutation}
 use Rattle.span_token.specs.Extents.{Extent, extent_of}
 use Rattle.span_token.specs.declared.span.Span.{Span}
-use Rattle.span_token.proofs.ExtentLemmas.{same_extent}
-use Rattle.span_token.proofs.Rising.{AllPairs-head, AllPairs-tail, Contains-here, Contains-there, Contains-cases}
+use Rattle.span_token.specs.ExtentLaws.{same_extent}
+use Rattle.span_token.specs.RisingLists.{AllPairs-head, AllPairs-tail, Contains-here, Contains-there, Contains-cases}
 use Rattle.span_token.specs.SpanOrder.{IsBefore}
 use Rattle.span_sets.specs.Blocks.{AreDistinct, span_at}
 use Rattle.span_sets.proofs.CandidateLists.{pairs, nat_exact, nat_less, then_less, then_equal}

@@ -5,7 +5,7 @@ use Rattle.std.proofs.lemmas.List.{get_or_append_left}
 use Rattle.std.proofs.Math.Seq.{get_or-append_seam}
 use Rattle.span_token.specs.Extents.{Extent}
 use Rattle.span_token.specs.Relations.{Overlaps}
-use Rattle.span_token.proofs.ExtentLemmas.{same_extent}
+use Rattle.span_token.specs.ExtentLaws.{same_extent}
 use Rattle.span_sets.specs.Candidates.{near_of, far_of, place_of, extent_at, AreSorted, AreAlike, IsNew, IsUncovered, IsClear}
 use Rattle.span_sets.specs.declared.candidate.Candidate.{Candidate}
 

@@ -11,33 +11,30 @@ use aql_syntax::Statement;
 use span_token::OutOfMemory;
 use std::alloc::Global;
 
-/// The rank that the walk marked.
-fn rank_of(mark: Mark) -> u32
-    ensures { (rank : ℕ) → mark ≡ Mark.Ranked rank → result ≡ rank }
+/// What is kept for the place of a view.
+pub(crate) fn index_at(indexes: &[u32], place: u32) -> u32
+    requires { place < length indexes.now }
+    ensures { result ≡ slice_index indexes.now place }
 {
-    match mark {
-        Mark::Ranked(rank) => rank,
-        _ => 0,
-    }
+    indexes[place as usize]
 }
 
-/// The views with their ranks: rank and place, by place.
-fn placed(
+/// For the place of each view its index in the order; 0 for a statement that creates no view.
+pub(crate) fn indexes_of(
     alloc: Global,
-    statements: &[Statement],
-    marks: &[Mark],
-) -> Result<Vec<(u32, u32)>, OutOfMemory>
-    requires short { length statements.now < 2 ^ 32 }
-    requires marked { length marks.now ≡ length statements.now }
-    ensures { IfOk result (λ views. Placed (map statement_of statements.now) marks.now views.items) }
+    order: &[u32],
+    count: usize,
+) -> Result<Vec<u32>, OutOfMemory>
+    requires short { count < 2 ^ 32 }
+    requires within { All (λ number. (0 < number) × (number ≤ count)) order.now }
+    requires distinct { AllDiffer order.now }
+    ensures { IfOk result (λ indexes. IsIndexed order.now indexes.items) }
 {
-    let mut views = Vec::new(alloc);
-    for (place, statement) in statements.iter().enumerate() {
-        if let Statement::View { .. } = statement {
-            views.push((rank_of(marks[place]), place as u32))?;
-        }
+    let mut indexes = vec![in alloc; 0u32; count]?;
+    for (index, number) in order.iter().enumerate() {
+        indexes[*number as usize - 1] = index as u32;
     }
-    Ok(views)
+    Ok(indexes)
 }
 
 /// The numbers of the views, from 1, by rank and then by number.
@@ -59,28 +56,31 @@ pub(crate) fn in_order(
     Ok(order)
 }
 
-/// For the place of each view its index in the order; 0 for a statement that creates no view.
-pub(crate) fn indexes_of(
+/// The views with their ranks: rank and place, by place.
+fn placed(
     alloc: Global,
-    order: &[u32],
-    count: usize,
-) -> Result<Vec<u32>, OutOfMemory>
-    requires short { count < 2 ^ 32 }
-    requires within { All (λ number. (0 < number) × (number ≤ count)) order.now }
-    requires distinct { AllDiffer order.now }
-    ensures { IfOk result (λ indexes. IsIndexed order.now indexes.items) }
+    statements: &[Statement],
+    marks: &[Mark],
+) -> Result<Vec<(u32, u32)>, OutOfMemory>
+    requires short { length statements.now < 2 ^ 32 }
+    requires marked { length marks.now ≡ length statements.now }
+    ensures { IfOk result (λ views. Placed (map statement_of statements.now) marks.now views.items) }
 {
-    let mut indexes = vec![in alloc; 0u32; count]?;
-    for (index, number) in order.iter().enumerate() {
-        indexes[*number as usize - 1] = index as u32;
+    let mut views = Vec::new(alloc);
+    for (place, statement) in statements.iter().enumerate() {
+        if let Statement::View { .. } = statement {
+            views.push((rank_of(marks[place]), place as u32))?;
+        }
     }
-    Ok(indexes)
+    Ok(views)
 }
 
-/// What is kept for the place of a view.
-pub(crate) fn index_at(indexes: &[u32], place: u32) -> u32
-    requires { place < length indexes.now }
-    ensures { result ≡ slice_index indexes.now place }
+/// The rank that the walk marked.
+fn rank_of(mark: Mark) -> u32
+    ensures { (rank : ℕ) → mark ≡ Mark.Ranked rank → result ≡ rank }
 {
-    indexes[place as usize]
+    match mark {
+        Mark::Ranked(rank) => rank,
+        _ => 0,
+    }
 }

@@ -5,7 +5,7 @@ use Rattle.std.specs.declared.cmp.Ordering.TheVariants.{Less}
 use Rattle.std.proofs.lemmas.Bool.Decides.{nat_tests}
 use Rattle.span_token.specs.Extents.{Extent}
 use Rattle.span_token.specs.SpanOrder.{IsBefore, extent_cmp, AreInOrder}
-use Rattle.span_token.proofs.Rising.{same_in_order}
+use Rattle.span_token.specs.RisingLists.{same_in_order}
 
 pub Less-from_before : (a b : Extent) → IsBefore a b → extent_cmp a b ≡ Less
 Less-from_before a b (inl h) = grind (arith, nat_tests)

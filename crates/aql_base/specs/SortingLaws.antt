@@ -13,8 +13,8 @@ use Rattle.std.proofs.lemmas.List.Elements.{All-cons, All-weaker}
 use Rattle.std.proofs.lemmas.List.Sorted.{IsPermutation-refl, IsPermutation-sym, IsPermutation-trans, IsPermutation-cons, All-permutation, Contains-permutation, length_permutation, sorted_far, ranks_by}
 use Rattle.aql_base.specs.Bags.{SameBag}
 use Rattle.aql_base.specs.Sorting.{put_in_order, sorted_by}
-use Rattle.aql_base.proofs.Bags.{SameBag-exchange}
-use Rattle.aql_base.proofs.Counts.{SameBag-uncons}
+use Rattle.aql_base.specs.BagLaws.{SameBag-exchange}
+use Rattle.aql_base.specs.CountLaws.{SameBag-uncons}
 
 module _ {X : Type 0} {cmp : X → X → Ordering} (order : IsTotalOrder cmp) where
   -- x doesn't come after y

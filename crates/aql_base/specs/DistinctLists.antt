@@ -10,8 +10,8 @@ use Rattle.std.proofs.lemmas.List.Kept.{AllPairs-cons}
 use Rattle.std.proofs.lemmas.List.Elements.{recursion_from_All}
 use Rattle.std.proofs.lemmas.List.Sums.{sum_by-cons}
 use Rattle.aql_base.specs.Bags.{SameBag}
-use Rattle.aql_base.proofs.Counts.{number_of, count_by-SameBag, one_at, told}
-use Rattle.aql_base.proofs.Sorting.{IsSorted-tail, IsSorted-head}
+use Rattle.aql_base.specs.CountLaws.{number_of, count_by-SameBag, one_at, told}
+use Rattle.aql_base.specs.SortingLaws.{IsSorted-tail, IsSorted-head}
 
 module _ {X : Type 0} where
   pub AllPairs-tail : (x : X) (xs : List X) → AllPairs (λ a b. a ≢ b) (x ∷ xs) → AllPairs (λ a b. a ≢ b) xs

@@ -3,14 +3,15 @@ use Rattle.std.proofs.Common.{◌≡◌, ◌≤◌, ◌<◌, ◌+◌, ◌-◌, �
 use Rattle.std.specs.List.{Contains, filter, prefix_len, range_with_len}
 use Rattle.std.proofs.lemmas.Bool.{cases_lt}
 use Rattle.std.proofs.lemmas.List.{get_or-drop, length-drop}
+use Rattle.std.proofs.lemmas.List.Elements.{Contains-get_or}
 use Rattle.std.proofs.lemmas.List.Sums.{prefix_len-drop_yes, prefix_len-drop_no, prefix_len-le-length, prefix_len_is, prefix_len_passes, prefix_len_stops}
 use Rattle.std.proofs.lemmas.List.Kept.{AllPairs-filter}
 use Rattle.unicode.specs.Binary.{is_white_space}
 use Rattle.span_token.specs.Extents.{Extent}
 use Rattle.span_token.specs.Words.{is_word_char}
 use Rattle.span_token.specs.Tokens.{IsWord, IsMark, IsToken, AreTokens, is_word_before, begins_token, token_at, tokens_of}
-use Rattle.span_token.proofs.ExtentLemmas.{same_extent}
-use Rattle.span_token.proofs.Rising.{same_rising, Contains-listed, IsFrom-Contains, Contains-range, in_range, AllPairs-range, AllPairs-map}
+use Rattle.span_token.specs.ExtentLaws.{same_extent}
+use Rattle.span_token.specs.RisingLists.{same_rising, Contains-listed, IsFrom-Contains, Contains-range, in_range, AllPairs-range, AllPairs-map}
 
 -- the word characters from `k` on
 abbrev pub word_len : List ℕ → ℕ → ℕ
@@ -155,3 +156,12 @@ token_not_empty cs t (inr m) = omega (arith, m.one)
 pub token_in_text : (cs : List ℕ) (t : Extent) → IsToken cs t → t.end ≤ length cs
 token_in_text cs t (inl w) = w.in_text
 token_in_text cs t (inr m) = m.in_text
+
+-- each listed token is one, and ends at or before the begin of each later one
+pub token_in_list : (cs : List ℕ) (i : ℕ) (d : Extent) → i < length (tokens_of cs) → IsToken cs (get_or (tokens_of cs) i d)
+token_in_list cs i d l = ((tokens_of_are cs).exactly (get_or (tokens_of cs) i d)).0 (Contains-get_or (tokens_of cs) i d l)
+
+pub apart : (cs : List ℕ) (i j : ℕ) (d : Extent) → i < j → j < length (tokens_of cs) → (get_or (tokens_of cs) i d).end ≤ (get_or (tokens_of cs) j d).begin
+apart cs i j d h l =
+    tokens_apart cs (get_or (tokens_of cs) i d) (get_or (tokens_of cs) j d) (token_in_list cs i d (omega arith)) (token_in_list cs j d l)
+    ((tokens_of_are cs).rising i j d h l)
