@@ -1,3 +1,2 @@
 -- rows of the definitions
 mod Examples
-pub mod TrialLemma

@@ -11,4 +11,3 @@ pub mod CountLaws
 pub mod SortingLaws
 -- lists in which no value occurs twice
 pub mod DistinctLists
-pub mod Trial

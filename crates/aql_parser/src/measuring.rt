@@ -26,6 +26,33 @@ pub struct Run {
     pub nesting: u32,
 }
 
+/// The tokens up to and with the first `;`, or all.
+pub fn first_run(toks: &[Tok]) -> Run
+    requires some { 0 < length toks.now }
+    requires few { length toks.now < 2 ^ 32 }
+    ensures run { IsFirstRun (kinds_of toks.now) result.len }
+    ensures nesting { IsLeastDepth (take result.len (kinds_of toks.now)) result.nesting }
+{
+    let mut opened = 0;
+    let mut closed = 0;
+    let mut nesting = 0u32;
+    for (i, tok) in toks.iter().enumerate() {
+        if is_symbol(&tok.kind, b';') {
+            return Run {
+                len: i + 1,
+                nesting,
+            };
+        }
+        opened += u32::from(is_symbol(&tok.kind, b'('));
+        closed += u32::from(is_symbol(&tok.kind, b')'));
+        nesting = nesting.max(opened.saturating_sub(closed));
+    }
+    Run {
+        len: toks.len(),
+        nesting,
+    }
+}
+
 /// How many statements the tokens are, and the greatest number of `(` without their `)` before one
 /// place within a statement.
 ///
@@ -50,33 +77,6 @@ pub fn measure(toks: &[Tok]) -> Sizes
     }
     Sizes {
         statements,
-        nesting,
-    }
-}
-
-/// The tokens up to and with the first `;`, or all.
-pub fn first_run(toks: &[Tok]) -> Run
-    requires some { 0 < length toks.now }
-    requires few { length toks.now < 2 ^ 32 }
-    ensures run { IsFirstRun (kinds_of toks.now) result.len }
-    ensures nesting { IsLeastDepth (take result.len (kinds_of toks.now)) result.nesting }
-{
-    let mut opened = 0;
-    let mut closed = 0;
-    let mut nesting = 0u32;
-    for (i, tok) in toks.iter().enumerate() {
-        if is_symbol(&tok.kind, b';') {
-            return Run {
-                len: i + 1,
-                nesting,
-            };
-        }
-        opened += u32::from(is_symbol(&tok.kind, b'('));
-        closed += u32::from(is_symbol(&tok.kind, b')'));
-        nesting = nesting.max(opened.saturating_sub(closed));
-    }
-    Run {
-        len: toks.len(),
         nesting,
     }
 }

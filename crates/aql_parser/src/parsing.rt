@@ -27,6 +27,53 @@ pub struct SyntaxFault {
     pub line: u32,
 }
 
+fn is_module(tree: &Statement) -> bool
+    ensures { result ≡ is_module (statement_of tree.now) }
+{
+    match tree {
+        Statement::Module(_) => true,
+        _ => false,
+    }
+}
+
+/// Whether the statement may have so many before it.
+fn may_follow(tree: &Statement, before: usize) -> bool
+    ensures { result ≡ may_follow before (statement_of tree.now) }
+{
+    before == 0 || !is_module(tree)
+}
+
+/// The statement, where nothing speaks against it.
+fn kept(tree: Statement, read_whole: bool, follows: bool) -> Result<Statement, Refused>
+    ensures { IsKept tree (read_whole && follows) result }
+{
+    (read_whole && follows)
+        .then_some(tree)
+        .ok_or(Failure::Fault(NoTree))
+}
+
+/// The statement whose tokens are all of `run`, where `before` statements stand before it.
+fn whole(alloc: Global, run: &[Tok], at: u32, before: usize) -> Result<Statement, Refused>
+    requires few { at + length run.now < 2 ^ 32 }
+    requires nested { IsWithin nesting_limit (kinds_of run.now) }
+    ensures { IsTreeOf at (kinds_of run.now) before result }
+{
+    let mut toks = Cursor::new(run, at);
+    let tree = statement(alloc, MAX_NESTING, &mut toks)?;
+    let follows = may_follow(&tree, before);
+    kept(tree, toks.is_done(), follows)
+}
+
+/// The refusal, with the statement and the line at which it stands.
+fn named(refused: Refused, statement: u32, line: u32) -> Failure<SyntaxFault>
+    ensures { IsNamed refused statement line result }
+{
+    match refused {
+        Failure::OutOfMemory => Failure::OutOfMemory,
+        Failure::Fault(NoTree) => Failure::Fault(SyntaxFault { statement, line }),
+    }
+}
+
 /// The statements whose tokens these are, or the first statement that has no tree.
 ///
 /// A statement is the tokens up to and with a `;`; tokens after the last `;` are one more, which has
@@ -69,51 +116,4 @@ pub fn parse(alloc: Global, toks: &[Tok]) -> Result<Vec<Statement>, Failure<Synt
         rest = &rest[len..];
     }
     Ok(trees)
-}
-
-/// The refusal, with the statement and the line at which it stands.
-fn named(refused: Refused, statement: u32, line: u32) -> Failure<SyntaxFault>
-    ensures { IsNamed refused statement line result }
-{
-    match refused {
-        Failure::OutOfMemory => Failure::OutOfMemory,
-        Failure::Fault(NoTree) => Failure::Fault(SyntaxFault { statement, line }),
-    }
-}
-
-/// The statement whose tokens are all of `run`, where `before` statements stand before it.
-fn whole(alloc: Global, run: &[Tok], at: u32, before: usize) -> Result<Statement, Refused>
-    requires few { at + length run.now < 2 ^ 32 }
-    requires nested { IsWithin nesting_limit (kinds_of run.now) }
-    ensures { IsTreeOf at (kinds_of run.now) before result }
-{
-    let mut toks = Cursor::new(run, at);
-    let tree = statement(alloc, MAX_NESTING, &mut toks)?;
-    let follows = may_follow(&tree, before);
-    kept(tree, toks.is_done(), follows)
-}
-
-/// The statement, where nothing speaks against it.
-fn kept(tree: Statement, read_whole: bool, follows: bool) -> Result<Statement, Refused>
-    ensures { IsKept tree (read_whole && follows) result }
-{
-    (read_whole && follows)
-        .then_some(tree)
-        .ok_or(Failure::Fault(NoTree))
-}
-
-/// Whether the statement may have so many before it.
-fn may_follow(tree: &Statement, before: usize) -> bool
-    ensures { result ≡ may_follow before (statement_of tree.now) }
-{
-    before == 0 || !is_module(tree)
-}
-
-fn is_module(tree: &Statement) -> bool
-    ensures { result ≡ is_module (statement_of tree.now) }
-{
-    match tree {
-        Statement::Module(_) => true,
-        _ => false,
-    }
 }

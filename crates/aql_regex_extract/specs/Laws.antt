@@ -5,9 +5,9 @@ use Rattle.span_token.specs.Documents.{Doc}
 use Rattle.span_token.specs.Extents.{Extent}
 use Rattle.aql_regex_extract.specs.Matches.{match_rows, flat_rows}
 use Rattle.aql_regex_extract.specs.TokenRuns.{AreRunRows, run_rows}
-use Rattle.aql_regex_extract.proofs.RowLaws as rows
-use Rattle.aql_regex_extract.proofs.RunRowsUnique as unique
-use Rattle.aql_regex_extract.proofs.TokenRunLaws as runs
+use Rattle.aql_regex_extract.specs.LawProofs.RowLaws as rows
+use Rattle.aql_regex_extract.specs.LawProofs.RunRowsUnique as unique
+use Rattle.aql_regex_extract.specs.LawProofs.TokenRunLaws as runs
 
 -- the function gives the rows of the longest runs
 pub run_rows-are : (pattern : List ℕ) (d : Doc) (source : Extent) (low high : ℕ) (groups : List ℕ) →

@@ -19,3 +19,4 @@ pub mod Capped
 -- ---- laws for the crates above
 -- what relations and functions say of each other
 pub mod Laws
+pub mod LawProofs

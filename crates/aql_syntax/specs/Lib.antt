@@ -17,6 +17,7 @@ pub mod Shapes
 pub mod ShapeLaws
 -- expressions that are equal but for places
 pub mod SamenessLaws
+pub mod LawProofs
 -- print
 pub mod Printing
 pub mod Printed

@@ -3,7 +3,7 @@ use Rattle.std.specs.Prelude.{◌≡◌, false, List, length}
 use Rattle.std.specs.Bool.{Decides}
 use Rattle.aql_syntax.specs.Trees.{Term, as_terms}
 use Rattle.aql_syntax.specs.Sameness.{AreSame, is_same, are_same}
-use Rattle.aql_syntax.proofs.SameTerms as terms
+use Rattle.aql_syntax.specs.LawProofs.SameTerms as terms
 
 -- it holds exactly of expressions that are equal but for places
 pub decides : (a b : Term) → Decides (is_same a b) (AreSame a b)

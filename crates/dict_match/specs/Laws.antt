@@ -9,8 +9,8 @@ use Rattle.span_token.specs.SourceTokens.{tokens_in}
 use Rattle.dict_match.specs.declared.dict_use.DictUse.{DictUse}
 use Rattle.dict_match.specs.Dictionaries.{AgreesWith, IsMatch, AreMatches}
 use Rattle.dict_match.specs.DictMatches.{does_agree, dict_matches, does_match}
-use Rattle.dict_match.proofs.InsideLemmas as inside
-use Rattle.dict_match.proofs.MatchLaws as matches
+use Rattle.dict_match.specs.LawProofs.InsideLemmas as inside
+use Rattle.dict_match.specs.LawProofs.MatchLaws as matches
 
 -- whether tokens agree with an entry is decided by a test
 pub does_agree-Decides : (dict : DictUse) (texts : List (List ℕ)) → Decides (does_agree dict texts) (AgreesWith dict texts)

@@ -12,3 +12,4 @@ pub mod Walks
 -- ---- laws for the crates above
 -- what relations and functions say of each other, and where matches lie
 pub mod Laws
+pub mod LawProofs

@@ -7,8 +7,8 @@ use Rattle.row_values.specs.Rows.{RowList}
 use Rattle.group_agg.specs.Groups.{IsGrouped, IsFromRows, grouped}
 use Rattle.group_agg.specs.Limits.{IsLimited, limited}
 use Rattle.group_agg.specs.declared.agg.Agg.{Agg}
-use Rattle.group_agg.proofs.Functions as laws
-use Rattle.group_agg.proofs.SameInput as same
+use Rattle.group_agg.specs.LawProofs.Functions as laws
+use Rattle.group_agg.specs.LawProofs.SameInput as same
 
 -- `grouped` is an answer
 pub IsGrouped-grouped : (keys : List ℕ) (aggs : List Agg) (rows : List (List Datum)) → IsGrouped keys aggs rows (grouped keys aggs rows)

@@ -11,3 +11,4 @@ pub mod Candidates
 -- ---- laws for the crates above
 -- what relations and functions say of each other, and that both go by bags alone
 pub mod Laws
+pub mod LawProofs

@@ -11,9 +11,9 @@ use Rattle.span_sets.specs.Blocks.{IsNeighbour, AreBlocks, is_neighbour, blocks_
 use Rattle.span_sets.specs.Consolidation.{in_row_order, IsConsolidated}
 use Rattle.span_sets.specs.KeptPlaces.{consolidated_by, consolidated}
 use Rattle.span_sets.specs.declared.policy.Policy.{Policy}
-use Rattle.span_sets.proofs.BlockLaws as relations
-use Rattle.span_sets.proofs.BlockTests as functions
-use Rattle.span_sets.proofs.ConsolidationLaws as laws
+use Rattle.span_sets.specs.LawProofs.BlockLaws as relations
+use Rattle.span_sets.specs.LawProofs.BlockTests as functions
+use Rattle.span_sets.specs.LawProofs.ConsolidationLaws as laws
 
 -- the rows that stay by a list of targets are an answer
 pub IsConsolidated-consolidated : (policy : Policy) (rows : RowList) (targets : List (Option Extent)) → IsConsolidated policy rows targets (record { width = rows.width; rows = consolidated_by policy rows.rows targets })

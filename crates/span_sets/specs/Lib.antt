@@ -13,3 +13,4 @@ pub mod Orders
 -- ---- laws for the crates above
 -- what relations and functions say of each other, and that both go by bags alone
 pub mod Laws
+pub mod LawProofs

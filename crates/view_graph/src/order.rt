@@ -11,49 +11,14 @@ use aql_syntax::Statement;
 use span_token::OutOfMemory;
 use std::alloc::Global;
 
-/// What is kept for the place of a view.
-pub(crate) fn index_at(indexes: &[u32], place: u32) -> u32
-    requires { place < length indexes.now }
-    ensures { result ≡ slice_index indexes.now place }
+/// The rank that the walk marked.
+fn rank_of(mark: Mark) -> u32
+    ensures { (rank : ℕ) → mark ≡ Mark.Ranked rank → result ≡ rank }
 {
-    indexes[place as usize]
-}
-
-/// For the place of each view its index in the order; 0 for a statement that creates no view.
-pub(crate) fn indexes_of(
-    alloc: Global,
-    order: &[u32],
-    count: usize,
-) -> Result<Vec<u32>, OutOfMemory>
-    requires short { count < 2 ^ 32 }
-    requires within { All (λ number. (0 < number) × (number ≤ count)) order.now }
-    requires distinct { AllDiffer order.now }
-    ensures { IfOk result (λ indexes. IsIndexed order.now indexes.items) }
-{
-    let mut indexes = vec![in alloc; 0u32; count]?;
-    for (index, number) in order.iter().enumerate() {
-        indexes[*number as usize - 1] = index as u32;
+    match mark {
+        Mark::Ranked(rank) => rank,
+        _ => 0,
     }
-    Ok(indexes)
-}
-
-/// The numbers of the views, from 1, by rank and then by number.
-pub(crate) fn in_order(
-    alloc: Global,
-    statements: &[Statement],
-    marks: &[Mark],
-) -> Result<Vec<u32>, OutOfMemory>
-    requires short { length statements.now < 2 ^ 32 }
-    requires marked { length marks.now ≡ length statements.now }
-    ensures { IfOk result (λ order. IsNumbering (map statement_of statements.now) marks.now order.items) }
-{
-    let mut views = placed(alloc, statements, marks)?;
-    views.sort()?;
-    let mut order = Vec::new(alloc);
-    for (_, place) in &views {
-        order.push(*place + 1)?;
-    }
-    Ok(order)
 }
 
 /// The views with their ranks: rank and place, by place.
@@ -75,12 +40,47 @@ fn placed(
     Ok(views)
 }
 
-/// The rank that the walk marked.
-fn rank_of(mark: Mark) -> u32
-    ensures { (rank : ℕ) → mark ≡ Mark.Ranked rank → result ≡ rank }
+/// The numbers of the views, from 1, by rank and then by number.
+pub(crate) fn in_order(
+    alloc: Global,
+    statements: &[Statement],
+    marks: &[Mark],
+) -> Result<Vec<u32>, OutOfMemory>
+    requires short { length statements.now < 2 ^ 32 }
+    requires marked { length marks.now ≡ length statements.now }
+    ensures { IfOk result (λ order. IsNumbering (map statement_of statements.now) marks.now order.items) }
 {
-    match mark {
-        Mark::Ranked(rank) => rank,
-        _ => 0,
+    let mut views = placed(alloc, statements, marks)?;
+    views.sort()?;
+    let mut order = Vec::new(alloc);
+    for (_, place) in &views {
+        order.push(*place + 1)?;
     }
+    Ok(order)
+}
+
+/// For the place of each view its index in the order; 0 for a statement that creates no view.
+pub(crate) fn indexes_of(
+    alloc: Global,
+    order: &[u32],
+    count: usize,
+) -> Result<Vec<u32>, OutOfMemory>
+    requires short { count < 2 ^ 32 }
+    requires within { All (λ number. (0 < number) × (number ≤ count)) order.now }
+    requires distinct { AllDiffer order.now }
+    ensures { IfOk result (λ indexes. IsIndexed order.now indexes.items) }
+{
+    let mut indexes = vec![in alloc; 0u32; count]?;
+    for (index, number) in order.iter().enumerate() {
+        indexes[*number as usize - 1] = index as u32;
+    }
+    Ok(indexes)
+}
+
+/// What is kept for the place of a view.
+pub(crate) fn index_at(indexes: &[u32], place: u32) -> u32
+    requires { place < length indexes.now }
+    ensures { result ≡ slice_index indexes.now place }
+{
+    indexes[place as usize]
 }

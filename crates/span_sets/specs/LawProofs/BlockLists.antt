@@ -8,7 +8,7 @@ use Rattle.std.proofs.lemmas.List.Kept.{AllPairs-cons}
 use Rattle.span_token.specs.Extents.{Extent}
 use Rattle.span_token.specs.RisingLists.{AllPairs-head, AllPairs-tail, AllPairs-range, AllPairs-map, Contains-range, in_range}
 use Rattle.span_sets.specs.Blocks.{IsRun, AreBlocksOf, span_at, block_of}
-use Rattle.span_sets.proofs.SpanLists.{Contains-shown, from_shown}
+use Rattle.span_sets.specs.LawProofs.SpanLists.{Contains-shown, from_shown}
 
 -- pairs of two lists end to end
 pub AllPairs-append : {X : Type 0} (R : X → X → Type 0) (xs ys : List X) → AllPairs R xs → AllPairs R ys → ((x : X) → Contains xs x → All (R x) ys) → AllPairs R (xs ++ ys)

@@ -24,12 +24,12 @@ use Rattle.span_token.specs.ExtentLaws.{same_extent}
 use Rattle.span_token.specs.RisingLists.{Contains-cases, Contains-here, Contains-there, Contains-range, in_range}
 use Rattle.span_token.specs.SpanOrderLaws.{before_from_Less}
 use Rattle.span_sets.specs.Blocks.{IsNeighbour, AreDistinct, IsRun, AreBlocks, span_at, block_of, is_neighbour, is_run, ends_of, blocks_before, distinct_of, blocks_of}
-use Rattle.span_sets.proofs.BlockLaws.{AreBlocks-unique}
-use Rattle.span_sets.proofs.BlockLists.{HasRuns, HasRuns-none, HasRuns-more, HasRuns-all}
-use Rattle.span_sets.proofs.CandidateLists.{pairs, nat_exact, then_equal}
-use Rattle.span_sets.proofs.Keeping.{Contains-filter, Contains-from_filter, IsStrictlyIncreasing-range}
-use Rattle.span_sets.proofs.RuleTests.{Decides}
-use Rattle.span_sets.proofs.SpanLists.{AllPairs-weaker}
+use Rattle.span_sets.specs.LawProofs.BlockLaws.{AreBlocks-unique}
+use Rattle.span_sets.specs.LawProofs.BlockLists.{HasRuns, HasRuns-none, HasRuns-more, HasRuns-all}
+use Rattle.span_sets.specs.LawProofs.CandidateLists.{pairs, nat_exact, then_equal}
+use Rattle.span_sets.specs.LawProofs.Keeping.{Contains-filter, Contains-from_filter, IsStrictlyIncreasing-range}
+use Rattle.span_sets.specs.LawProofs.RuleTests.{Decides}
+use Rattle.span_sets.specs.LawProofs.SpanLists.{AllPairs-weaker}
 
 held : (b : Bool) → T b → b ≡ true
 held true h = refl

@@ -24,11 +24,11 @@ use Rattle.group_agg.specs.Groups.{key_of, group_of, values_of, integers_of, tot
 use Rattle.group_agg.specs.Limits.{keyed_cmp, number_kept, IsLimited, limited}
 use Rattle.group_agg.specs.declared.agg.Agg.{Agg}
 use Rattle.group_agg.specs.declared.agg.Agg.TheVariants.{Key, Count, CountOf, Sum, Min, Max}
-use Rattle.group_agg.proofs.FirstOf.{less}
-use Rattle.group_agg.proofs.LimitLaws.{limited_is}
-use Rattle.group_agg.proofs.Pairs.{keyed_cmp_total, keyed_cmp_exact}
-use Rattle.group_agg.proofs.SameInput.{aggregate_same}
-use Rattle.group_agg.proofs.Unique.{aggregate_once, IsGrouped-once}
+use Rattle.group_agg.specs.LawProofs.FirstOf.{less}
+use Rattle.group_agg.specs.LawProofs.LimitLaws.{limited_is}
+use Rattle.group_agg.specs.LawProofs.Pairs.{keyed_cmp_total, keyed_cmp_exact}
+use Rattle.group_agg.specs.LawProofs.SameInput.{aggregate_same}
+use Rattle.group_agg.specs.LawProofs.Unique.{aggregate_once, IsGrouped-once}
 
 IsSum-sum_of : (ns : List ℤ) → IsSum ns (sum_of ns)
 IsSum-sum_of [] = refl

@@ -18,7 +18,7 @@ use Rattle.span_token.specs.ExtentLaws.{same_extent}
 use Rattle.span_token.specs.RisingLists.{AllPairs-head, AllPairs-tail, Contains-here, Contains-there, Contains-cases}
 use Rattle.span_token.specs.SpanOrder.{IsBefore}
 use Rattle.span_sets.specs.Blocks.{AreDistinct, span_at}
-use Rattle.span_sets.proofs.CandidateLists.{pairs, nat_exact, nat_less, then_less, then_equal}
+use Rattle.span_sets.specs.LawProofs.CandidateLists.{pairs, nat_exact, nat_less, then_less, then_equal}
 
 -- spans by begin and then by end
 abbrev pub span_cmp : Span → Span → Ordering

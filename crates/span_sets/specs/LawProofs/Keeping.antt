@@ -12,7 +12,7 @@ use Rattle.span_sets.specs.Consolidation.{HasTarget, Allows, Stays, IsKept}
 use Rattle.span_sets.specs.Candidates.{place_of, AreSorted, AreCandidatesOf, Passes, is_mirrored, marked_places}
 use Rattle.span_sets.specs.declared.candidate.Candidate.{Candidate}
 use Rattle.span_sets.specs.declared.policy.Policy.{Policy}
-use Rattle.span_sets.proofs.Policies.{allows_is_passes}
+use Rattle.span_sets.specs.LawProofs.Policies.{allows_is_passes}
 
 -- what a filter keeps
 filter_here : (b : Bool) (p : ℕ → Bool) (x y : ℕ) (xs : List ℕ) → Contains xs x → Contains (cond b (y ∷ xs) xs) x

@@ -16,7 +16,7 @@ use Rattle.row_values.specs.RowOrder.{row_cmp_total, row_cmp_exact}
 use Rattle.group_agg.specs.Groups.{key_of}
 use Rattle.group_agg.specs.Limits.{keyed_cmp}
 use Rattle.group_agg.specs.Candidates.{keyed, pair_cmp, first_of, IsHeld}
-use Rattle.group_agg.proofs.FirstOf.{firsts-push, firsts-pass, firsts-firsts, sorted_by-firsts, worst-push, less}
+use Rattle.group_agg.specs.LawProofs.FirstOf.{firsts-push, firsts-pass, firsts-firsts, sorted_by-firsts, worst-push, less}
 
 abbrev Pair : Type 0
 Pair = List Datum × List Datum

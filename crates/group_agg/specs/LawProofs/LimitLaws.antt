@@ -14,8 +14,8 @@ use Rattle.row_values.specs.Datums.{Datum}
 use Rattle.row_values.specs.Rows.{RowList}
 use Rattle.group_agg.specs.Limits.{keyed_cmp, number_kept, IsLimited}
 use Rattle.group_agg.specs.Candidates.{keyed, pair_cmp, first_of}
-use Rattle.group_agg.proofs.FirstOf.{IsSorted-append, less}
-use Rattle.group_agg.proofs.Pairs.{pair_cmp_total, keyed_cmp_total, keyed_cmp_exact}
+use Rattle.group_agg.specs.LawProofs.FirstOf.{IsSorted-append, less}
+use Rattle.group_agg.specs.LawProofs.Pairs.{pair_cmp_total, keyed_cmp_total, keyed_cmp_exact}
 
 -- what a limit leaves is the front of all rows in that order
 pub limited_is : (keys : List ℕ) (limit : Option ℕ) (rows out : RowList) → IsLimited keys limit rows out → SameBag out.rows (take (number_kept limit (length rows.rows)) (sorted_by (keyed_cmp keys) rows.rows))

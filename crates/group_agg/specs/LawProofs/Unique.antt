@@ -17,7 +17,7 @@ use Rattle.group_agg.specs.Groups.{group_of, IsSum, IsFirst, values_of, integers
 use Rattle.group_agg.specs.Tallies.{comes_before}
 use Rattle.group_agg.specs.declared.agg.Agg.{Agg}
 use Rattle.group_agg.specs.declared.agg.Agg.TheVariants.{Key, Count, CountOf, Sum, Min, Max}
-use Rattle.group_agg.proofs.Aggregates.{alike}
+use Rattle.group_agg.specs.LawProofs.Aggregates.{alike}
 
 module _ {X : Type 0} {cmp : X → X → Ordering} (order : IsTotalOrder cmp) (exact : (x y : X) → cmp x y ≡ Equal → x ≡ y) where
   counted : X → X → ℕ

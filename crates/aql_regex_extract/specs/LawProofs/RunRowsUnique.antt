@@ -6,7 +6,7 @@ use Rattle.std.specs.List.{filter_map}
 use Rattle.span_token.specs.Documents.{Doc}
 use Rattle.span_token.specs.Extents.{Extent}
 use Rattle.aql_regex_extract.specs.TokenRuns.{run_at, whole_row, IsLongest, GivesRun, AreRunRows, run_rows}
-use Rattle.aql_regex_extract.proofs.TokenRunLaws.{run_rows-are}
+use Rattle.aql_regex_extract.specs.LawProofs.TokenRunLaws.{run_rows-are}
 
 -- there is one greatest length
 longest_is_unique : (matches : ℕ → Type 0) (low high k j : ℕ) → IsLongest matches low high k → IsLongest matches low high j → k ≡ j

@@ -9,7 +9,7 @@ use Rattle.span_sets.specs.Candidates.{facing, mirrored, near_of, far_of, place_
 use Rattle.span_sets.specs.declared.candidate.Candidate.{Candidate}
 use Rattle.span_sets.specs.declared.policy.Policy.{Policy}
 use Rattle.span_sets.specs.declared.policy.Policy.TheVariants.{ContainedWithin, NotContainedWithin, ContainsButNotEqual, ExactMatch, LeftToRight}
-use Rattle.span_sets.proofs.Sweeps.{before}
+use Rattle.span_sets.specs.LawProofs.Sweeps.{before}
 
 some_same : (a b : Extent) → ◌≡◌ {A = Option Extent} (Some a) (Some b) → a ≡ b
 some_same a b e = cc

@@ -6,7 +6,7 @@ use Rattle.span_token.specs.Extents.{Extent}
 use Rattle.span_token.specs.RisingLists.{same_in_order}
 use Rattle.span_token.specs.SpanOrderLaws.{in_order_is_unique}
 use Rattle.span_sets.specs.Blocks.{AreDistinct, AreBlocksOf, AreBlocks, block_of}
-use Rattle.span_sets.proofs.BlockLists.{IsEarlier}
+use Rattle.span_sets.specs.LawProofs.BlockLists.{IsEarlier}
 
 earlier_apart : (p q : ℕ × ℕ) → IsEarlier p q → IsEarlier q p → ⊥
 earlier_apart p q h k = omega (arith, h, k)

@@ -21,9 +21,9 @@ use Rattle.span_token.specs.Extents.{Extent}
 use Rattle.span_sets.specs.Consolidation.{IsKept, in_row_order, rows_in_order, targets_in_order, IsConsolidated}
 use Rattle.span_sets.specs.KeptPlaces.{does_stay, kept_after, kept_places, consolidated_by, consolidated}
 use Rattle.span_sets.specs.declared.policy.Policy.{Policy}
-use Rattle.span_sets.proofs.KeptLists.{IsKept-one, IsKept-kept_places}
-use Rattle.span_sets.proofs.RowLaws.{in_row_order-SameBag}
-use Rattle.span_sets.proofs.Stable.{IsStable-sorted_by}
+use Rattle.span_sets.specs.LawProofs.KeptLists.{IsKept-one, IsKept-kept_places}
+use Rattle.span_sets.specs.LawProofs.RowLaws.{in_row_order-SameBag}
+use Rattle.span_sets.specs.LawProofs.Stable.{IsStable-sorted_by}
 
 pub IsConsolidated-consolidated : (policy : Policy) (rows : RowList) (targets : List (Option Extent)) → IsConsolidated policy rows targets (record { width = rows.width; rows = consolidated_by policy rows.rows targets })
 unfolding consolidated_by

@@ -15,9 +15,9 @@ use Rattle.span_sets.specs.KeptPlaces.{does_stay, kept_after, kept_places}
 use Rattle.span_sets.specs.declared.candidate.Candidate.{Candidate}
 use Rattle.span_sets.specs.declared.policy.Policy.{Policy}
 use Rattle.span_sets.specs.declared.policy.Policy.TheVariants.{ContainedWithin, NotContainedWithin, ContainsButNotEqual, ExactMatch, LeftToRight}
-use Rattle.span_sets.proofs.CandidateLists.{candidate_cmp, candidate_cmp_total, AreSorted-from_sort, AreCandidatesOf-from_sort}
-use Rattle.span_sets.proofs.Keeping.{Contains-filter, Contains-from_filter, IsStrictlyIncreasing-range, null_or, not_both}
-use Rattle.span_sets.proofs.RuleTests.{some_is, does_stay-decides}
+use Rattle.span_sets.specs.LawProofs.CandidateLists.{candidate_cmp, candidate_cmp_total, AreSorted-from_sort, AreCandidatesOf-from_sort}
+use Rattle.span_sets.specs.LawProofs.Keeping.{Contains-filter, Contains-from_filter, IsStrictlyIncreasing-range, null_or, not_both}
+use Rattle.span_sets.specs.LawProofs.RuleTests.{some_is, does_stay-decides}
 
 few : (i : ℕ) (targets : List (Option Extent)) → length (candidates_from false i targets) ≤ length targets
 unfolding candidates_from
