@@ -17,3 +17,4 @@ pub mod Stable
 pub mod ConsolidationLaws
 -- blocks as a function
 pub mod BlockTests
+pub mod BlockEnds

@@ -11,6 +11,7 @@ use Rattle.span_sets.specs.Blocks.{IsNeighbour, AreBlocks, is_neighbour, blocks_
 use Rattle.span_sets.specs.Consolidation.{in_row_order, IsConsolidated}
 use Rattle.span_sets.specs.KeptPlaces.{consolidated_by, consolidated}
 use Rattle.span_sets.specs.declared.policy.Policy.{Policy}
+use Rattle.span_sets.specs.LawProofs.BlockEnds as ends
 use Rattle.span_sets.specs.LawProofs.BlockLaws as relations
 use Rattle.span_sets.specs.LawProofs.BlockTests as functions
 use Rattle.span_sets.specs.LawProofs.ConsolidationLaws as laws
@@ -63,3 +64,7 @@ module _ (is_next : Extent → Extent → Bool) (IsNext : Extent → Extent → 
   -- one list for each bag of spans
   pub blocks_of-SameBag : (spans spans' : List Extent) → SameBag spans spans' → blocks_of is_next low high spans ≡ blocks_of is_next low high spans'
   blocks_of-SameBag = functions.blocks_of-SameBag is_next IsNext decides low high
+
+-- each block ends where one of the spans ends; so blocks of spans of a document lie in it
+pub ends-blocks_of : (P : ℕ → Type 0) (is_next : Extent → Extent → Bool) (low high : ℕ) (spans : List Extent) → All (λ (e : Extent). P e.end) spans → All (λ (e : Extent). P e.end) (blocks_of is_next low high spans)
+ends-blocks_of P is_next low high = ends.ends-blocks_of P is_next low high
