@@ -10,23 +10,6 @@ use crate::token::{LexFault, Tok, TokKind};
 use span_token::{Failure, OutOfMemory};
 use std::alloc::Global;
 
-fn line_feeds(part: &str) -> usize
-    ensures { result ≡ count_by is_line_feed part.now }
-{
-    part.as_bytes().iter().filter(|b| **b == b'\n').count()
-}
-
-/// Puts a token of `kind`, if there is one, after the others.
-fn add(toks: &mut Vec<Tok>, kind: Option<TokKind>, begin: u32, line: u32) -> Result<(), OutOfMemory>
-    ensures { OnOk result (map token_of toks.new.items
-        ≡ map token_of toks.old.items ++ tokens_at begin line (option_map kind_of kind)) }
-{
-    if let Some(kind) = kind {
-        toks.push(Tok { kind, begin, line })?;
-    }
-    Ok(())
-}
-
 /// The tokens of a program text, in their order, or the byte at which it has none.
 ///
 /// Space, tab, CR, LF, form feed and a U+FEFF before everything else are white space. A comment goes
@@ -63,4 +46,21 @@ pub fn lex(alloc: Global, text: &str) -> Result<Vec<Tok>, Failure<LexFault>>
         rest = &rest[len..];
     }
     Ok(toks)
+}
+
+/// Puts a token of `kind`, if there is one, after the others.
+fn add(toks: &mut Vec<Tok>, kind: Option<TokKind>, begin: u32, line: u32) -> Result<(), OutOfMemory>
+    ensures { OnOk result (map token_of toks.new.items
+        ≡ map token_of toks.old.items ++ tokens_at begin line (option_map kind_of kind)) }
+{
+    if let Some(kind) = kind {
+        toks.push(Tok { kind, begin, line })?;
+    }
+    Ok(())
+}
+
+fn line_feeds(part: &str) -> usize
+    ensures { result ≡ count_by is_line_feed part.now }
+{
+    part.as_bytes().iter().filter(|b| **b == b'\n').count()
 }

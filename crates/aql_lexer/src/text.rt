@@ -17,13 +17,33 @@ pub enum Escapes {
     Regex,
 }
 
-fn drops_backslash(escapes: Escapes, b: u8) -> bool
-    ensures { result ≡ spec.escapes_of escapes b }
+/// The token that `part` is, if it is one.
+pub fn token_kind(alloc: Global, form: Form, part: &str) -> Result<Option<TokKind>, OutOfMemory>
+    requires { spec.IsEnclosedIn form part.now }
+    ensures { IfOk result (λ kind. option_map kind_of kind ≡ kind_in (spec.part_of form part.now)) }
 {
-    match escapes {
-        Escapes::Str => b == b'\'' || b == b'\\',
-        Escapes::Regex => b == b'/',
-    }
+    let kind = match form {
+        Form::White | Form::Comment => return Ok(None),
+        Form::Word => TokKind::Word(OwnedText::copied(alloc, part)?),
+        Form::Name => TokKind::Name(OwnedText::copied(alloc, between(part))?),
+        Form::Int(number) => TokKind::Int(number),
+        Form::Str => TokKind::Str(OwnedText::from(unescaped(alloc, Escapes::Str, between(part))?)),
+        Form::Regex => TokKind::Regex(OwnedText::from(unescaped(
+            alloc,
+            Escapes::Regex,
+            between(part),
+        )?)),
+        Form::Symbol(byte) => TokKind::Symbol(byte),
+    };
+    Ok(Some(kind))
+}
+
+/// The text between the first byte and the last, which are ASCII.
+fn between(text: &str) -> &str
+    requires { spec.IsEnclosed text.now }
+    ensures { result.now ≡ spec.between text.now }
+{
+    &text[1..text.len() - 1]
 }
 
 /// What `text` between quotes stands for.
@@ -49,31 +69,11 @@ fn unescaped(alloc: Global, escapes: Escapes, text: &str) -> Result<String, OutO
     Ok(meant)
 }
 
-/// The text between the first byte and the last, which are ASCII.
-fn between(text: &str) -> &str
-    requires { spec.IsEnclosed text.now }
-    ensures { result.now ≡ spec.between text.now }
+fn drops_backslash(escapes: Escapes, b: u8) -> bool
+    ensures { result ≡ spec.escapes_of escapes b }
 {
-    &text[1..text.len() - 1]
-}
-
-/// The token that `part` is, if it is one.
-pub fn token_kind(alloc: Global, form: Form, part: &str) -> Result<Option<TokKind>, OutOfMemory>
-    requires { spec.IsEnclosedIn form part.now }
-    ensures { IfOk result (λ kind. option_map kind_of kind ≡ kind_in (spec.part_of form part.now)) }
-{
-    let kind = match form {
-        Form::White | Form::Comment => return Ok(None),
-        Form::Word => TokKind::Word(OwnedText::copied(alloc, part)?),
-        Form::Name => TokKind::Name(OwnedText::copied(alloc, between(part))?),
-        Form::Int(number) => TokKind::Int(number),
-        Form::Str => TokKind::Str(OwnedText::from(unescaped(alloc, Escapes::Str, between(part))?)),
-        Form::Regex => TokKind::Regex(OwnedText::from(unescaped(
-            alloc,
-            Escapes::Regex,
-            between(part),
-        )?)),
-        Form::Symbol(byte) => TokKind::Symbol(byte),
-    };
-    Ok(Some(kind))
+    match escapes {
+        Escapes::Str => b == b'\'' || b == b'\\',
+        Escapes::Regex => b == b'/',
+    }
 }

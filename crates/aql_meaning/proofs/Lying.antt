@@ -7,7 +7,7 @@ use Rattle.std.proofs.lemmas.List.Elements.{All-nil, All-cons, All-head, All-tai
 use Rattle.std.proofs.lemmas.List.{get_or_append_left, length-append}
 use Rattle.std.proofs.lemmas.List.Filters.{All-dedup}
 use Rattle.aql_base.specs.Bags.{SameBag}
-use Rattle.aql_base.proofs.Bags.{SameBag-sym}
+use Rattle.aql_base.specs.BagLaws.{SameBag-sym}
 use Rattle.aql_base.specs.Sorting.{put_in_order, sorted_by}
 use Rattle.span_token.specs.Documents.{Doc}
 use Rattle.row_values.specs.Datums.{Datum, datum_cmp, IsOfDocument}

@@ -3,11 +3,8 @@ pub mod Crosses
 pub mod CapturedRows
 pub mod SearchSteps
 pub mod MatchesAlike
-pub mod RowLaws
 pub mod Counts
 pub mod Chains
 pub mod Products
 pub mod TokenRunLemmas
 pub mod CutLemmas
-pub mod TokenRunLaws
-pub mod RunRowsUnique

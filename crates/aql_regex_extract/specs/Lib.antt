@@ -16,3 +16,7 @@ pub mod Views
 pub mod Searches
 pub mod Steps
 pub mod Capped
+-- ---- laws for the crates above
+-- what relations and functions say of each other
+pub mod Laws
+pub mod LawProofs

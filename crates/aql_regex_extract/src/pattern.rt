@@ -56,51 +56,35 @@ pub enum PatternFault {
     Large { bytes: u32, weight: u64 },
 }
 
-fn options(text: &str) -> RegexBuilder<'_>
-    ensures source { builder_source result ≡ text.now }
-    ensures config { builder_config result ≡ default_config }
+/// The pattern that `text` stands for.
+///
+/// It is `Large` exactly where it is longer than 1,000 bytes, or its bytes times its weight are more
+/// than 50,000, and that is looked at first. It is `Bad` exactly where it or its whole-text form
+/// isn't read by the grammar of `regex`, or nests deeper than 250.
+///
+/// Meaning: `IsPattern` and `HasFault`, `specs/Faults.antt`; the weight, `specs/Weight.antt`.
+pub fn compile_pattern(alloc: Global, text: &str) -> Result<Pattern, Failure<PatternFault>>
+    ensures ok { IfOk result (λ p. p ≡ text.now) }
+    ensures pattern { OnOk result (IsPattern text.now) }
+    ensures fault { IfErr result (HasCause text.now) }
 {
-    RegexBuilder::new(text).size_limit(usize::MAX)
+    refuse_large(alloc, text)?;
+    compile(alloc, text)
 }
 
-/// The expression that a text stands for. What isn't read, or nests too deep, is bad; any other
-/// refusal is want of memory.
-fn build(alloc: Global, text: &str) -> Result<Regex, Failure<PatternFault>>
-    ensures source { IfOk result (λ r. regex_source r ≡ text.now) }
-    ensures config { IfOk result (λ r. regex_config r ≡ default_config) }
-    ensures read { IfOk result IsReadFromSource }
-    ensures good { OnOk result (IsSome (tree_of text.now)) }
-    ensures unread { IfErr result (IsUnread text.now) }
+/// The fault of a text that is large. A text of more bytes than a `u32` counts is want of memory.
+fn refuse_large(alloc: Global, text: &str) -> Result<(), Failure<PatternFault>>
+    ensures not_large { OnOk result (¬ (IsLarge text.now)) }
+    ensures fault { IfErr result (HasCause text.now) }
 {
-    match options(text).build(alloc) {
-        Ok(built) => Ok(built),
-        Err(Error::Syntax(_)) => Err(Failure::Fault(PatternFault::Bad)),
-        Err(_) => Err(Failure::OutOfMemory),
+    let Ok(bytes) = u32::try_from(text.len()) else {
+        return Err(Failure::OutOfMemory);
+    };
+    let weight = weigh(alloc, text.as_bytes())?;
+    if bytes > MOST_BYTES || u64::from(bytes) * weight > MOST_GROWTH {
+        return Err(Failure::Fault(PatternFault::Large { bytes, weight }));
     }
-}
-
-/// The whole-text form of a pattern, which matches where the pattern matches a text from end to end.
-#[tactic(auto, unfolding(crate::specs::Patterns::whole_form))]
-fn whole_text_form(alloc: Global, text: &str) -> Result<String, OutOfMemory>
-    ensures { IfOk result (λ form. string_bytes form ≡ whole_form text.now) }
-{
-    let mut form = String::from_str(alloc, r"\A(?:")?;
-    form.push_str(text)?;
-    form.push_str(r")\z")?;
-    Ok(form)
-}
-
-/// The number of groups of an expression, without group 0; a number past `u32` is want of memory.
-fn groups_of(expression: &Regex, text: &str) -> Result<u32, OutOfMemory>
-    requires source { regex_source expression.now ≡ text.now }
-    requires config { regex_config expression.now ≡ default_config }
-    requires read { IsReadFromSource expression.now }
-    ensures { IfOk result (λ count. count ≡ group_count_of text.now) }
-{
-    match u32::try_from(expression.captures_len() - 1) {
-        Ok(count) => Ok(count),
-        Err(_) => Err(OutOfMemory),
-    }
+    Ok(())
 }
 
 /// The pattern of a text that isn't large.
@@ -121,33 +105,49 @@ fn compile(alloc: Global, text: &str) -> Result<Pattern, Failure<PatternFault>>
     })
 }
 
-/// The fault of a text that is large. A text of more bytes than a `u32` counts is want of memory.
-fn refuse_large(alloc: Global, text: &str) -> Result<(), Failure<PatternFault>>
-    ensures not_large { OnOk result (¬ (IsLarge text.now)) }
-    ensures fault { IfErr result (HasCause text.now) }
+/// The number of groups of an expression, without group 0; a number past `u32` is want of memory.
+fn groups_of(expression: &Regex, text: &str) -> Result<u32, OutOfMemory>
+    requires source { regex_source expression.now ≡ text.now }
+    requires config { regex_config expression.now ≡ default_config }
+    requires read { IsReadFromSource expression.now }
+    ensures { IfOk result (λ count. count ≡ group_count_of text.now) }
 {
-    let Ok(bytes) = u32::try_from(text.len()) else {
-        return Err(Failure::OutOfMemory);
-    };
-    let weight = weigh(alloc, text.as_bytes())?;
-    if bytes > MOST_BYTES || u64::from(bytes) * weight > MOST_GROWTH {
-        return Err(Failure::Fault(PatternFault::Large { bytes, weight }));
+    match u32::try_from(expression.captures_len() - 1) {
+        Ok(count) => Ok(count),
+        Err(_) => Err(OutOfMemory),
     }
-    Ok(())
 }
 
-/// The pattern that `text` stands for.
-///
-/// It is `Large` exactly where it is longer than 1,000 bytes, or its bytes times its weight are more
-/// than 50,000, and that is looked at first. It is `Bad` exactly where it or its whole-text form
-/// isn't read by the grammar of `regex`, or nests deeper than 250.
-///
-/// Meaning: `IsPattern` and `HasFault`, `specs/Faults.antt`; the weight, `specs/Weight.antt`.
-pub fn compile_pattern(alloc: Global, text: &str) -> Result<Pattern, Failure<PatternFault>>
-    ensures ok { IfOk result (λ p. p ≡ text.now) }
-    ensures pattern { OnOk result (IsPattern text.now) }
-    ensures fault { IfErr result (HasCause text.now) }
+/// The whole-text form of a pattern, which matches where the pattern matches a text from end to end.
+#[tactic(auto, unfolding(crate::specs::Patterns::whole_form))]
+fn whole_text_form(alloc: Global, text: &str) -> Result<String, OutOfMemory>
+    ensures { IfOk result (λ form. string_bytes form ≡ whole_form text.now) }
 {
-    refuse_large(alloc, text)?;
-    compile(alloc, text)
+    let mut form = String::from_str(alloc, r"\A(?:")?;
+    form.push_str(text)?;
+    form.push_str(r")\z")?;
+    Ok(form)
+}
+
+/// The expression that a text stands for. What isn't read, or nests too deep, is bad; any other
+/// refusal is want of memory.
+fn build(alloc: Global, text: &str) -> Result<Regex, Failure<PatternFault>>
+    ensures source { IfOk result (λ r. regex_source r ≡ text.now) }
+    ensures config { IfOk result (λ r. regex_config r ≡ default_config) }
+    ensures read { IfOk result IsReadFromSource }
+    ensures good { OnOk result (IsSome (tree_of text.now)) }
+    ensures unread { IfErr result (IsUnread text.now) }
+{
+    match options(text).build(alloc) {
+        Ok(built) => Ok(built),
+        Err(Error::Syntax(_)) => Err(Failure::Fault(PatternFault::Bad)),
+        Err(_) => Err(Failure::OutOfMemory),
+    }
+}
+
+fn options(text: &str) -> RegexBuilder<'_>
+    ensures source { builder_source result ≡ text.now }
+    ensures config { builder_config result ≡ default_config }
+{
+    RegexBuilder::new(text).size_limit(usize::MAX)
 }

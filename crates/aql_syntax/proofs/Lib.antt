@@ -3,5 +3,4 @@ pub mod PrintingViews
 pub mod Standing
 pub mod Prints
 pub mod PrintLaws
-pub mod SameTerms
 pub mod Shaping

@@ -15,6 +15,9 @@ pub mod Programs
 -- the shape that each statement with tokens has
 pub mod Shapes
 pub mod ShapeLaws
+-- expressions that are equal but for places
+pub mod SamenessLaws
+pub mod LawProofs
 -- print
 pub mod Printing
 pub mod Printed

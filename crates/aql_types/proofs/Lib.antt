@@ -5,7 +5,6 @@ pub mod Unfit
 pub mod Terms
 pub mod Labels
 pub mod Told
-pub mod Sameness
 pub mod Repeats
 pub mod KeyLists
 pub mod RowFaults

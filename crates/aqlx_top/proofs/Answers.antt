@@ -10,7 +10,7 @@ use Rattle.span_token.specs.declared.refusal.OutOfMemory.{OutOfMemory}
 use Rattle.corpus_json.specs.Limits.{line_limit, corpus_limit}
 use Rattle.corpus_json.specs.Documents.{is_bad_line}
 use Rattle.corpus_json.specs.Lines.{is_too_long, lines_of, last_line, joined, cut, HasNoLf, BeginsTooLong}
-use Rattle.corpus_json.proofs.LineCuts.{joined-cut, cut-no_lf, lines_of-joined, lines_of-too_long}
+use Rattle.corpus_json.specs.LineLaws.{joined-cut, cut-no_lf, lines_of-joined, lines_of-too_long}
 use Rattle.aqlx_top.specs.declared.status.Status.{Status}
 use Rattle.aqlx_top.specs.declared.status.Status.TheVariants.{Done, Program as Refused, Usage, Corpus, ReadFault, WriteFault}
 use Rattle.aqlx_top.specs.declared.status.ProgramFault.{ProgramFault}

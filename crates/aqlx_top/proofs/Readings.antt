@@ -10,7 +10,7 @@ use Rattle.corpus_json.specs.declared.step.Step.{Step}
 use Rattle.corpus_json.specs.declared.step.Step.TheVariants.{Line, End, Long, Failed, Limit}
 use Rattle.corpus_json.specs.Lines.{lines_of, joined, last_line, HasNoLf}
 use Rattle.corpus_json.specs.Reading.{Reading, NextLine, EndsAtLf, EndsAtEnd, IsUnended}
-use Rattle.corpus_json.proofs.LineCuts.{lines_of-joined, lines_of-rest, last_line-ended, last_line-open, lines_of-too_long}
+use Rattle.corpus_json.specs.LineLaws.{lines_of-joined, lines_of-rest, last_line-ended, last_line-open, lines_of-too_long}
 use Rattle.aqlx_top.specs.Progress.{IsReadTo}
 use Rattle.aqlx_top.specs.Taken.{How, at_end, failed, at_limit, left_off, is_at_end}
 

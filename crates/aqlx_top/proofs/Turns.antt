@@ -15,7 +15,7 @@ use Rattle.corpus_json.specs.Documents.{is_bad_line}
 use Rattle.corpus_json.specs.Lines.{is_too_long}
 use Rattle.corpus_json.specs.Lines.{lines_of, joined, cut, last_line, HasNoLf}
 use Rattle.corpus_json.specs.Reading.{Reading, NextLine, Took}
-use Rattle.corpus_json.proofs.LineCuts.{lines_of-joined, joined-cut}
+use Rattle.corpus_json.specs.LineLaws.{lines_of-joined, joined-cut}
 use Rattle.aqlx_top.specs.declared.run.Turn.{Turn}
 use Rattle.aqlx_top.specs.Turns.{Turned}
 use Rattle.span_token.specs.declared.refusal.OutOfMemory.{OutOfMemory}

@@ -9,7 +9,7 @@ use Rattle.corpus_json.specs.Limits.{corpus_limit}
 use Rattle.corpus_json.specs.Lines.{HasNoLf, lines_of, joined}
 use Rattle.corpus_json.specs.Reading.{Reading, settled, IsUnended, IsAnswer, NextLine}
 use Rattle.corpus_json.specs.Given.{IsGoing, IsOutcome, HasGiven, lines_after}
-use Rattle.corpus_json.proofs.LineCuts.{lines_of-rest, lines_of-joined, lines_of-too_long, last_line-ended, last_line-open}
+use Rattle.corpus_json.specs.LineLaws.{lines_of-rest, lines_of-joined, lines_of-too_long, last_line-ended, last_line-open}
 
 -- bytes that go on after the given lines: their lines are the given ones and those of what is ready and follows
 pub lines_of-going : (ended : Bool) (bytes : List ℕ) (lines : List (List ℕ)) (ready more : List ℕ) → IsGoing bytes lines ready

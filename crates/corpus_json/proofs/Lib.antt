@@ -1,7 +1,5 @@
 pub mod TextLength
 pub mod Values
--- how the lines of bytes are made up from the lines of their parts
-pub mod LineCuts
 -- how a reader of lines comes to its answer
 pub mod Windows
 pub mod LastLf

@@ -21,3 +21,6 @@ pub mod Outputs
 pub mod Places
 pub mod Sections
 pub mod Writing
+-- ---- laws for the crates above
+-- how the lines of bytes are made up from the lines of their parts
+pub mod LineLaws

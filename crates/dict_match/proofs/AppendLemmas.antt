@@ -11,8 +11,8 @@ use Rattle.dict_match.specs.Dictionaries.{AreMatches}
 use Rattle.dict_match.specs.DictMatches.{dict_matches}
 use Rattle.dict_match.specs.Rows.{dict_and_extent, extents_for, AreRowsOfEach, AppendsMatches}
 use Rattle.dict_match.specs.Walks.{Extends}
-use Rattle.dict_match.proofs.InsideLemmas.{found-inside}
-use Rattle.dict_match.proofs.MatchLaws.{dict_matches-are, dict_matches-only}
+use Rattle.dict_match.specs.LawProofs.InsideLemmas.{found-inside}
+use Rattle.dict_match.specs.LawProofs.MatchLaws.{dict_matches-are, dict_matches-only}
 use Rattle.dict_match.proofs.RowLemmas.{extents-append}
 
 module _ (dicts : List DictUse) (d : Doc) (source : Extent) (old new : List DictMatch) where

@@ -6,7 +6,5 @@ pub mod WalkLemmas
 pub mod EntryLemmas
 pub mod RowLemmas
 pub mod SplitLemmas
-pub mod InsideLemmas
-pub mod MatchLaws
 pub mod StepLemmas
 pub mod AppendLemmas

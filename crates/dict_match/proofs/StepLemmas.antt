@@ -11,7 +11,7 @@ use Rattle.dict_match.specs.Dictionaries.{AgreesWith, IsMatch}
 use Rattle.dict_match.specs.DictMatches.{matches_from}
 use Rattle.dict_match.specs.Tries.{put_dicts, step, Reaches}
 use Rattle.dict_match.specs.Walks.{run_texts, HasEndFor, HasRun, PutsWhere}
-use Rattle.dict_match.proofs.MatchLaws.{does_agree-Decides, run_agrees, matches_from-more, matches_from-stop}
+use Rattle.dict_match.specs.LawProofs.MatchLaws.{does_agree-Decides, run_agrees, matches_from-more, matches_from-stop}
 use Rattle.dict_match.proofs.PutLemmas.{end-agrees, agrees-end}
 use Rattle.dict_match.proofs.RowLemmas.{puts-cond}
 use Rattle.dict_match.proofs.WalkLemmas.{key, keys, length-run, none-longer}

@@ -9,3 +9,7 @@ pub mod Tries
 pub mod Passes
 -- one step of a walk
 pub mod Walks
+-- ---- laws for the crates above
+-- what relations and functions say of each other, and where matches lie
+pub mod Laws
+pub mod LawProofs

@@ -11,7 +11,7 @@ use Rattle.std.proofs.lemmas.Option.{get_or_from_slice_get}
 use Rattle.std.proofs.lemmas.Map.Made.{AllPairs-from_IsDistinct}
 use Rattle.std.proofs.Math.ListN.{get_or-append, length-set}
 use Rattle.std.proofs.Math.Seq.{get_or-append_seam}
-use Rattle.aql_base.proofs.Counts.{told}
+use Rattle.aql_base.specs.CountLaws.{told}
 use Rattle.row_values.specs.Datums.{Datum, null}
 use Rattle.row_values.specs.RowOrder.{row_cmp_total, row_cmp_exact, row_cmp_itself}
 use Rattle.row_values.specs.Rows.{row_cmp}

@@ -8,3 +8,7 @@ pub mod Limits
 pub mod Tallies
 -- how the first rows are found
 pub mod Candidates
+-- ---- laws for the crates above
+-- what relations and functions say of each other, and that both go by bags alone
+pub mod Laws
+pub mod LawProofs

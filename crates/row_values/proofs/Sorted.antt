@@ -2,7 +2,7 @@
 use Rattle.std.proofs.Common.{map, subst, ◌≡◌, List}
 use Rattle.std.specs.List.Sorted.{IsPermutation, IsSorted}
 use Rattle.std.proofs.lemmas.List.Sorted.{IsPermutation-map}
-use Rattle.aql_base.proofs.Sorting.{IsSorted-map}
+use Rattle.aql_base.specs.SortingLaws.{IsSorted-map}
 use Rattle.row_values.specs.Datums.{Datum}
 use Rattle.row_values.specs.Rows.{row_cmp, sorted}
 use Rattle.row_values.specs.SortedRows as laws

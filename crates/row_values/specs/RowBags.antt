@@ -7,9 +7,9 @@ use Rattle.std.proofs.lemmas.List.{append-nil, get_or_append_left, get_or-append
 use Rattle.std.proofs.lemmas.List.Elements.{All-append, All-filter, All-map, All-nil, All-head, All-tail, All-weaker}
 use Rattle.std.proofs.lemmas.List.Sorted.{All-permutation}
 use Rattle.aql_base.specs.Bags.{SameBag, count_of}
-use Rattle.aql_base.proofs.Bags.{SameBag-trans, SameBag-is, SameBag-map, SameBag-filter, SameBag-flat_map, SameBag-flat_map_each}
-use Rattle.aql_base.proofs.Counts.{count_by-SameBag, some_passes, told}
-use Rattle.aql_base.proofs.Distinct.{some_counted}
+use Rattle.aql_base.specs.BagLaws.{SameBag-trans, SameBag-is, SameBag-map, SameBag-filter, SameBag-flat_map, SameBag-flat_map_each}
+use Rattle.aql_base.specs.CountLaws.{count_by-SameBag, some_passes, told}
+use Rattle.aql_base.specs.DistinctLists.{some_counted}
 use Rattle.span_token.specs.Documents.{Doc}
 use Rattle.row_values.specs.Datums.{Datum, null, span_of, IsOfDocument}
 use Rattle.row_values.specs.Rows.{row_cmp, value_in, span_in, RowsLieIn, ColumnLiesIn, product, does_occur, minus}

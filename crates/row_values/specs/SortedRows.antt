@@ -1,8 +1,8 @@
 -- The rows in row order: the one list that is in order and the same bag.
 use Rattle.std.specs.Prelude.{◌≡◌, List}
 use Rattle.aql_base.specs.Bags.{SameBag}
-use Rattle.aql_base.proofs.Bags.{SameBag-sym, SameBag-trans, SameBag-is}
-use Rattle.aql_base.proofs.Sorting.{SameBag-sorted_by, IsSorted-sorted_by, sorted_by-unique, sorted_by-SameBag, sorted_by-in_order}
+use Rattle.aql_base.specs.BagLaws.{SameBag-sym, SameBag-trans, SameBag-is}
+use Rattle.aql_base.specs.SortingLaws.{SameBag-sorted_by, IsSorted-sorted_by, sorted_by-unique, sorted_by-SameBag, sorted_by-in_order}
 use Rattle.row_values.specs.Datums.{Datum}
 use Rattle.row_values.specs.Rows.{IsInOrder, sorted}
 use Rattle.row_values.specs.RowOrder.{row_cmp_total, row_cmp_exact}

@@ -6,7 +6,7 @@ use Rattle.std.proofs.lemmas.List.Elements.{All-map, All-tail}
 use Rattle.std.proofs.lemmas.List.Folds.{flat_map-map}
 use Rattle.std.proofs.lemmas.List.Sorted.{All-permutation, length_permutation}
 use Rattle.aql_base.specs.Bags.{SameBag}
-use Rattle.aql_base.proofs.Bags.{SameBag-refl, SameBag-trans, SameBag-is, SameBag-append, SameBag-flat_map, SameBag-flat_map_each, SameBag-flat_map_append, SameBag-pairs}
+use Rattle.aql_base.specs.BagLaws.{SameBag-refl, SameBag-trans, SameBag-is, SameBag-append, SameBag-flat_map, SameBag-flat_map_each, SameBag-flat_map_append, SameBag-pairs}
 use Rattle.span_token.specs.Extents.{Extent}
 use Rattle.span_token.specs.Documents.{characters}
 use Rattle.span_token.specs.Tokens.{tokens_of}

@@ -5,7 +5,7 @@ use Rattle.std.specs.Int.Signed.{le_z_yes}
 use Rattle.std.proofs.lemmas.Bool.{and_from, and_parts, or_cases, leb-true, le-leb, ltb-true, lt-ltb, eqb-true, eq-eqb}
 use Rattle.span_token.specs.Extents.{Extent}
 use Rattle.span_token.specs.Relations.{Follows, FollowsTok, Overlaps, ContainsExtent, does_follow, does_follow_tok, do_overlap, does_contain, tokens_between}
-use Rattle.span_token.proofs.ExtentLemmas.{same_extent}
+use Rattle.span_token.specs.ExtentLaws.{same_extent}
 
 held : (b : Bool) → T b → b ≡ true
 held true h = refl

@@ -5,7 +5,7 @@ use Rattle.std.specs.List.{filter, flat_map}
 use Rattle.std.proofs.lemmas.List.{map-append}
 use Rattle.std.proofs.lemmas.List.Elements.{All-cons, All-nil, All-head, All-tail, All-append, filter-append}
 use Rattle.aql_base.specs.Bags.{SameBag}
-use Rattle.aql_base.proofs.Bags.{SameBag-sym, SameBag-trans, SameBag-is, SameBag-flat_map, SameBag-flat_map_each, SameBag-pairs}
+use Rattle.aql_base.specs.BagLaws.{SameBag-sym, SameBag-trans, SameBag-is, SameBag-flat_map, SameBag-flat_map_each, SameBag-pairs}
 use Rattle.span_token.specs.Documents.{Doc}
 use Rattle.span_token.specs.Extents.{Extent}
 use Rattle.row_values.specs.Datums.{Datum, IsOfDocument}

@@ -11,7 +11,7 @@ use Rattle.std.proofs.lemmas.List.Sorted.{All-permutation, IsPermutation-sym, le
 use Rattle.std.proofs.lemmas.Slice.Zip.{firsts-zip, seconds-zip}
 use Rattle.std.proofs.Math.ListN.{get_or-map}
 use Rattle.aql_base.specs.Sorting.{put_in_order, sorted_by}
-use Rattle.aql_base.proofs.Sorting.{IsSorted-tail, IsSorted-head}
+use Rattle.aql_base.specs.SortingLaws.{IsSorted-tail, IsSorted-head}
 use Rattle.row_values.specs.Datums.{Datum}
 use Rattle.row_values.specs.RowOrder.{row_cmp_total}
 use Rattle.row_values.specs.Rows.{RowList, row_cmp, IsInOrder, sorted}
@@ -20,7 +20,7 @@ use Rattle.span_token.specs.Extents.{Extent}
 use Rattle.span_sets.specs.Consolidation.{IsKept, in_row_order, rows_in_order, targets_in_order, IsConsolidated}
 use Rattle.span_sets.specs.KeptPlaces.{consolidated_by, consolidated}
 use Rattle.span_sets.specs.declared.policy.Policy.{Policy}
-use Rattle.span_sets.proofs.ConsolidationLaws.{IsConsolidated-only, consolidated-SameBag}
+use Rattle.span_sets.specs.LawProofs.ConsolidationLaws.{IsConsolidated-only, consolidated-SameBag}
 
 module _ {X : Type 0} {cmp : X → X → Ordering} (order : IsTotalOrder cmp) where
   put_in_front : (x : X) (xs : List X) → All (λ y. is_lt (cmp y x) ≡ false) xs → put_in_order cmp x xs ≡ x ∷ xs

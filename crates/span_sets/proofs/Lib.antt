@@ -1,26 +1,6 @@
--- ---- for the crates above: what relations and functions say of each other, and that both go by bags alone
-pub mod Laws
--- ---- for this crate
--- sorted candidates, what the policies ask of them, and the places that stay
-pub mod Sweeps
-pub mod Policies
-pub mod Keeping
-pub mod CandidateLists
 -- rows in row order, with their targets
 pub mod RowOrders
-pub mod RowLaws
 pub mod PickedRows
 pub mod InOrder
--- distinct spans, and runs of neighbours
-pub mod SpanLists
-pub mod BlockLists
-pub mod BlockLaws
--- the rules as tests, and consolidation as a function
-pub mod RuleTests
-pub mod KeptLists
-pub mod Stable
-pub mod ConsolidationLaws
--- blocks as a function
-pub mod BlockTests
 -- rows of the definitions, computed
 mod Examples

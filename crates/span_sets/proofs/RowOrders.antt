@@ -12,7 +12,7 @@ use Rattle.std.proofs.lemmas.List.Sorted.{All-permutation, IsPermutation-map, le
 use Rattle.std.proofs.Math.Seq.{drop-cons}
 use Rattle.std.proofs.lemmas.List.{get_or-map, length-map}
 use Rattle.aql_base.specs.Sorting.{put_in_order, sorted_by}
-use Rattle.aql_base.proofs.Sorting.{IsSorted-map, IsSorted-sorted_by, SameBag-sorted_by, sorted_by-unique}
+use Rattle.aql_base.specs.SortingLaws.{IsSorted-map, IsSorted-sorted_by, SameBag-sorted_by, sorted_by-unique}
 use Rattle.row_values.specs.Datums.{Datum}
 use Rattle.row_values.specs.Rows.{row_cmp, IsInOrder, sorted}
 use Rattle.row_values.specs.SortedRows.{sorted-unique}

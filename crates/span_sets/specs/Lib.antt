@@ -10,3 +10,7 @@ pub mod Blocks
 pub mod Candidates
 -- rows with their numbers
 pub mod Orders
+-- ---- laws for the crates above
+-- what relations and functions say of each other, and that both go by bags alone
+pub mod Laws
+pub mod LawProofs

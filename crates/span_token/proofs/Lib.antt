@@ -1,11 +1,7 @@
 -- spans
-pub mod ExtentLemmas
-pub mod SpanOrderLaws
 pub mod LimitLaws
 -- tokens
 pub mod ClassLemmas
-pub mod Rising
-pub mod TokenLaws
 pub mod TokenCounts
 pub mod ContextLemmas
 -- characters and bytes

@@ -11,8 +11,7 @@ use Rattle.span_token.specs.SourceTokens.{nth_token}
 use Rattle.span_token.specs.Offsets.{AreBytesOf, nth_bytes, AreOffsets}
 use Rattle.span_token.specs.declared.offsets.TokenBytes.{TokenBytes}
 use Rattle.span_token.proofs.PlaceLemmas.{IsBetween, between_places}
-use Rattle.span_token.proofs.TokenCounts.{token_in_list}
-use Rattle.span_token.proofs.TokenLaws.{tokens_of_are, token_not_empty}
+use Rattle.span_token.specs.TokenLaws.{tokens_of_are, token_not_empty, token_in_list}
 
 -- a token that is there
 pub nth-is : (tokens : List Extent) (i : ℕ) (e : Extent) → slice_get tokens i ≡ Some e → nth_token tokens i ≡ e

@@ -7,8 +7,8 @@ use Rattle.unicode.specs.Binary.{is_white_space}
 use Rattle.span_token.specs.Words.{is_word_char}
 use Rattle.span_token.specs.Tokens.{is_word_before, begins_token, token_at, tokens_of, tokens_from}
 use Rattle.span_token.specs.Points.{IsSeam}
-use Rattle.span_token.proofs.ExtentLemmas.{same_extent}
-use Rattle.span_token.proofs.TokenLaws.{word_in_run, none_past_run}
+use Rattle.span_token.specs.ExtentLaws.{same_extent}
+use Rattle.span_token.specs.TokenLaws.{word_in_run, none_past_run}
 
 -- a run of word characters, one character on
 pub run_more : (cs : List ℕ) (k end : ℕ) → k < length cs → is_word_char (get_or cs k 0) ≡ true

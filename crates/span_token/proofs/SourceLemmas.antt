@@ -15,8 +15,7 @@ use Rattle.span_token.specs.Tokens.{tokens_of}
 use Rattle.span_token.specs.declared.source_tokens.SourceTokens.TheInside.{Inside}
 use Rattle.span_token.proofs.OffsetLemmas.{nth-is, run_bytes}
 use Rattle.span_token.proofs.PlaceLemmas.{IsBetween}
-use Rattle.span_token.proofs.TokenCounts.{token_in_list, apart}
-use Rattle.span_token.proofs.TokenLaws.{token_not_empty}
+use Rattle.span_token.specs.TokenLaws.{token_not_empty, token_in_list, apart}
 
 pub length-part : (tokens : List Extent) (first past : ℕ) → first ≤ past → past ≤ length tokens → length (slice_range tokens first past) ≡ past - first
 length-part tokens first past le within =

@@ -4,7 +4,6 @@ use Rattle.std.specs.List.{filter, count_by, range_with_len}
 use Rattle.std.specs.List.Sorted.{IsNonDecreasingBy, IsPartitionPoint}
 use Rattle.std.proofs.Common.{inl, inr}
 use Rattle.std.proofs.lemmas.Bool.{cases_lt}
-use Rattle.std.proofs.lemmas.List.Elements.{Contains-get_or}
 use Rattle.std.proofs.lemmas.List.{length-map, get_or-map, length-take-le}
 use Rattle.std.proofs.lemmas.List.FromFn.{length-range_with_len}
 use Rattle.std.proofs.lemmas.List.Sums.{count_by-le-length, length-filter, sum_by-cons}
@@ -12,7 +11,7 @@ use Rattle.std.proofs.lemmas.Option.{get_or_from_slice_get, slice_get_within}
 use Rattle.span_token.specs.Extents.{Extent}
 use Rattle.span_token.specs.Tokens.{IsToken, begins_token, token_at, tokens_of}
 use Rattle.span_token.proofs.LeadsLemmas.{leads-chars, leads-le-length}
-use Rattle.span_token.proofs.TokenLaws.{tokens_of_are, tokens_apart, token_not_empty}
+use Rattle.span_token.specs.TokenLaws.{tokens_of_are, token_not_empty, token_in_list, apart}
 
 -- there are no more tokens than characters, and no more characters than bytes
 pub tokens-le-chars : (cs : List ℕ) → length (tokens_of cs) ≤ length cs
@@ -46,14 +45,6 @@ filter_to_point p (x ∷ xs) (suc n) h point =
 pub count_to_point : {X : Type 0} (p : X → Bool) (xs : List X) (n : ℕ) → n ≤ length xs → IsPartitionPoint (λ x. p x ≡ true) (λ x. p x ≡ false) xs n → n ≡ count_by p xs
 count_to_point p xs n h point =
     sym (length-take-le n xs h) ∙ ap length (sym (filter_to_point p xs n h point)) ∙ length-filter p xs
-
-pub token_in_list : (cs : List ℕ) (i : ℕ) (d : Extent) → i < length (tokens_of cs) → IsToken cs (get_or (tokens_of cs) i d)
-token_in_list cs i d l = ((tokens_of_are cs).exactly (get_or (tokens_of cs) i d)).0 (Contains-get_or (tokens_of cs) i d l)
-
-pub apart : (cs : List ℕ) (i j : ℕ) (d : Extent) → i < j → j < length (tokens_of cs) → (get_or (tokens_of cs) i d).end ≤ (get_or (tokens_of cs) j d).begin
-apart cs i j d h l =
-    tokens_apart cs (get_or (tokens_of cs) i d) (get_or (tokens_of cs) j d) (token_in_list cs i d (omega arith)) (token_in_list cs j d l)
-    ((tokens_of_are cs).rising i j d h l)
 
 -- tokens rise by their begins and by their ends
 pub begins_rise : (cs : List ℕ) → IsNonDecreasingBy (λ t. t.begin) (tokens_of cs)

@@ -21,3 +21,10 @@ pub mod Places
 pub mod Layout
 pub mod Offsets
 pub mod SourceLayout
+-- ---- laws for the crates above
+-- extents, their order, and lists in a rising order
+pub mod ExtentLaws
+pub mod RisingLists
+pub mod SpanOrderLaws
+-- the tokens of a text
+pub mod TokenLaws

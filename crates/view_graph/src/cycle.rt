@@ -11,43 +11,6 @@ use aql_syntax::Statement;
 use span_token::{OutOfMemory, OwnedList, OwnedText};
 use std::alloc::Global;
 
-/// The index of the least number; there is one or more.
-fn least(places: &[u32]) -> usize
-    requires { 0 < length places.now }
-    ensures within { result < length places.now }
-    ensures least { All (λ place. slice_index places.now result ≤ place) places.now }
-{
-    let mut at = 0;
-    for i in 0..places.len() {
-        if places[i] < places[at] {
-            at = i;
-        }
-    }
-    at
-}
-
-/// The same circle, begun at its least place.
-pub(crate) fn from_least(alloc: Global, places: &[u32]) -> Result<Vec<u32>, OutOfMemory>
-    requires { 0 < length places.now }
-    ensures { IfOk result (λ cycle. IsBegunAtLeast places.now cycle.items) }
-{
-    let at = least(places);
-    let mut cycle = Vec::new(alloc);
-    cycle.extend_from_slice(&places[at..])?;
-    cycle.extend_from_slice(&places[..at])?;
-    Ok(cycle)
-}
-
-/// The name of the view that the statement creates; empty where it creates none.
-fn view_name(statement: &Statement) -> &str
-    ensures { (name : List ℕ) → defined_by (statement_of statement.now) ≡ view_named name ∷ [] → result.now ≡ name }
-{
-    match statement {
-        Statement::View { name, .. } => name.text.as_str(),
-        _ => "",
-    }
-}
-
 /// The names of the views at these places.
 pub(crate) fn names_of(
     alloc: Global,
@@ -63,4 +26,41 @@ pub(crate) fn names_of(
         views.push(name)?;
     }
     Ok(views)
+}
+
+/// The name of the view that the statement creates; empty where it creates none.
+fn view_name(statement: &Statement) -> &str
+    ensures { (name : List ℕ) → defined_by (statement_of statement.now) ≡ view_named name ∷ [] → result.now ≡ name }
+{
+    match statement {
+        Statement::View { name, .. } => name.text.as_str(),
+        _ => "",
+    }
+}
+
+/// The same circle, begun at its least place.
+pub(crate) fn from_least(alloc: Global, places: &[u32]) -> Result<Vec<u32>, OutOfMemory>
+    requires { 0 < length places.now }
+    ensures { IfOk result (λ cycle. IsBegunAtLeast places.now cycle.items) }
+{
+    let at = least(places);
+    let mut cycle = Vec::new(alloc);
+    cycle.extend_from_slice(&places[at..])?;
+    cycle.extend_from_slice(&places[..at])?;
+    Ok(cycle)
+}
+
+/// The index of the least number; there is one or more.
+fn least(places: &[u32]) -> usize
+    requires { 0 < length places.now }
+    ensures within { result < length places.now }
+    ensures least { All (λ place. slice_index places.now result ≤ place) places.now }
+{
+    let mut at = 0;
+    for i in 0..places.len() {
+        if places[i] < places[at] {
+            at = i;
+        }
+    }
+    at
 }

@@ -15,12 +15,20 @@ use indexmap::IndexSet;
 use span_token::{Failure, OutOfMemory, OwnedText};
 use std::alloc::Global;
 
-/// The fault of the statement with this number, an output whose name an earlier one has.
-fn output_again(alloc: Global, statement: u32, name: &str) -> Result<NameFault, OutOfMemory>
-    ensures { IfOk result (λ fault. fault ≡ NameFault.DuplicateOutput statement name.now) }
+/// Refuses the first output whose name an earlier one has.
+pub(crate) fn distinct_outputs(
+    alloc: Global,
+    statements: &[Statement],
+) -> Result<(), Failure<NameFault>>
+    requires { length statements.now < 2 ^ 32 }
+    ensures ok { OnOk result (AllDiffer (outputs_of (map statement_of statements.now))) }
+    ensures fault { IfErr result (OfFault (IsOutputAgain (map statement_of statements.now))) }
 {
-    let name = OwnedText::copied(alloc, name)?;
-    Ok(NameFault::DuplicateOutput { statement, name })
+    let mut seen = IndexSet::new(alloc);
+    for (place, statement) in statements.iter().enumerate() {
+        note(alloc, &mut seen, place as u32 + 1, statement)?;
+    }
+    Ok(())
 }
 
 /// Notes the output that the statement with this number is, or refuses a name that was seen.
@@ -45,18 +53,10 @@ fn note<'a>(
     }
 }
 
-/// Refuses the first output whose name an earlier one has.
-pub(crate) fn distinct_outputs(
-    alloc: Global,
-    statements: &[Statement],
-) -> Result<(), Failure<NameFault>>
-    requires { length statements.now < 2 ^ 32 }
-    ensures ok { OnOk result (AllDiffer (outputs_of (map statement_of statements.now))) }
-    ensures fault { IfErr result (OfFault (IsOutputAgain (map statement_of statements.now))) }
+/// The fault of the statement with this number, an output whose name an earlier one has.
+fn output_again(alloc: Global, statement: u32, name: &str) -> Result<NameFault, OutOfMemory>
+    ensures { IfOk result (λ fault. fault ≡ NameFault.DuplicateOutput statement name.now) }
 {
-    let mut seen = IndexSet::new(alloc);
-    for (place, statement) in statements.iter().enumerate() {
-        note(alloc, &mut seen, place as u32 + 1, statement)?;
-    }
-    Ok(())
+    let name = OwnedText::copied(alloc, name)?;
+    Ok(NameFault::DuplicateOutput { statement, name })
 }

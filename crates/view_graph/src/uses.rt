@@ -28,72 +28,23 @@ enum Found {
     Nothing,
 }
 
-/// What the map has at a view's name.
-pub(crate) fn view_entry(views: &IndexMap<String, Option<u32>>, name: &str) -> Option<Option<u32>>
-    ensures { result ≡ entry_of views.now name.now }
-{
-    views.get(name).copied()
-}
-
-pub(crate) fn dictionary_entry(dictionaries: &IndexMap<String, u32>, name: &str) -> Option<u32>
-    ensures { result ≡ entry_of dictionaries.now name.now }
-{
-    dictionaries.get(name).copied()
-}
-
-fn find(names: &Names, mention: Mention<'_>) -> Found
-    ensures { (program : List tree.Statement) → IndexesNames program (entry_of names.now.views) (entry_of names.now.dictionaries) → LooksUp program (named_of mention.entry) result }
-{
-    match mention {
-        Mention::View(name) => match view_entry(&names.views, name) {
-            Some(Some(place)) => Found::View(place),
-            Some(None) => Found::Other,
-            None => Found::Nothing,
-        },
-        Mention::Dictionary(name) => match dictionary_entry(&names.dictionaries, name) {
-            Some(_) => Found::Other,
-            None => Found::Nothing,
-        },
-    }
-}
-
-/// The fault of the statement with this number, which mentions a name that nothing defines.
-fn unknown(alloc: Global, statement: u32, mention: Mention<'_>) -> Result<NameFault, OutOfMemory>
-    ensures { IfOk result (Unknown statement (named_of mention.entry)) }
-{
-    match mention {
-        Mention::View(name) => {
-            let name = OwnedText::copied(alloc, name)?;
-            Ok(NameFault::UnknownView { statement, name })
-        }
-        Mention::Dictionary(name) => {
-            let name = OwnedText::copied(alloc, name)?;
-            Ok(NameFault::UnknownDictionary { statement, name })
-        }
-    }
-}
-
-/// The places of the views among the names that a statement mentions, or its first unknown name.
-fn places(
+/// For each statement the places of the views that it uses, or the program's first unknown name.
+pub(crate) fn uses(
     alloc: Global,
+    statements: &[Statement],
     names: &Names,
-    number: u32,
-    mentions: &[Mention<'_>],
-) -> Result<OwnedList<u32>, Failure<NameFault>>
-    ensures ok { (program : List tree.Statement) → IndexesNames program (entry_of names.now.views) (entry_of names.now.dictionaries) → IfOk result (PlacesOf program (map named_of mentions.now)) }
-    ensures fault { (program : List tree.Statement) → IndexesNames program (entry_of names.now.views) (entry_of names.now.dictionaries) → IfErr result (OfFault (MentionsUndefined program number (map named_of mentions.now))) }
+) -> Result<Vec<OwnedList<u32>>, Failure<NameFault>>
+    requires short { length statements.now < 2 ^ 32 }
+    requires named { IndexesNames (map statement_of statements.now) (entry_of names.now.views) (entry_of names.now.dictionaries) }
+    ensures ok { IfOk result (λ uses. IsUseGraph (map statement_of statements.now) (length statements.now) uses.items) }
+    ensures fault { IfErr result (OfFault (IsNameFault (map statement_of statements.now))) }
 {
-    let mut used = OwnedList::new(alloc);
-    for mention in mentions {
-        match find(names, *mention) {
-            Found::View(place) => used.push(place)?,
-            Found::Other => {}
-            Found::Nothing => {
-                return Err(Failure::Fault(unknown(alloc, number, *mention)?));
-            }
-        }
+    let mut uses = Vec::new(alloc);
+    for (place, statement) in statements.iter().enumerate() {
+        let used = used_by(alloc, names, place as u32 + 1, statement)?;
+        uses.push(used)?;
     }
-    Ok(used)
+    Ok(uses)
 }
 
 /// The places of the views that the statement's query uses, or the first unknown name of the
@@ -121,21 +72,70 @@ fn used_by(
     }
 }
 
-/// For each statement the places of the views that it uses, or the program's first unknown name.
-pub(crate) fn uses(
+/// The places of the views among the names that a statement mentions, or its first unknown name.
+fn places(
     alloc: Global,
-    statements: &[Statement],
     names: &Names,
-) -> Result<Vec<OwnedList<u32>>, Failure<NameFault>>
-    requires short { length statements.now < 2 ^ 32 }
-    requires named { IndexesNames (map statement_of statements.now) (entry_of names.now.views) (entry_of names.now.dictionaries) }
-    ensures ok { IfOk result (λ uses. IsUseGraph (map statement_of statements.now) (length statements.now) uses.items) }
-    ensures fault { IfErr result (OfFault (IsNameFault (map statement_of statements.now))) }
+    number: u32,
+    mentions: &[Mention<'_>],
+) -> Result<OwnedList<u32>, Failure<NameFault>>
+    ensures ok { (program : List tree.Statement) → IndexesNames program (entry_of names.now.views) (entry_of names.now.dictionaries) → IfOk result (PlacesOf program (map named_of mentions.now)) }
+    ensures fault { (program : List tree.Statement) → IndexesNames program (entry_of names.now.views) (entry_of names.now.dictionaries) → IfErr result (OfFault (MentionsUndefined program number (map named_of mentions.now))) }
 {
-    let mut uses = Vec::new(alloc);
-    for (place, statement) in statements.iter().enumerate() {
-        let used = used_by(alloc, names, place as u32 + 1, statement)?;
-        uses.push(used)?;
+    let mut used = OwnedList::new(alloc);
+    for mention in mentions {
+        match find(names, *mention) {
+            Found::View(place) => used.push(place)?,
+            Found::Other => {}
+            Found::Nothing => {
+                return Err(Failure::Fault(unknown(alloc, number, *mention)?));
+            }
+        }
     }
-    Ok(uses)
+    Ok(used)
+}
+
+/// The fault of the statement with this number, which mentions a name that nothing defines.
+fn unknown(alloc: Global, statement: u32, mention: Mention<'_>) -> Result<NameFault, OutOfMemory>
+    ensures { IfOk result (Unknown statement (named_of mention.entry)) }
+{
+    match mention {
+        Mention::View(name) => {
+            let name = OwnedText::copied(alloc, name)?;
+            Ok(NameFault::UnknownView { statement, name })
+        }
+        Mention::Dictionary(name) => {
+            let name = OwnedText::copied(alloc, name)?;
+            Ok(NameFault::UnknownDictionary { statement, name })
+        }
+    }
+}
+
+fn find(names: &Names, mention: Mention<'_>) -> Found
+    ensures { (program : List tree.Statement) → IndexesNames program (entry_of names.now.views) (entry_of names.now.dictionaries) → LooksUp program (named_of mention.entry) result }
+{
+    match mention {
+        Mention::View(name) => match view_entry(&names.views, name) {
+            Some(Some(place)) => Found::View(place),
+            Some(None) => Found::Other,
+            None => Found::Nothing,
+        },
+        Mention::Dictionary(name) => match dictionary_entry(&names.dictionaries, name) {
+            Some(_) => Found::Other,
+            None => Found::Nothing,
+        },
+    }
+}
+
+pub(crate) fn dictionary_entry(dictionaries: &IndexMap<String, u32>, name: &str) -> Option<u32>
+    ensures { result ≡ entry_of dictionaries.now name.now }
+{
+    dictionaries.get(name).copied()
+}
+
+/// What the map has at a view's name.
+pub(crate) fn view_entry(views: &IndexMap<String, Option<u32>>, name: &str) -> Option<Option<u32>>
+    ensures { result ≡ entry_of views.now name.now }
+{
+    views.get(name).copied()
 }

@@ -3,7 +3,7 @@ use Rattle.std.specs.Cmp.{IsTotalOrder}
 use Rattle.std.specs.declared.cmp.Ordering.{Ordering}
 use Rattle.std.specs.declared.cmp.Ordering.TheVariants.{Equal}
 use Rattle.aql_base.specs.Bags.{OccursEquallyOften, SameBag}
-use Rattle.aql_base.proofs.Counts.{OccursEquallyOften-from_elements, SameBag-from_counts, counts_from_SameBag}
+use Rattle.aql_base.specs.CountLaws.{OccursEquallyOften-from_elements, SameBag-from_counts, counts_from_SameBag}
 use Rattle.aql_base.proofs.bag.same_bag.Goals as goal
 
 -- what counts decide, bags decide too where the order tells all values apart

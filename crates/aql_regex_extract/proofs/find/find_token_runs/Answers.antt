@@ -6,8 +6,8 @@ use Rattle.aql_regex_extract.specs.Matches.{PutsRows, IsInside, extents_of, exte
 use Rattle.aql_regex_extract.specs.Steps.{cut_rows}
 use Rattle.aql_regex_extract.specs.TokenRuns.{AreRunRows, run_rows}
 use Rattle.aql_regex_extract.proofs.CutLemmas.{cut-runs}
-use Rattle.aql_regex_extract.proofs.TokenRunLaws.{run_rows-are}
-use Rattle.aql_regex_extract.proofs.RunRowsUnique.{run_rows-only}
+use Rattle.aql_regex_extract.specs.LawProofs.TokenRunLaws.{run_rows-are}
+use Rattle.aql_regex_extract.specs.LawProofs.RunRowsUnique.{run_rows-only}
 use Rattle.aql_regex_extract.proofs.find.find_token_runs.Goals as goal
 
 pub returns-clause-runs : goal.returns-clause-runs

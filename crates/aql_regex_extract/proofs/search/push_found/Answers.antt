@@ -4,7 +4,7 @@ use Rattle.regex.specs.Strings.{matcher_pattern}
 use Rattle.span_token.specs.Extents.{extent_of}
 use Rattle.aql_regex_extract.specs.Matches.{row_of, matches_of, extents_of}
 use Rattle.aql_regex_extract.proofs.MatchesAlike.{rows-of_pattern, count-of_pattern}
-use Rattle.aql_regex_extract.proofs.RowLaws.{joined}
+use Rattle.aql_regex_extract.specs.LawProofs.RowLaws.{joined}
 use Rattle.aql_regex_extract.proofs.search.push_found.Goals as goal
 
 pub returns-clause-rows : goal.returns-clause-rows

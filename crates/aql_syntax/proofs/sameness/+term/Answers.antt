@@ -3,7 +3,7 @@ use Rattle.std.proofs.lemmas.List.{length-map}
 use Rattle.aql_syntax.specs.Trees.{Term, call, as_terms}
 use Rattle.aql_syntax.specs.Views.{term_of}
 use Rattle.aql_syntax.specs.Sameness.{is_same, are_same}
-use Rattle.aql_syntax.proofs.SameTerms.{called, not_as_long}
+use Rattle.aql_syntax.specs.LawProofs.SameTerms.{called, not_as_long}
 use Rattle.aql_syntax.proofs.sameness.+term.Goals as goal
 
 pub is_call-returns-then-eq : goal.is_call-returns-then-eq

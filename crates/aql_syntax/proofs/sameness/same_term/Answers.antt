@@ -2,7 +2,7 @@ use Rattle.std.proofs.Common.{Bool, subst, sym}
 use Rattle.std.specs.Bool.{Decides}
 use Rattle.aql_syntax.specs.Views.{term_of}
 use Rattle.aql_syntax.specs.Sameness.{AreSame}
-use Rattle.aql_syntax.proofs.SameTerms.{decides}
+use Rattle.aql_syntax.specs.LawProofs.SameTerms.{decides}
 use Rattle.aql_syntax.proofs.sameness.same_term.Goals as goal
 
 pub returns : goal.returns

@@ -5,7 +5,7 @@ use Rattle.aql_syntax.specs.Views.{term_of, item_of}
 use Rattle.aql_syntax.specs.Sameness.{is_same, are_same}
 use Rattle.aql_types.specs.Keys.{written_out}
 use Rattle.aql_types.proofs.KeyLists.{called, written_call}
-use Rattle.aql_types.proofs.Sameness.{not_as_long}
+use Rattle.aql_syntax.specs.SamenessLaws.{not_as_long}
 use Rattle.aql_types.proofs.key.+key.Goals as goal
 
 pub args_same-returns-then-args-others : goal.args_same-returns-then-args-others

@@ -1,7 +1,7 @@
 use Rattle.std.specs.Bool.{one_answer}
 use Rattle.aql_syntax.specs.Sameness.{is_same}
 use Rattle.aql_syntax.specs.Views.{term_of}
-use Rattle.aql_types.proofs.Sameness.{decides}
+use Rattle.aql_syntax.specs.SamenessLaws.{decides}
 use Rattle.aql_types.proofs.key.plain_same.Goals as goal
 
 pub returns : goal.returns

@@ -4,7 +4,7 @@ use Rattle.std.proofs.lemmas.List.{append-nil, append_assoc}
 use Rattle.span_token.specs.Extents.{Extent}
 use Rattle.dict_match.specs.DictMatches.{matches_from}
 use Rattle.dict_match.specs.Rows.{dict_and_extent, extents_for}
-use Rattle.dict_match.proofs.MatchLaws.{among-more, among-all}
+use Rattle.dict_match.specs.LawProofs.MatchLaws.{among-more, among-all}
 use Rattle.dict_match.proofs.RowLemmas.{extends-none, extends-more}
 use Rattle.dict_match.proofs.walk.push_matches.Goals as goal
 

@@ -7,7 +7,7 @@ use Rattle.dict_match.specs.Dictionaries.{folded}
 use Rattle.dict_match.specs.Rows.{dict_and_extent, extents_for}
 use Rattle.dict_match.specs.Tries.{Reaches, put_dicts, step}
 use Rattle.dict_match.specs.Walks.{run_texts, HasEndFor, HasOneEach, PutsWhere}
-use Rattle.dict_match.proofs.MatchLaws.{matches_from-none, matches_from-stop}
+use Rattle.dict_match.specs.LawProofs.MatchLaws.{matches_from-none, matches_from-stop}
 use Rattle.dict_match.proofs.PutLemmas.{one-each, ends-within}
 use Rattle.dict_match.proofs.RowLemmas.{extends-none, extends-more}
 use Rattle.dict_match.proofs.StepLemmas.{stops, one-more}

@@ -5,7 +5,7 @@ use Rattle.std.specs.declared.cmp.Ordering.TheVariants.{Less, Equal, Greater}
 use Rattle.std.proofs.lemmas.List.{get_or_default}
 use Rattle.row_values.specs.Rows.{value_in}
 use Rattle.row_values.specs.Datums.{null, datum_of, datum_cmp}
-use Rattle.group_agg.proofs.Pairs.{compared_at, compared_from-tied, compared_from-decided}
+use Rattle.group_agg.specs.LawProofs.Pairs.{compared_at, compared_from-tied, compared_from-decided}
 use Rattle.group_agg.proofs.first_rows.comes_before.Goals as goal
 
 differs : (o : Ordering) → is_ne o ≡ true → is_eq o ≡ false

@@ -1,5 +1,5 @@
 use Rattle.std.proofs.Common.{◌≡◌}
-use Rattle.group_agg.proofs.Pairs.{compared_from}
+use Rattle.group_agg.specs.LawProofs.Pairs.{compared_from}
 use Rattle.group_agg.proofs.first_rows.comes_before.Given as goal
 
 abbrev pub invariant-loop-i : goal.invariant-loop-i

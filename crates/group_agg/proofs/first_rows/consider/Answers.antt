@@ -2,7 +2,7 @@ use Rattle.std.proofs.Common.{◌≡◌, ◌++◌, ◌∷◌, [], ◌-◌, false
 use Rattle.std.specs.Ordering.{is_lt}
 use Rattle.std.proofs.lemmas.List.{get_or_default}
 use Rattle.group_agg.specs.Candidates.{keyed, pair_cmp, IsHeld}
-use Rattle.group_agg.proofs.Pairs.{IsHeld-push, IsHeld-pass}
+use Rattle.group_agg.specs.LawProofs.Pairs.{IsHeld-push, IsHeld-pass}
 use Rattle.group_agg.proofs.first_rows.consider.Goals as goal
 
 pub returns-then-not-comes_before : goal.returns-then-not-comes_before

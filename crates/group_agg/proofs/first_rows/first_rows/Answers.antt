@@ -1,6 +1,6 @@
 use Rattle.std.proofs.Common.{◌≡◌, List, length, All, subst, sym}
 use Rattle.row_values.specs.Datums.{Datum}
-use Rattle.group_agg.proofs.LimitLaws.{held_wide}
+use Rattle.group_agg.specs.LawProofs.LimitLaws.{held_wide}
 use Rattle.group_agg.proofs.first_rows.first_rows.Goals as goal
 
 pub rows_alone-requires : goal.rows_alone-requires

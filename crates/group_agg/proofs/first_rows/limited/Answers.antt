@@ -3,8 +3,8 @@ use Rattle.std.proofs.lemmas.Result.{IfOk-weaker}
 use Rattle.row_values.specs.Rows.{RowList}
 use Rattle.group_agg.specs.Candidates.{keyed, first_of}
 use Rattle.group_agg.specs.Limits.{IsLimited, number_kept}
-use Rattle.group_agg.proofs.Functions.{IsLimited-only, only_from}
-use Rattle.group_agg.proofs.LimitLaws.{IsLimited-all, IsLimited-first}
+use Rattle.group_agg.specs.LawProofs.Functions.{IsLimited-only, only_from}
+use Rattle.group_agg.specs.LawProofs.LimitLaws.{IsLimited-all, IsLimited-first}
 use Rattle.group_agg.proofs.first_rows.limited.Goals as goal
 
 -- a list that is all rows, or the first of them, is an answer

@@ -1,7 +1,7 @@
 use Rattle.std.proofs.Common.{◌≡◌, length, arith}
 use Rattle.group_agg.specs.Limits.{number_kept}
-use Rattle.group_agg.proofs.Functions.{IsLimited-only, only_from}
-use Rattle.group_agg.proofs.LimitLaws.{IsLimited-all}
+use Rattle.group_agg.specs.LawProofs.Functions.{IsLimited-only, only_from}
+use Rattle.group_agg.specs.LawProofs.LimitLaws.{IsLimited-all}
 use Rattle.group_agg.proofs.first_rows.order_limit.Goals as goal
 
 all : goal.returns-then-number_kept-len-clause-rows

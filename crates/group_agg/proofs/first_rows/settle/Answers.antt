@@ -1,6 +1,6 @@
 use Rattle.std.proofs.Common.{◌∙◌, ap, take}
-use Rattle.aql_base.proofs.Sorting.{sorted_by-unique}
-use Rattle.group_agg.proofs.Pairs.{pair_cmp_total, pair_cmp_exact}
+use Rattle.aql_base.specs.SortingLaws.{sorted_by-unique}
+use Rattle.group_agg.specs.LawProofs.Pairs.{pair_cmp_total, pair_cmp_exact}
 use Rattle.group_agg.proofs.first_rows.settle.Goals as goal
 
 pub returns : goal.returns

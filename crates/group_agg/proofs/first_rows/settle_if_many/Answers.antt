@@ -1,6 +1,6 @@
 use Rattle.std.proofs.Common.{◌≤◌, true, length, sym, subst, arith}
 use Rattle.group_agg.specs.Candidates.{IsHeld}
-use Rattle.group_agg.proofs.Pairs.{IsHeld-settle}
+use Rattle.group_agg.specs.LawProofs.Pairs.{IsHeld-settle}
 use Rattle.group_agg.proofs.first_rows.settle_if_many.Goals as goal
 
 pub returns : goal.returns

@@ -1,10 +1,10 @@
 use Rattle.std.proofs.Common.{◌≡◌, length, map, subst, ◌∙◌, ap, arith}
 use Rattle.group_agg.specs.Tallies.{finished_at, AreKeys, AreTallied}
-use Rattle.group_agg.proofs.Aggregates.{IsGrouped-made}
-use Rattle.group_agg.proofs.Functions.{IsGrouped-only, IsGrouped-among}
+use Rattle.group_agg.specs.LawProofs.Aggregates.{IsGrouped-made}
+use Rattle.group_agg.specs.LawProofs.Functions.{IsGrouped-only, IsGrouped-among}
 use Rattle.group_agg.proofs.GroupKeys.{rows_are}
-use Rattle.group_agg.proofs.SameInput.{IsGrouped-SameBag}
-use Rattle.group_agg.proofs.Unique.{IsGrouped-once}
+use Rattle.group_agg.specs.LawProofs.SameInput.{IsGrouped-SameBag}
+use Rattle.group_agg.specs.LawProofs.Unique.{IsGrouped-once}
 use Rattle.group_agg.proofs.groups.group.Goals as goal
 
 grouped : goal.returns-clause-rows

@@ -1,5 +1,5 @@
 use Rattle.std.proofs.Common.{subst}
-use Rattle.aql_base.proofs.Sorting.{sorted_from_answer}
+use Rattle.aql_base.specs.SortingLaws.{sorted_from_answer}
 use Rattle.row_values.specs.RowOrder.{row_cmp_total}
 use Rattle.row_values.specs.Rows.{IsInOrder}
 use Rattle.row_values.specs.SortedRows.{sorted-in_order, IsInOrder-sorted}

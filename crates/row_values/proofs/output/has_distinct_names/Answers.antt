@@ -1,5 +1,5 @@
 use Rattle.std.proofs.Common.{sym, subst, ◌∙◌, true≢false, Contains}
-use Rattle.aql_base.proofs.Distinct.{AllPairs-tail, AllPairs-distinct_cons, AllPairs-not_among}
+use Rattle.aql_base.specs.DistinctLists.{AllPairs-tail, AllPairs-distinct_cons, AllPairs-not_among}
 use Rattle.row_values.specs.Outputs.{HasDistinctNames}
 use Rattle.row_values.proofs.output.has_distinct_names.Goals as goal
 

@@ -2,7 +2,7 @@ use Rattle.std.proofs.Common.{◌≡◌, ℕ, List, length, map, All, ap, ap₂,
 use Rattle.std.proofs.lemmas.List.{length-map}
 use Rattle.std.proofs.lemmas.List.Sorted.{length_permutation}
 use Rattle.aql_base.specs.Bags.{SameBag}
-use Rattle.aql_base.proofs.Bags.{SameBag-trans}
+use Rattle.aql_base.specs.BagLaws.{SameBag-trans}
 use Rattle.row_values.specs.Datums.{Datum}
 use Rattle.row_values.specs.Rows.{RowList, span_in}
 use Rattle.span_joins.specs.declared.rule.By.{By}

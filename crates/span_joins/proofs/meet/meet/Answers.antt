@@ -1,7 +1,7 @@
 use Rattle.std.proofs.Common.{◌≡◌, ℕ, ◌+◌, ◌<◌, ◌≤◌, Some, List, [], ◌++◌, length, take, get_or, refl, sym, ap, ap₂, subst, ◌∙◌, append-nil, append_assoc, arith, true≢false}
 use Rattle.std.proofs.lemmas.List.{get_or_default}
 use Rattle.aql_base.specs.Bags.{SameBag}
-use Rattle.aql_base.proofs.Bags.{SameBag-refl, SameBag-is, SameBag-trans, SameBag-append, SameBag-exchange}
+use Rattle.aql_base.specs.BagLaws.{SameBag-refl, SameBag-is, SameBag-trans, SameBag-append, SameBag-exchange}
 use Rattle.span_token.specs.Extents.{Extent}
 use Rattle.row_values.specs.Datums.{Datum}
 use Rattle.span_joins.specs.declared.rule.By.TheVariants.{Begin}

@@ -1,7 +1,7 @@
 use Rattle.std.proofs.Common.{◌≡◌, IsTrue, ◌++◌, List, All, ap, sym, subst, ◌∙◌, length, arith}
 use Rattle.std.proofs.lemmas.Result.{IfOk-weaker, on_ok_weaker}
 use Rattle.aql_base.specs.Bags.{SameBag}
-use Rattle.aql_base.proofs.Bags.{SameBag-is, SameBag-append, SameBag-refl, SameBag-trans}
+use Rattle.aql_base.specs.BagLaws.{SameBag-is, SameBag-append, SameBag-refl, SameBag-trans}
 use Rattle.row_values.specs.Datums.{Datum}
 use Rattle.span_joins.specs.declared.rule.Rule.{Rule}
 use Rattle.span_joins.specs.declared.rule.Rule.TheVariants.{OverlapsFromLeft, OverlapsFromRight}

@@ -1,7 +1,7 @@
 use Rattle.std.proofs.Common.{◌≡◌, List, All, map, subst, sym, arith}
 use Rattle.std.specs.List.Sorted.{IsPermutation}
 use Rattle.std.proofs.lemmas.List.Sorted.{All-permutation, length_permutation}
-use Rattle.aql_base.proofs.Bags.{SameBag-append, SameBag-refl, SameBag-sym, SameBag-trans}
+use Rattle.aql_base.specs.BagLaws.{SameBag-append, SameBag-refl, SameBag-sym, SameBag-trans}
 use Rattle.span_joins.specs.declared.rule.By.{By}
 use Rattle.span_joins.specs.declared.side.Key.{Key}
 use Rattle.span_joins.specs.Answers.{is_back, test_by}

@@ -3,8 +3,8 @@ use Rattle.std.proofs.lemmas.Int.{to_z-of_z}
 use Rattle.span_token.specs.Extents.{Extent, extent_of}
 use Rattle.span_token.specs.declared.span.Span.{Span}
 use Rattle.span_sets.specs.Blocks.{IsNeighbour, AreBlocksOf, is_neighbour}
-use Rattle.span_sets.proofs.BlockLaws.{AreBlocks-unique, AreBlocks-SameBag}
-use Rattle.span_sets.proofs.BlockTests.{is_neighbour-decides, AreBlocks-only}
+use Rattle.span_sets.specs.LawProofs.BlockLaws.{AreBlocks-unique, AreBlocks-SameBag}
+use Rattle.span_sets.specs.LawProofs.BlockTests.{is_neighbour-decides, AreBlocks-only}
 use Rattle.span_sets.proofs.block_runs.blocks.Goals as goal
 
 pub returns-clause-blocks : goal.returns-clause-blocks

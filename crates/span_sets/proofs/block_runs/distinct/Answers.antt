@@ -8,7 +8,7 @@ use Rattle.span_token.specs.Documents.{LiesIn}
 use Rattle.span_token.specs.Extents.{extent_of}
 use Rattle.span_token.specs.declared.span.Span.{Span}
 use Rattle.span_sets.specs.Blocks.{AreDistinct}
-use Rattle.span_sets.proofs.SpanLists.{span_cmp, nat_tied, AreDistinct-from_dedup}
+use Rattle.span_sets.specs.LawProofs.SpanLists.{span_cmp, nat_tied, AreDistinct-from_dedup}
 use Rattle.span_sets.proofs.block_runs.distinct.Goals as goal
 
 abbrev span_eq : Span → Span → Bool

@@ -5,7 +5,7 @@ use Rattle.std.proofs.lemmas.List.{map_push, get_or-map}
 use Rattle.std.proofs.lemmas.List.FromFn.{map-range_with_len_more}
 use Rattle.span_token.specs.Extents.{Extent, extent_of}
 use Rattle.span_token.specs.declared.span.Span.{Span}
-use Rattle.span_token.proofs.ExtentLemmas.{same_extent}
+use Rattle.span_token.specs.ExtentLaws.{same_extent}
 use Rattle.span_sets.specs.Blocks.{span_at, block_of}
 use Rattle.span_sets.proofs.block_runs.push_blocks.Goals as goal
 

@@ -6,11 +6,11 @@ use Rattle.std.specs.List.{range_with_len}
 use Rattle.span_token.specs.Documents.{Doc, LiesIn}
 use Rattle.span_token.specs.Extents.{Extent, extent_of}
 use Rattle.span_token.specs.declared.span.Span.{Span}
-use Rattle.span_token.proofs.Rising.{in_range}
+use Rattle.span_token.specs.RisingLists.{in_range}
 use Rattle.span_sets.specs.Blocks.{IsNeighbour, span_at, block_of}
-use Rattle.span_sets.proofs.BlockLists.{HasRuns, HasRuns-next, HasRuns-all}
+use Rattle.span_sets.specs.LawProofs.BlockLists.{HasRuns, HasRuns-next, HasRuns-all}
 use Rattle.span_sets.proofs.RowOrders.{All-shown}
-use Rattle.span_sets.proofs.SpanLists.{spans_ordered, begins_rise}
+use Rattle.span_sets.specs.LawProofs.SpanLists.{spans_ordered, begins_rise}
 use Rattle.span_sets.proofs.block_runs.runs.Goals as goal
 
 pub push_blocks-requires-clause-ordered : goal.push_blocks-requires-clause-ordered

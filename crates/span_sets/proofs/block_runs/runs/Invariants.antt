@@ -2,7 +2,7 @@ use Rattle.std.proofs.Common.{ℕ, ◌+◌, ◌<◌, ◌≤◌, map, length, All
 use Rattle.span_token.specs.Documents.{LiesIn}
 use Rattle.span_token.specs.Extents.{extent_of}
 use Rattle.span_sets.specs.Blocks.{IsNeighbour, span_at}
-use Rattle.span_sets.proofs.BlockLists.{HasRuns}
+use Rattle.span_sets.specs.LawProofs.BlockLists.{HasRuns}
 use Rattle.span_sets.proofs.block_runs.runs.Given as goal
 
 abbrev pub invariant-loop-i : goal.invariant-loop-i

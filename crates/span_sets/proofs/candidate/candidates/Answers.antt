@@ -5,7 +5,7 @@ use Rattle.span_token.specs.declared.span.Span.{Span}
 use Rattle.span_sets.specs.Consolidation.{target_of}
 use Rattle.span_sets.specs.Candidates.{candidates_from}
 use Rattle.span_sets.specs.declared.candidate.Candidate.{Candidate}
-use Rattle.span_sets.proofs.CandidateLists.{candidates_from-null, candidates_from-some, candidates_from-nil}
+use Rattle.span_sets.specs.LawProofs.CandidateLists.{candidates_from-null, candidates_from-some, candidates_from-nil}
 use Rattle.span_sets.proofs.candidate.candidates.Goals as goal
 use Rattle.span_sets.proofs.candidate.candidates.Goals.{in-Some+in_ok-push, in_default}
 

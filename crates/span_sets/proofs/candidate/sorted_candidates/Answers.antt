@@ -3,7 +3,7 @@ use Rattle.std.specs.List.Sorted.{IsPermutation}
 use Rattle.span_sets.specs.declared.candidate.Candidate.{Candidate}
 use Rattle.std.proofs.Common.{List}
 use Rattle.span_sets.specs.Consolidation.{target_of}
-use Rattle.span_sets.proofs.CandidateLists.{AreSorted-from_sort, AreCandidatesOf-from_sort}
+use Rattle.span_sets.specs.LawProofs.CandidateLists.{AreSorted-from_sort, AreCandidatesOf-from_sort}
 use Rattle.span_sets.proofs.candidate.sorted_candidates.Goals as goal
 
 pub returns-clause-sorted : goal.returns-clause-sorted

@@ -12,7 +12,7 @@ use Rattle.span_sets.specs.Consolidation.{target_of, in_row_order, rows_in_order
 use Rattle.span_sets.specs.Candidates.{marked_places}
 use Rattle.span_sets.specs.Orders.{row_order_of}
 use Rattle.span_sets.specs.KeptPlaces.{consolidated_by}
-use Rattle.span_sets.proofs.ConsolidationLaws.{IsConsolidated-only, IsConsolidated-among, consolidated-SameBag}
+use Rattle.span_sets.specs.LawProofs.ConsolidationLaws.{IsConsolidated-only, IsConsolidated-among, consolidated-SameBag}
 use Rattle.span_sets.proofs.RowOrders.{rows_in_order-sorted, IsInOrder-picked, All-row_order_of, All-shown, targets_in_order-shown, rows_in_order-shown, length-order}
 use Rattle.span_sets.proofs.consolidation.consolidate.Goals as goal
 

@@ -3,7 +3,7 @@ use Rattle.std.specs.Bool.{OnTrue, OnFalse}
 use Rattle.std.proofs.lemmas.Bool.{OnTrue_at, OnFalse_at}
 use Rattle.span_sets.specs.Candidates.{AreAlike, IsNew, IsUncovered}
 use Rattle.span_sets.specs.declared.candidate.Candidate.{Candidate}
-use Rattle.span_sets.proofs.Sweeps.{IsReached-none, IsReached-next, uncovered-new, uncovered-old, answered-push, both_true, first_false}
+use Rattle.span_sets.specs.LawProofs.Sweeps.{IsReached-none, IsReached-next, uncovered-new, uncovered-old, answered-push, both_true, first_false}
 use Rattle.span_sets.proofs.containment.by_containment.Goals as goal
 use Rattle.span_sets.proofs.containment.by_containment.Goals.{then-is_new, else-is_new, then-passes, else-passes}
 

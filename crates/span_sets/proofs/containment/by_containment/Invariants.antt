@@ -1,6 +1,6 @@
 use Rattle.std.proofs.Common.{◌≡◌, ℕ, ◌<◌, ◌↔◌, true, false, length, get_or, IsTrue}
 use Rattle.span_sets.specs.Candidates.{IsNew, IsUncovered}
-use Rattle.span_sets.proofs.Sweeps.{IsReached}
+use Rattle.span_sets.specs.LawProofs.Sweeps.{IsReached}
 use Rattle.span_sets.proofs.containment.by_containment.Given as goal
 
 abbrev pub invariant-loop-i : goal.invariant-loop-i

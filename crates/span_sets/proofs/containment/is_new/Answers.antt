@@ -1,7 +1,7 @@
 use Rattle.std.proofs.Common.{◌≡◌, ◌+◌, ◌-◌, Bool, true, false, not, arith}
 use Rattle.std.proofs.lemmas.Bool.{OnTrue_from}
 use Rattle.span_sets.specs.Candidates.{IsNew}
-use Rattle.span_sets.proofs.Sweeps.{IsNew-next}
+use Rattle.span_sets.specs.LawProofs.Sweeps.{IsNew-next}
 use Rattle.span_sets.proofs.containment.is_new.Goals as goal
 
 not_true : (b : Bool) → not b ≡ true → b ≡ true → ⊥

@@ -1,7 +1,7 @@
 use Rattle.std.proofs.Common.{◌≡◌, ◌<◌, ◌↔◌, Bool, true}
 use Rattle.span_token.specs.Relations.{Overlaps}
 use Rattle.span_sets.specs.Candidates.{extent_at, IsClear}
-use Rattle.span_sets.proofs.Sweeps.{both_true, first_false, decided, IsSwept-kept, IsSwept-dropped}
+use Rattle.span_sets.specs.LawProofs.Sweeps.{both_true, first_false, decided, IsSwept-kept, IsSwept-dropped}
 use Rattle.span_sets.proofs.left_to_right.left_to_right.Goals as goal
 use Rattle.span_sets.proofs.left_to_right.left_to_right.Goals.{then-is_clear_of, else-is_clear_of, then-stays, else-stays}
 

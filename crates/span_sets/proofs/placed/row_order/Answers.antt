@@ -5,7 +5,7 @@ use Rattle.row_values.specs.Datums.{Datum}
 use Rattle.span_sets.specs.declared.placed.PlacedRow.{PlacedRow}
 use Rattle.span_sets.specs.Consolidation.{target_of}
 use Rattle.span_sets.proofs.RowOrders.{row_order_of-shown, IsSorted-first_two}
-use Rattle.span_sets.proofs.SpanLists.{span_cmp}
+use Rattle.span_sets.specs.LawProofs.SpanLists.{span_cmp}
 use Rattle.span_sets.proofs.placed.row_order.Goals as goal
 
 abbrev shown : PlacedRow → List Datum × ℕ

@@ -6,7 +6,7 @@ use Rattle.std.proofs.Math.ListN.{get_or-map as get_or-map_at}
 use Rattle.span_token.specs.declared.span.Span.{Span}
 use Rattle.span_sets.specs.Consolidation.{target_of}
 use Rattle.span_sets.specs.Candidates.{place_of}
-use Rattle.span_sets.proofs.Keeping.{in_targets, not_both}
+use Rattle.span_sets.specs.LawProofs.Keeping.{in_targets, not_both}
 use Rattle.span_sets.proofs.stays.marks.Goals as goal
 
 null_is_none : (o : Option Span) → target_of o ≡ None → is_none o ≡ true

@@ -8,8 +8,8 @@ use Rattle.span_sets.specs.Candidates.{place_of, near_of, far_of, facing, AreCan
 use Rattle.span_sets.specs.declared.candidate.Candidate.{Candidate}
 use Rattle.span_sets.specs.declared.policy.Policy.{Policy}
 use Rattle.span_sets.specs.declared.policy.Policy.TheVariants.{LeftToRight}
-use Rattle.span_sets.proofs.Policies.{places_apart}
-use Rattle.span_sets.proofs.Keeping.{IsKept-marked, IsKept-unique}
+use Rattle.span_sets.specs.LawProofs.Policies.{places_apart}
+use Rattle.span_sets.specs.LawProofs.Keeping.{IsKept-marked, IsKept-unique}
 use Rattle.span_sets.proofs.stays.stays.Goals as goal
 
 -- spans begin before they end

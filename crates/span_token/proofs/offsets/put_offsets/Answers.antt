@@ -5,7 +5,7 @@ use Rattle.span_token.specs.Extents.{Extent, extent_of}
 use Rattle.span_token.specs.Tokens.{tokens_of}
 use Rattle.span_token.specs.Offsets.{AreOffsets}
 use Rattle.span_token.specs.declared.offsets.TokenBytes.{TokenBytes}
-use Rattle.span_token.proofs.TokenCounts.{apart}
+use Rattle.span_token.specs.TokenLaws.{apart}
 use Rattle.span_token.proofs.OffsetLemmas.{nth-is, AreOffsets-push, bytes_of_token}
 use Rattle.span_token.proofs.offsets.put_offsets.Goals as goal
 

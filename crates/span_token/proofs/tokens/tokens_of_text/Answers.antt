@@ -4,7 +4,7 @@ use Rattle.std.proofs.lemmas.Str.{chars-IsAscii}
 use Rattle.span_token.specs.declared.span.Span.{Span}
 use Rattle.span_token.specs.Extents.{extent_of}
 use Rattle.span_token.specs.Tokens.{AreTokens, tokens_of}
-use Rattle.span_token.proofs.TokenLaws.{tokens_of_are}
+use Rattle.span_token.specs.TokenLaws.{tokens_of_are}
 use Rattle.span_token.proofs.tokens.tokens_of_text.Goals as goal
 
 -- a list that is `tokens_of` a text has the tokens

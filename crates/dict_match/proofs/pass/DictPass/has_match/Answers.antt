@@ -5,7 +5,7 @@ use Rattle.span_token.specs.SourceTokens.{tokens_in}
 use Rattle.dict_match.specs.declared.dict_use.DictUse.{DictUse}
 use Rattle.dict_match.specs.Dictionaries.{IsMatch}
 use Rattle.dict_match.specs.DictMatches.{does_match}
-use Rattle.dict_match.proofs.MatchLaws.{does_match-Decides, told-as}
+use Rattle.dict_match.specs.LawProofs.MatchLaws.{does_match-Decides, told-as}
 use Rattle.dict_match.proofs.pass.DictPass.has_match.Goals as goal
 
 pub returns-clause-meaning : goal.returns-clause-meaning

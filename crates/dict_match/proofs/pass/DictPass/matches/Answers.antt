@@ -8,8 +8,8 @@ use Rattle.dict_match.specs.declared.walk.DictMatch.{DictMatch}
 use Rattle.dict_match.specs.Dictionaries.{AreMatches}
 use Rattle.dict_match.specs.Rows.{dict_and_extent, extents_for, extents_of_rows}
 use Rattle.dict_match.proofs.AppendLemmas.{rows-listed}
-use Rattle.dict_match.proofs.InsideLemmas.{each-inside}
-use Rattle.dict_match.proofs.MatchLaws.{dict_matches-are, dict_matches-only}
+use Rattle.dict_match.specs.LawProofs.InsideLemmas.{each-inside}
+use Rattle.dict_match.specs.LawProofs.MatchLaws.{dict_matches-are, dict_matches-only}
 use Rattle.dict_match.proofs.SplitLemmas.{empty-row, number-of_rows}
 use Rattle.dict_match.proofs.pass.DictPass.matches.Goals as goal
 

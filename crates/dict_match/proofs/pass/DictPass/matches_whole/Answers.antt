@@ -4,7 +4,7 @@ use Rattle.span_token.specs.SourceTokens.{tokens_in}
 use Rattle.dict_match.specs.declared.dict_use.DictUse.{DictUse}
 use Rattle.dict_match.specs.Dictionaries.{texts_of, AgreesWith}
 use Rattle.dict_match.specs.DictMatches.{does_agree}
-use Rattle.dict_match.proofs.MatchLaws.{does_agree-Decides, told-as}
+use Rattle.dict_match.specs.LawProofs.MatchLaws.{does_agree-Decides, told-as}
 use Rattle.dict_match.proofs.pass.DictPass.matches_whole.Goals as goal
 
 pub returns-clause-meaning : goal.returns-clause-meaning

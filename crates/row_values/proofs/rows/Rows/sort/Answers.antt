@@ -1,6 +1,6 @@
 use Rattle.std.proofs.Common.{◌≡◌, length, ap, sym, arith}
 use Rattle.std.proofs.lemmas.List.Sorted.{All-permutation}
-use Rattle.aql_base.proofs.Sorting.{sorted_from_answer}
+use Rattle.aql_base.specs.SortingLaws.{sorted_from_answer}
 use Rattle.row_values.specs.RowOrder.{row_cmp_total}
 use Rattle.row_values.specs.SortedRows.{sorted-unique, sorted-in_order}
 use Rattle.row_values.proofs.rows.Rows.sort.Goals as goal

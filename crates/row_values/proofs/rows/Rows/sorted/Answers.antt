@@ -1,5 +1,5 @@
 use Rattle.std.proofs.Common.{◌≡◌, sym, subst, ◌∙◌, Bor, map}
-use Rattle.aql_base.proofs.Sorting.{sorted_from_answer}
+use Rattle.aql_base.specs.SortingLaws.{sorted_from_answer}
 use Rattle.row_values.specs.declared.row.Row.{Row}
 use Rattle.aql_base.specs.Bags.{SameBag}
 use Rattle.row_values.specs.Rows.{IsInOrder, sorted}

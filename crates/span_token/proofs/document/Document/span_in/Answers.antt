@@ -1,5 +1,5 @@
 use Rattle.std.proofs.Common.{◌≡◌, ap₂, encode_utf8_all, slice_range, chars, ◌∙◌, ◌+◌, arith}
-use Rattle.span_token.proofs.ExtentLemmas.{same_extent}
+use Rattle.span_token.specs.ExtentLaws.{same_extent}
 use Rattle.span_token.proofs.LeadsLemmas.{leads-take-le}
 use Rattle.span_token.proofs.PlaceLemmas.{moved_place, moved_text}
 use Rattle.span_token.proofs.document.Document.span_in.Goals as goal

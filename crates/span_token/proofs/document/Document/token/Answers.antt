@@ -2,7 +2,7 @@ use Rattle.std.proofs.Common.{◌∙◌, slice_get, ap, arith, chars}
 use Rattle.span_token.specs.Extents.{extent_of}
 use Rattle.span_token.specs.Documents.{Doc, characters, len_of}
 use Rattle.span_token.specs.Tokens.{tokens_of}
-use Rattle.span_token.proofs.TokenLaws.{token_not_empty, token_in_text}
+use Rattle.span_token.specs.TokenLaws.{token_not_empty, token_in_text}
 use Rattle.span_token.proofs.TokenCounts.{listed_token, listed_apart}
 use Rattle.span_token.proofs.document.Document.token.Goals as goal
 
