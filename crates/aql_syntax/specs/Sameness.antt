@@ -26,7 +26,7 @@ abbrev mutual
 abbrev pub AreSame : Term → Term → Type 0
 AreSame a b = unplaced a ≡ unplaced b
 
--- the test that decides it; in no public clause
+-- the test that decides it, and that of two names
 abbrev pub is_same_name : Name → Name → Bool
 is_same_name a b = bytes_eq a.text b.text
 
