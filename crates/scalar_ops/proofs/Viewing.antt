@@ -1,5 +1,5 @@
 -- A call that is made of a `Vec` is seen through its elements.
-use Rattle.std.proofs.Common.{◌≡◌, ◌∙◌, ◌<◌, ◌≤◌, List, [], ◌∷◌, Bool, map, length, refl, ap, sym, arith}
+use Rattle.std.proofs.Common.{◌≡◌, ◌∙◌, ◌<◌, ◌≤◌, ℕ, List, [], ◌∷◌, Bool, map, length, refl, ap, sym, arith}
 use Rattle.std.specs.declared.vec.Vec.{Vec}
 use Rattle.std.specs.declared.alloc.Global.{Global}
 use mathlib.Core.Former.{Count}
@@ -8,10 +8,12 @@ use Rattle.row_values.specs.Datums.{Datum}
 use Rattle.scalar_ops.specs.declared.op.Op.{Op}
 use Rattle.scalar_ops.specs.declared.expr.Expr.{Expr, Row_of-Expr, end_of-Expr, more_of-Expr, items-the_row-Expr, items_hidden-the_row-Expr-0}
 use Rattle.scalar_ops.specs.declared.expr.Expr.TheVariants as expr
-use Rattle.scalar_ops.specs.Expressions.{Term, call, more, terms}
+use Rattle.scalar_ops.specs.Expressions.{Term, call, more, terms, does_read_below}
 use Rattle.scalar_ops.specs.Tables.{Lists}
 use Rattle.scalar_ops.specs.Values.{applied, value, values, holding}
-use Rattle.scalar_ops.specs.ValueLaws.{list_all-map}
+use Rattle.scalar_ops.specs.ReadingLaws.{does_read_below-terms}
+use Rattle.scalar_ops.specs.ValueLaws.{list_all-map as holding-map}
+use Rattle.std.proofs.lemmas.List.Folds.{list_all-map}
 use Rattle.scalar_ops.specs.Operators.{is_true}
 use Rattle.std.specs.List.{list_all}
 use Rattle.scalar_ops.specs.Views.{term_of, terms_of}
@@ -29,6 +31,16 @@ pub call_view : (op : Op) (args : Vec Expr Global) → term_of (expr.Call op arg
 call_view op args =
     let row = args_of (expr.Call op args) in
     ap (call op) (args_view row.0 row.1 ∙ ap (λ (xs : List Expr). terms (map term_of xs)) (items_hidden-the_row-Expr-0 args))
+
+-- a call reads below a width where each argument does
+pub read_below_call : (width : ℕ) (e : Expr) (op : Op) (args : Vec Expr Global) (found : Bool) → e ≡ expr.Call op args
+    → found ≡ list_all (λ e. does_read_below width (term_of e)) args.items → found ≡ does_read_below width (term_of e)
+read_below_call width e op args found is by_arguments =
+    by_arguments
+    ∙ (sym (list_all-map (does_read_below width) term_of args.items)
+    ∙ (sym (does_read_below-terms width (map term_of args.items))
+    ∙ (ap (does_read_below width) (sym (call_view op args))
+    ∙ ap (λ x. does_read_below width (term_of x)) (sym is))))
 
 module _ (lists : Lists) (doc : Doc) (row : List Datum) where
   -- the values of arguments, one by one
@@ -54,7 +66,7 @@ module _ (lists : Lists) (doc : Doc) (row : List Datum) where
   -- conditions of the code hold as their terms do
   pub holding_of_exprs : (exprs : List Expr) (found : Bool) → found ≡ list_all is_true (map (λ e. value lists doc row (term_of e)) exprs)
       → found ≡ holding lists doc (map term_of exprs) row
-  holding_of_exprs exprs found by_values = by_values ∙ (ap (list_all is_true) (sym (map_terms exprs)) ∙ list_all-map lists doc row (map term_of exprs))
+  holding_of_exprs exprs found by_values = by_values ∙ (ap (list_all is_true) (sym (map_terms exprs)) ∙ holding-map lists doc row (map term_of exprs))
 
 -- what holds of no values holds of the values of no arguments
 pub few_none : {X Y : Type 0} (P : List Y → Type 0) (f : X → Y) (xs : List X) → length xs < 1 → P [] → P (map f xs)

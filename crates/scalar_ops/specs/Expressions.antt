@@ -1,5 +1,6 @@
 -- Expressions as definitions see them, and the columns that they read.
-use Rattle.std.specs.Prelude.{ℕ, ◌<◌, ℤ, List, [], ◌∷◌, ◌++◌, All}
+use Rattle.std.specs.Prelude.{ℕ, ◌<◌, ◌≤◌, nat_lt, nat_le, ℤ, Bool, List, [], ◌∷◌, ◌++◌, All}
+use Rattle.std.specs.List.{list_all}
 use Rattle.scalar_ops.specs.declared.op.Op.{Op}
 
 mutual
@@ -40,6 +41,18 @@ abbrev mutual
 -- every column that it reads is below a width
 abbrev pub ReadsBelow : ℕ → Term → Type 0
 ReadsBelow width t = All (λ n. n < width) (columns_of t)
+
+-- whether every column that it reads is below a width
+abbrev pub does_read_below : ℕ → Term → Bool
+does_read_below width t = list_all (λ n. nat_lt n width) (columns_of t)
+
+-- no column that it reads is below a width
+abbrev pub ReadsFrom : ℕ → Term → Type 0
+ReadsFrom width t = All (λ n. width ≤ n) (columns_of t)
+
+-- whether no column that it reads is below a width
+abbrev pub does_read_from : ℕ → Term → Bool
+does_read_from width t = list_all (λ n. nat_le width n) (columns_of t)
 
 module _ (rename : ℕ → ℕ) where
   abbrev mutual

@@ -9,7 +9,7 @@ use Rattle.span_token.specs.Documents.{Doc, text_in, characters, len_of}
 use Rattle.span_token.specs.Tokens.{tokens_of}
 use Rattle.span_token.specs.Relations.{combined, gap_of}
 use Rattle.span_token.specs.Contexts.{left_of, right_of, left_of_tok, right_of_tok}
-use Rattle.row_values.specs.Datums.{Datum, int, text, span}
+use Rattle.row_values.specs.Datums.{Datum, null, int, text, span}
 use Rattle.row_values.specs.Rows.{value_in}
 use Rattle.scalar_ops.specs.declared.kind.Kind.{Kind}
 use Rattle.scalar_ops.specs.declared.kind.Kind.TheVariants.{Integer, Boolean, Text, Span, SpanOrText, Any}
@@ -22,9 +22,9 @@ use Rattle.scalar_ops.specs.Values.{applied, value, values}
 use Rattle.scalar_ops.specs.Kinds.{IsOfKind, IsOfKinds, do_suit, given, first_kind, all_boolean, kind_given, kind_of_call, kinds_with, kind_in, kinds_in}
 
 -- functions of spans and numbers give values of the kind of their values
-one_span : (kind : Kind) (f : Extent → Datum) → ((s : Extent) → IsOfKind kind (f s)) → (args : List Datum) → IsOfKind kind (of_span f args)
-one_span kind f each (span s ∷ []) = each s
-one_span kind f each args = tt
+one_span : (kind : Kind) (f : Extent → Datum) → IsOfKind kind null → ((s : Extent) → IsOfKind kind (f s)) → (args : List Datum) → IsOfKind kind (of_span f args)
+one_span kind f of_null each (span s ∷ []) = each s
+one_span kind f of_null each args = of_null
 
 two_spans : (args : List Datum) (f : Extent → Extent → Extent) → IsOfKind Span (of_spans (λ a b. span (f a b)) args)
 two_spans (span a ∷ span b ∷ []) f = tt
@@ -52,10 +52,10 @@ moved kind found wanted kinds x is = subst (λ k. IsOfKind k x) (given-is kind (
 module _ (lists : Lists) (doc : Doc) where
   -- what an operator gives is of the kind that it gives, whatever it is applied to
   applied-kind : (op : Op) (kinds : List Kind) (kind : Kind) (args : List Datum) → kind_given op kinds ≡ Some kind → IsOfKind kind (applied lists doc op args)
-  applied-kind GetBegin kinds kind args is = moved Integer kind (Span ∷ []) kinds (applied lists doc GetBegin args) is (one_span Integer (λ s. int (pos s.begin)) (λ s. tt) args)
-  applied-kind GetEnd kinds kind args is = moved Integer kind (Span ∷ []) kinds (applied lists doc GetEnd args) is (one_span Integer (λ s. int (pos s.end)) (λ s. tt) args)
-  applied-kind GetLength kinds kind args is = moved Integer kind (Span ∷ []) kinds (applied lists doc GetLength args) is (one_span Integer (λ s. int (pos (s.end - s.begin))) (λ s. tt) args)
-  applied-kind GetText kinds kind args is = moved Text kind (Span ∷ []) kinds (applied lists doc GetText args) is (one_span Text (λ s. text (text_in doc s)) (λ s. tt) args)
+  applied-kind GetBegin kinds kind args is = moved Integer kind (Span ∷ []) kinds (applied lists doc GetBegin args) is (one_span Integer (λ s. int (pos s.begin)) tt (λ s. tt) args)
+  applied-kind GetEnd kinds kind args is = moved Integer kind (Span ∷ []) kinds (applied lists doc GetEnd args) is (one_span Integer (λ s. int (pos s.end)) tt (λ s. tt) args)
+  applied-kind GetLength kinds kind args is = moved Integer kind (Span ∷ []) kinds (applied lists doc GetLength args) is (one_span Integer (λ s. int (pos (s.end - s.begin))) tt (λ s. tt) args)
+  applied-kind GetText kinds kind args is = moved Text kind (Span ∷ []) kinds (applied lists doc GetText args) is (one_span Text (λ s. text (text_in doc s)) tt (λ s. tt) args)
   applied-kind CombineSpans kinds kind args is = moved Span kind (Span ∷ Span ∷ []) kinds (applied lists doc CombineSpans args) is (two_spans args combined)
   applied-kind SpanBetween kinds kind args is = moved Span kind (Span ∷ Span ∷ []) kinds (applied lists doc SpanBetween args) is (two_spans args gap_of)
   applied-kind LeftContext kinds kind args is = moved Span kind (Span ∷ Integer ∷ []) kinds (applied lists doc LeftContext args) is (span_and_number args left_of)

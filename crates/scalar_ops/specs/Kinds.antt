@@ -9,8 +9,9 @@ use Rattle.scalar_ops.specs.declared.op.Op.TheVariants.{GetBegin, GetEnd, GetLen
 use Rattle.scalar_ops.specs.Expressions.{Term, column, number, string, call, Terms, none, more}
 use Rattle.scalar_ops.specs.Tables.{Lists}
 
--- a value is of a kind; Null is of each
+-- a value is of a kind; Null is of each but Boolean, since a predicate gives true or false
 abbrev pub IsOfKind : Kind → Datum → Type 0
+IsOfKind Boolean null = ⊥
 IsOfKind kind null = Unit {0}
 IsOfKind Integer (int n) = Unit {0}
 IsOfKind Number (int n) = Unit {0}

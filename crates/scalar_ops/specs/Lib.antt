@@ -7,7 +7,9 @@ pub mod Operators
 pub mod Values
 pub mod Kinds
 -- laws of them for the crates above
+pub mod ReadingLaws
 pub mod ValueLaws
+pub mod SideLaws
 pub mod KindLaws
 -- Words of private clauses: how models keep terms, and what a worker keeps
 pub mod Searchers

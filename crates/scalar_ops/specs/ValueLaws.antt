@@ -38,19 +38,24 @@ module _ (lists : Lists) (doc : Doc) where
           ap (λ v. v ∷ values lists doc (row ++ more_columns) ts) (value-left t (all-left (λ n. n < length row) (columns_of t) (columns_in ts) reads))
           ∙ ap (λ vs. value lists doc row t ∷ vs) (values-left ts (all-right (λ n. n < length row) (columns_of t) (columns_in ts) reads))
 
-  module _ (rename : ℕ → ℕ) (row other : List Datum) (same : (n : ℕ) → value_in other (rename n) ≡ value_in row n) where
-    mutual
-      -- where a row has under the new numbers what another has under the old ones, the expression is worth the same
-      pub value-renamed : (t : Term) → value lists doc other (renamed rename t) ≡ value lists doc row t
-      value-renamed (column n) = same n
-      value-renamed (number n) = refl
-      value-renamed (string t) = refl
-      value-renamed (call op args) = ap (applied lists doc op) (values-renamed args)
+  module _ (rename : ℕ → ℕ) (row other : List Datum) where
+    -- the row has under the new number what the other has under the old one
+    abbrev pub HasUnder : ℕ → Type 0
+    HasUnder n = value_in other (rename n) ≡ value_in row n
 
-      pub values-renamed : (ts : Terms) → values lists doc other (all_renamed rename ts) ≡ values lists doc row ts
-      values-renamed none = refl
-      values-renamed (more t ts) =
-          ap (λ v. v ∷ values lists doc other (all_renamed rename ts)) (value-renamed t) ∙ ap (λ vs. value lists doc row t ∷ vs) (values-renamed ts)
+    mutual
+      -- where a row has under the new numbers of the columns that are read what another has under the old ones, the expression is worth the same
+      pub value-renamed : (t : Term) → All HasUnder (columns_of t) → value lists doc other (renamed rename t) ≡ value lists doc row t
+      value-renamed (column n) same = same 0 0 (lit< tt)
+      value-renamed (number n) same = refl
+      value-renamed (string t) same = refl
+      value-renamed (call op args) same = ap (applied lists doc op) (values-renamed args same)
+
+      pub values-renamed : (ts : Terms) → All HasUnder (columns_in ts) → values lists doc other (all_renamed rename ts) ≡ values lists doc row ts
+      values-renamed none same = refl
+      values-renamed (more t ts) same =
+          ap (λ v. v ∷ values lists doc other (all_renamed rename ts)) (value-renamed t (all-left HasUnder (columns_of t) (columns_in ts) same))
+          ∙ ap (λ vs. value lists doc row t ∷ vs) (values-renamed ts (all-right HasUnder (columns_of t) (columns_in ts) same))
 
   module _ (row : List Datum) where
     -- the values of some terms, one by one

@@ -1,7 +1,7 @@
 /// What a value, a column or an argument is. The columns of a view are of the first four kinds, and so is
 /// what an expression gives; the others are what an argument is wanted or found to be.
 ///
-/// Null is of every kind.
+/// Null is of every kind but Boolean: a predicate gives true or false.
 ///
 /// Meaning: `IsOfKind` and `kind_in`, `specs/Kinds.antt`; docs/LANGUAGE.md, "Functions and predicates".
 #[derive(Clone, Copy, Debug, PartialEq, Eq)]

@@ -5,7 +5,7 @@ use crate::cases::{Arg, CONTEXTS, Case, OF_ONE_AND_MANY, OF_SPANS, OF_TWO, Want}
 use aql_regex_extract::compile_pattern;
 use dict_match::DictUse;
 use row_values::{Row, Value};
-use scalar_ops::{Expr, Op, Tables, Tools, eval, holds};
+use scalar_ops::{Expr, Op, Tables, Tools, eval, holds, reads_below};
 use span_token::{Document, OutOfMemory, OwnedList, OwnedText, Span};
 use std::alloc::Global;
 use std::test::Fail;
@@ -264,6 +264,22 @@ fn conditions_hold_where_each_is_true(rt: HostRuntime) -> Result<(), Fail> {
     for (number, want) in [(0, true), (1, true), (2, true), (3, false)] {
         let found = do_first_hold(alloc, &tables, &conds, number)?;
         assert_eq!(rt; found, want, "the first {number}");
+    }
+    Ok(())
+}
+
+#[test]
+fn what_is_read_is_looked_for_in_every_argument(rt: HostRuntime) -> Result<(), Fail> {
+    let alloc = rt.alloc();
+    let literals = call_of(alloc, Op::Equals, &[Arg::Text("met"), Arg::Int(1)])?;
+    assert!(rt; reads_below(&literals, 0));
+    let first = call_of(alloc, Op::Equals, &[Arg::Column(4), Arg::Column(3)])?;
+    let nested = Expr::Call {
+        op: Op::Not,
+        args: vec![in alloc; first]?,
+    };
+    for (width, want) in [(0, false), (4, false), (5, true), (6, true)] {
+        assert_eq!(rt; reads_below(&nested, width), want, "below {width}");
     }
     Ok(())
 }
