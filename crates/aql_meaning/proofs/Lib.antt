@@ -12,3 +12,7 @@ pub mod Combining
 pub mod Lending
 -- queries that are made of a list
 pub mod Queries
+-- rows that are searched for
+pub mod Searching
+-- rows that are moved
+pub mod Moving

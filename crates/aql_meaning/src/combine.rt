@@ -29,7 +29,7 @@ pub(crate) fn combined<'d>(
     let mut out = Rows::new(alloc, width);
     let lead = Row::empty(alloc);
     let conds = conds.as_slice();
-    push_combinations(alloc, tools, doc, &lead, sources, conds, &mut out)?;
+    push_combinations(alloc, tools, doc, lead, sources, conds, &mut out)?;
     Ok(out)
 }
 
@@ -53,27 +53,27 @@ fn push_combinations<'d>(
     alloc: Global,
     tools: &mut Tools<'_>,
     doc: &Document<'d>,
-    lead: &Row<'d>,
+    lead: Row<'d>,
     sources: &[&Rows<'d>],
     conds: &'d [Expr],
     into: &mut Rows<'d>,
 ) -> Result<(), OutOfMemory>
-    requires lead_in_document { All (IsOfDocument doc.now) lead.now }
+    requires lead_in_document { All (IsOfDocument doc.now) lead }
     requires in_document { All (λ source. RowsLieIn doc.now source.now.rows) sources.now }
-    requires width { length lead.now + sum_by (λ source. source.now.width) sources.now ≡ into.old.width }
-    ensures rows { OnOk result (into.new.rows ≡ into.old.rows ++ selected tools.old doc.now (map term_of conds.now) (map (λ row. lead.now ++ row) (products (map (λ source. source.now.rows) sources.now)))) }
+    requires width { length lead + sum_by (λ source. source.now.width) sources.now ≡ into.old.width }
+    ensures rows { OnOk result (into.new.rows ≡ into.old.rows ++ selected tools.old doc.now (map term_of conds.now) (map (λ row. lead.entry ++ row) (products (map (λ source. source.now.rows) sources.now)))) }
     ensures width { OnOk result (into.new.width ≡ into.old.width) }
     ensures lies { RowsLieIn doc.now into.old.rows → OnOk result (RowsLieIn doc.now into.new.rows) }
     ensures same { tools.new ≡ tools.old }
 {
     let Some((first, rest)) = sources.split_first() else {
-        push_if_holding(alloc, tools, doc, lead, conds, into)?;
+        push_if_holding(tools, doc, lead, conds, into)?;
         return Ok(());
     };
     let _width = first.width();
     for row in first.as_slice() {
         let longer = lead.followed_by(alloc, row.values())?;
-        push_combinations(alloc, tools, doc, &longer, rest, conds, into)?;
+        push_combinations(alloc, tools, doc, longer, rest, conds, into)?;
     }
     Ok(())
 }

@@ -17,46 +17,45 @@ use span_sets::consolidate;
 use span_token::{Document, OutOfMemory, Span};
 use std::alloc::Global;
 
-/// The rows on which every condition holds.
+/// The rows on which every condition holds. None is copied.
 pub(crate) fn selected<'d>(
     alloc: Global,
     tools: &mut Tools<'_>,
     doc: &Document<'d>,
-    rows: &Rows<'d>,
+    rows: Rows<'d>,
     conds: &'d Exprs,
 ) -> Result<Rows<'d>, OutOfMemory>
-    requires in_document { RowsLieIn doc.now rows.now.rows }
-    ensures rows { IfOk result (λ out. out.rows ≡ selected tools.old doc.now conds.now rows.now.rows) }
-    ensures width { IfOk result (λ out. out.width ≡ rows.now.width) }
+    requires in_document { RowsLieIn doc.now rows.rows }
+    ensures rows { IfOk result (λ out. out.rows ≡ selected tools.old doc.now conds.now rows.entry.rows) }
+    ensures width { IfOk result (λ out. out.width ≡ rows.entry.width) }
     ensures lies { IfOk result (λ out. RowsLieIn doc.now out.rows) }
     ensures same { tools.new ≡ tools.old }
 {
     let conds = conds.as_slice();
     let mut out = Rows::new(alloc, rows.width());
-    for row in rows.as_slice() {
-        push_if_holding(alloc, tools, doc, row, conds, &mut out)?;
+    for row in rows.into_vec() {
+        push_if_holding(tools, doc, row, conds, &mut out)?;
     }
     Ok(out)
 }
 
 /// Puts a row after the others where every condition holds on it.
 pub(crate) fn push_if_holding<'d>(
-    alloc: Global,
     tools: &mut Tools<'_>,
     doc: &Document<'d>,
-    row: &Row<'d>,
+    row: Row<'d>,
     conds: &'d [Expr],
     into: &mut Rows<'d>,
 ) -> Result<(), OutOfMemory>
-    requires in_document { All (IsOfDocument doc.now) row.now }
-    requires width { length row.now ≡ into.old.width }
-    ensures rows { OnOk result (into.new.rows ≡ into.old.rows ++ filter (holding tools.old doc.now (map term_of conds.now)) (row.now ∷ [])) }
+    requires in_document { All (IsOfDocument doc.now) row }
+    requires width { length row ≡ into.old.width }
+    ensures rows { OnOk result (into.new.rows ≡ into.old.rows ++ filter (holding tools.old doc.now (map term_of conds.now)) (row.entry ∷ [])) }
     ensures width { OnOk result (into.new.width ≡ into.old.width) }
     ensures lies { RowsLieIn doc.now into.old.rows → OnOk result (RowsLieIn doc.now into.new.rows) }
     ensures same { tools.new ≡ tools.old }
 {
-    if holds(tools, doc, row, conds)? {
-        into.push(row.copy(alloc)?)?;
+    if holds(tools, doc, &row, conds)? {
+        into.push(row)?;
     }
     Ok(())
 }

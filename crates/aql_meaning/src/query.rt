@@ -57,7 +57,7 @@ pub fn slow_query<'d>(
         TypedQuery::Minus(left, right) => {
             let left = slow_query(alloc, tools, doc, below, left)?;
             let right = slow_query(alloc, tools, doc, below, right)?;
-            let out = without(alloc, &left, &right)?;
+            let out = without(alloc, left, &right)?;
             Ok(out)
         }
     }
@@ -137,7 +137,7 @@ fn union<'d>(
     let mut out = slow_query(alloc, tools, doc, below, first)?;
     for side in rest {
         let rows = slow_query(alloc, tools, doc, below, side)?;
-        append_rows(alloc, &rows, &mut out)?;
+        append_rows(rows, &mut out)?;
     }
     Ok(out)
 }

@@ -85,7 +85,7 @@ pub(crate) fn extraction<'d>(
     ensures same { tools.new ≡ tools.old }
 {
     let found = extracted(alloc, tools, doc, rows.as_slice(), clauses)?;
-    let held = selected(alloc, tools, doc, &found, &clauses.conds)?;
+    let held = selected(alloc, tools, doc, found, &clauses.conds)?;
     let stay = kept(alloc, tools, doc, held, &clauses.consolidate)?;
     let out = cut(alloc, stay, &[], clauses.limit)?;
     Ok(out)

@@ -1,72 +1,56 @@
-ghost use Rattle.std.specs.Prelude.{◌≡◌, ◌++◌, ◌∷◌, [], not, length, All, OnOk, IfOk};
+ghost use Rattle.std.specs.Prelude.{◌≡◌, ◌++◌, not, map, OnOk, IfOk};
 ghost use Rattle.std.specs.List.{filter};
 ghost use Rattle.span_token.specs.Documents.{Doc};
-ghost use Rattle.row_values.specs.Datums.{IsOfDocument};
-ghost use Rattle.row_values.specs.Rows.{RowsLieIn, does_occur, minus};
+ghost use Rattle.row_values.specs.Rows.{IsInOrder, RowsLieIn, does_occur, minus};
 
-use row_values::{Row, Rows, compare_rows};
+use row_values::{Row, Rows};
 use span_token::OutOfMemory;
 use std::alloc::Global;
 
-/// Puts copies of the rows after the others.
-pub(crate) fn append_rows<'d>(
-    alloc: Global,
-    rows: &Rows<'d>,
-    into: &mut Rows<'d>,
-) -> Result<(), OutOfMemory>
-    requires width { rows.now.width ≡ into.old.width }
-    ensures { OnOk result (into.new ≡ record { width = into.old.width; rows = into.old.rows ++ rows.now.rows }) }
+/// Puts the rows after the others. None is copied.
+pub(crate) fn append_rows<'d>(rows: Rows<'d>, into: &mut Rows<'d>) -> Result<(), OutOfMemory>
+    requires width { rows.width ≡ into.old.width }
+    ensures { OnOk result (into.new ≡ record { width = into.old.width; rows = into.old.rows ++ rows.entry.rows }) }
 {
-    let _width = rows.width();
-    for row in rows.as_slice() {
-        into.push(row.copy(alloc)?)?;
+    for row in rows.into_vec() {
+        into.push(row)?;
     }
     Ok(())
 }
 
-/// Copies of the left rows that occur nowhere on the right.
+/// The left rows that occur nowhere on the right. The right ones are put in row order once, and each left
+/// one is searched for among them.
 #[tactic(auto, unfolding(row_values::specs::Rows::minus))]
 pub(crate) fn without<'d>(
     alloc: Global,
-    left: &Rows<'d>,
+    left: Rows<'d>,
     right: &Rows<'d>,
 ) -> Result<Rows<'d>, OutOfMemory>
-    ensures rows { IfOk result (λ out. out.rows ≡ minus left.now.rows right.now.rows) }
-    ensures width { IfOk result (λ out. out.width ≡ left.now.width) }
-    ensures lies { (doc : Doc) → RowsLieIn doc left.now.rows → IfOk result (λ out. RowsLieIn doc out.rows) }
+    ensures rows { IfOk result (λ out. out.rows ≡ minus left.entry.rows right.now.rows) }
+    ensures width { IfOk result (λ out. out.width ≡ left.entry.width) }
+    ensures lies { (doc : Doc) → RowsLieIn doc left.entry.rows → IfOk result (λ out. RowsLieIn doc out.rows) }
 {
-    let mut out = Rows::new(alloc, left.width());
-    for row in left.as_slice() {
-        push_if_absent(alloc, right.as_slice(), row, &mut out)?;
-    }
+    let sorted = right.sorted(alloc)?;
+    let out = absent_from(sorted.as_slice(), left);
     Ok(out)
 }
 
-/// Puts a copy of a row after the others where it occurs nowhere on the right.
-fn push_if_absent<'d>(
-    alloc: Global,
-    right: &[Row<'d>],
-    row: &Row<'d>,
-    into: &mut Rows<'d>,
-) -> Result<(), OutOfMemory>
-    requires width { length row.now ≡ into.old.width }
-    ensures rows { OnOk result (into.new.rows ≡ into.old.rows ++ filter (λ row. not (does_occur right.now row)) (row.now ∷ [])) }
-    ensures width { OnOk result (into.new.width ≡ into.old.width) }
-    ensures lies { (doc : Doc) → All (IsOfDocument doc) row.now → RowsLieIn doc into.old.rows → OnOk result (RowsLieIn doc into.new.rows) }
+/// The rows that occur nowhere among those that are in row order.
+fn absent_from<'d>(others: &[&Row<'d>], rows: Rows<'d>) -> Rows<'d>
+    requires in_order { IsInOrder (map (λ row. row.now) others.now) }
+    ensures rows { result.rows ≡ filter (λ row. not (does_occur (map (λ row. row.now) others.now) row)) rows.entry.rows }
+    ensures width { result.width ≡ rows.entry.width }
 {
-    if does_occur(right, row) {
-        return Ok(());
-    }
-    into.push(row.copy(alloc)?)?;
-    Ok(())
+    let width = rows.width();
+    let mut left = rows.into_vec();
+    left.retain(|row| !does_occur(others, row));
+    Rows::from_vec(width, left)
 }
 
-/// Whether a row is among rows.
-fn does_occur(rows: &[Row<'_>], row: &Row<'_>) -> bool
-    ensures { result ≡ does_occur rows.now row.now }
+/// Whether a row is among rows that are in row order.
+fn does_occur<'d>(rows: &[&Row<'d>], row: &Row<'d>) -> bool
+    requires in_order { IsInOrder (map (λ row. row.now) rows.now) }
+    ensures { result ≡ does_occur (map (λ row. row.now) rows.now) row.now }
 {
-    rows.iter()
-        .filter(|other| compare_rows(row, other).is_eq())
-        .count()
-        > 0
+    rows.binary_search(&row).is_ok()
 }

@@ -10,3 +10,5 @@ pub mod Programs
 pub mod Fitting
 -- laws of them for the crates above: nodes that are made of a list are seen through its elements
 pub mod Nodes
+-- laws of the meaning, for the crates above: it goes by the views that are named, and by bags alone
+pub mod MeaningLaws

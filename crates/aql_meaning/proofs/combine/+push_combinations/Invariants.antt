@@ -8,7 +8,7 @@ use Rattle.aql_meaning.proofs.combine.+push_combinations.Given as goal
 abbrev pub invariant-loop-row : goal.invariant-loop-row
 invariant-loop-row l = record {
   rows : l.into.rows ≡ l.fn.into.rows
-      ++ selected l.fn.tools l.doc (map term_of l.conds) (map (λ row. l.lead ++ row) (product (take l.row-index l.row-items) (products (map (λ source. source.now.rows) l.rest))));
+      ++ selected l.fn.tools l.doc (map term_of l.conds) (map (λ row. l.fn.lead ++ row) (product (take l.row-index l.row-items) (products (map (λ source. source.now.rows) l.rest))));
   width : l.into.width ≡ l.fn.into.width;
   lies : RowsLieIn l.doc l.fn.into.rows → RowsLieIn l.doc l.into.rows;
   same : l.tools ≡ l.fn.tools;

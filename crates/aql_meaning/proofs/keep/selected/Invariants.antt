@@ -1,4 +1,5 @@
-use Rattle.std.proofs.Common.{◌≡◌, take, map}
+use Rattle.std.proofs.Common.{◌≡◌, ◌++◌, map, length}
+use Rattle.std.specs.List.{All}
 use Rattle.row_values.specs.Rows.{RowsLieIn}
 use Rattle.scalar_ops.specs.Views.{term_of}
 use Rattle.aql_typed.specs.Meaning.{selected}
@@ -6,8 +7,10 @@ use Rattle.aql_meaning.proofs.keep.selected.Given as goal
 
 abbrev pub invariant-loop-row : goal.invariant-loop-row
 invariant-loop-row l = record {
-  rows : l.out.rows ≡ selected l.fn.tools l.doc (map term_of l.conds) (take l.row-index l.row-items);
-  width : l.out.width ≡ l.rows.width;
+  rows : l.out.rows ++ selected l.fn.tools l.doc (map term_of l.conds) l.row-iterator.rest.items ≡ selected l.fn.tools l.doc (map term_of l.conds) l.fn.rows.rows;
+  width : l.out.width ≡ l.fn.rows.width;
+  wide : All (λ row. length row ≡ l.out.width) l.row-iterator.rest.items;
   lies : RowsLieIn l.doc l.out.rows;
+  left_lie : RowsLieIn l.doc l.row-iterator.rest.items;
   same : l.tools ≡ l.fn.tools;
 }

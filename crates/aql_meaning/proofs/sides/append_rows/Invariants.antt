@@ -1,5 +1,10 @@
-use Rattle.std.proofs.Common.{◌≡◌, ◌++◌, take}
+use Rattle.std.proofs.Common.{◌≡◌, ◌++◌, length}
+use Rattle.std.specs.List.{All}
 use Rattle.aql_meaning.proofs.sides.append_rows.Given as goal
 
 abbrev pub invariant-loop-row : goal.invariant-loop-row
-invariant-loop-row l = l.into ≡ record { width = l.fn.into.width; rows = l.fn.into.rows ++ take l.row-index l.row-items }
+invariant-loop-row l = record {
+  rows : l.into.rows ++ l.row-iterator.rest.items ≡ l.fn.into.rows ++ l.fn.rows.rows;
+  width : l.into.width ≡ l.fn.into.width;
+  wide : All (λ row. length row ≡ l.into.width) l.row-iterator.rest.items;
+}
