@@ -4,14 +4,14 @@ use Rattle.std.proofs.Common.{◌≡◌, ◌∙◌, ℕ, ◌+◌, ◌<◌, List,
 use Rattle.std.specs.List.{filter_map, cons_option, flat_map, range_with_len}
 use Rattle.std.specs.Prelude.{option_to_list}
 use Rattle.aql_base.specs.Bags.{SameBag}
-use Rattle.aql_base.proofs.Bags.{SameBag-refl, SameBag-sym, SameBag-trans, SameBag-is, SameBag-append, SameBag-map, SameBag-filter, SameBag-flat_map}
+use Rattle.aql_base.specs.BagLaws.{SameBag-refl, SameBag-sym, SameBag-trans, SameBag-is, SameBag-append, SameBag-map, SameBag-filter, SameBag-flat_map}
 use Rattle.span_token.specs.Documents.{Doc}
 use Rattle.row_values.specs.Datums.{Datum, span_of}
 use Rattle.row_values.specs.Rows.{span_in, sorted, product, minus as without}
 use Rattle.row_values.specs.RowBags.{SameBag-product, SameBag-minus}
 use Rattle.span_sets.specs.Blocks.{is_neighbour, IsNeighbour}
-use Rattle.span_sets.proofs.Laws.{consolidated-SameBag, blocks_of-SameBag, is_neighbour-decides}
-use Rattle.group_agg.proofs.Laws.{grouped-SameBag, limited-SameBag}
+use Rattle.span_sets.specs.Laws.{consolidated-SameBag, blocks_of-SameBag, is_neighbour-decides}
+use Rattle.group_agg.specs.Laws.{grouped-SameBag, limited-SameBag}
 use Rattle.scalar_ops.specs.Expressions.{Term}
 use Rattle.scalar_ops.specs.Tables.{Lists}
 use Rattle.scalar_ops.specs.Values.{value, holding}
