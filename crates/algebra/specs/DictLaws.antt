@@ -6,7 +6,7 @@ use Rattle.std.specs.Prelude.{slice_get}
 use Rattle.std.proofs.lemmas.Bool.{cases_lt}
 use Rattle.std.proofs.lemmas.List.{append-nil, map-append, length-append, length-map, take_at, drop_at, get_or_at, append_assoc}
 use Rattle.std.proofs.lemmas.List.Elements.{filter-append, All-head, All-tail}
-use Rattle.aql_base.proofs.Counts.{told}
+use Rattle.aql_base.specs.CountLaws.{told}
 use Rattle.span_token.specs.Documents.{Doc as Document}
 use Rattle.span_token.specs.Extents.{Extent}
 use Rattle.row_values.specs.Datums.{Datum, null, int, datum_cmp}

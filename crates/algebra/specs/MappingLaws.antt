@@ -4,7 +4,7 @@ use Rattle.std.specs.Option.{IfSome}
 use Rattle.std.proofs.lemmas.Bool.{cases_lt}
 use Rattle.std.proofs.lemmas.List.{append-nil, length-append, get_or_append_left, get_or_at}
 use Rattle.aql_base.specs.Bags.{SameBag}
-use Rattle.aql_base.proofs.Bags.{SameBag-refl, SameBag-trans, SameBag-is}
+use Rattle.aql_base.specs.BagLaws.{SameBag-refl, SameBag-trans, SameBag-is}
 use Rattle.span_token.specs.Documents.{Doc}
 use Rattle.scalar_ops.specs.Tables.{Lists}
 use Rattle.aql_typed.specs.Meaning.{Rows}

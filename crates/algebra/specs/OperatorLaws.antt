@@ -2,15 +2,15 @@
 use Rattle.std.proofs.Common.{◌≡◌, ℕ, List, [], ◌∷◌, ◌++◌, refl, sym, ap, ◌∙◌, Option, Some, None, option_map, flat_map}
 use Rattle.std.specs.List.{cons_option, filter_map}
 use Rattle.aql_base.specs.Bags.{SameBag}
-use Rattle.aql_base.proofs.Bags.{SameBag-refl, SameBag-trans, SameBag-is, SameBag-append, SameBag-map, SameBag-filter, SameBag-flat_map}
+use Rattle.aql_base.specs.BagLaws.{SameBag-refl, SameBag-trans, SameBag-is, SameBag-append, SameBag-map, SameBag-filter, SameBag-flat_map}
 use Rattle.span_token.specs.Documents.{Doc as Document}
 use Rattle.row_values.specs.Datums.{span_of}
 use Rattle.row_values.specs.Rows.{span_in, sorted}
 use Rattle.row_values.specs.RowBags.{SameBag-product, SameBag-minus}
 use Rattle.span_joins.specs.JoinLaws.{joined_where-SameBag}
 use Rattle.span_sets.specs.Blocks.{IsNeighbour, is_neighbour}
-use Rattle.span_sets.proofs.Laws.{consolidated-SameBag, blocks_of-SameBag, is_neighbour-decides}
-use Rattle.group_agg.proofs.Laws.{grouped-SameBag, limited-SameBag}
+use Rattle.span_sets.specs.Laws.{consolidated-SameBag, blocks_of-SameBag, is_neighbour-decides}
+use Rattle.group_agg.specs.Laws.{grouped-SameBag, limited-SameBag}
 use Rattle.scalar_ops.specs.Tables.{Lists}
 use Rattle.scalar_ops.specs.Values.{value, holding}
 use Rattle.aql_typed.specs.Trees.{regex, token_regex}

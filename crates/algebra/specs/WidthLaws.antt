@@ -12,10 +12,10 @@ use Rattle.row_values.specs.RowBags.{width-product, All-minus}
 use Rattle.row_values.specs.SortedRows.{SameBag-sorted}
 use Rattle.span_joins.specs.JoinLaws.{width-joined_where}
 use Rattle.span_sets.specs.Blocks.{is_neighbour, blocks_of}
-use Rattle.span_sets.proofs.Laws.{All-consolidated}
+use Rattle.span_sets.specs.Laws.{All-consolidated}
 use Rattle.group_agg.specs.Groups.{grouped}
 use Rattle.group_agg.specs.Limits.{limited}
-use Rattle.group_agg.proofs.Laws.{width-grouped, All-limited}
+use Rattle.group_agg.specs.Laws.{width-grouped, All-limited}
 use Rattle.scalar_ops.specs.Tables.{Lists}
 use Rattle.scalar_ops.specs.Values.{value, holding}
 use Rattle.aql_typed.specs.Trees.{Extraction, regex, token_regex, dict}
