@@ -11,6 +11,7 @@ use row_values::Value;
 use span_token::{Document, OutOfMemory};
 
 /// `ContainsDict`
+#[inline(always)]
 pub(crate) fn has_entry(
     tools: &mut Tools<'_>,
     dict: u32,
@@ -28,6 +29,7 @@ pub(crate) fn has_entry(
 }
 
 /// `MatchesDict`
+#[inline(always)]
 pub(crate) fn is_entry(
     tools: &mut Tools<'_>,
     dict: u32,

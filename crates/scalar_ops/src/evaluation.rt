@@ -1,4 +1,4 @@
-ghost use Rattle.std.specs.Prelude.{◌≡◌, ◌∷◌, [], map, All, IfOk};
+ghost use Rattle.std.specs.Prelude.{◌≡◌, map, All, IfOk, OnOk};
 ghost use Rattle.std.specs.List.{list_all, list_any};
 ghost use Rattle.row_values.specs.Datums.{IsOfDocument, datum_of};
 ghost use Rattle.row_values.specs.Rows.{value_in};
@@ -19,8 +19,6 @@ use span_token::{Document, OutOfMemory};
 /// left and stop at the first that decides.
 ///
 /// Meaning: `value`, `specs/Values.antt`; docs/LANGUAGE.md, "Functions and predicates".
-#[cycle(eval)]
-#[tactic(auto, using(crate::proofs::Viewing::found_of_call))]
 pub fn eval<'d>(
     tools: &mut Tools<'_>,
     doc: &Document<'d>,
@@ -32,15 +30,9 @@ pub fn eval<'d>(
     ensures lies { IfOk result (λ found. IsOfDocument doc.now (datum_of found)) }
     ensures same { tools.new ≡ tools.old }
 {
-    match expr {
-        Expr::Column(n) => Ok(in_column(row, *n)),
-        Expr::Int(n) => Ok(Value::Int(*n)),
-        Expr::Str(text) => Ok(Value::Text(text.as_str())),
-        Expr::Call { op, args } => {
-            let found = called(tools, doc, row, *op, args.as_slice())?;
-            Ok(found)
-        }
-    }
+    let mut found = Value::Null;
+    evaluate(tools, doc, row, expr, &mut found)?;
+    Ok(found)
 }
 
 /// Whether every condition is true for a row and its document; none is looked at behind one that isn't.
@@ -60,47 +52,97 @@ pub fn holds<'d>(
     Ok(found)
 }
 
-/// What an operator gives for a row, with these arguments.
+/// Puts into `into` what an expression is worth.
+///
+/// A value is written where it stays, and a column or a literal is read without a call.
 #[cycle(eval)]
-fn called<'d>(
+#[inline(always)]
+#[tactic(auto, using(crate::proofs::Viewing::found_of_call))]
+fn evaluate<'d>(
+    tools: &mut Tools<'_>,
+    doc: &Document<'d>,
+    row: &Row<'d>,
+    expr: &'d Expr,
+    into: &mut Value<'d>,
+) -> Result<(), OutOfMemory>
+    requires in_document { All (IsOfDocument doc.now) row.now }
+    ensures value { OnOk result (datum_of into.new ≡ value tools.old doc.now row.now (term_of expr.now)) }
+    ensures lies { OnOk result (IsOfDocument doc.now (datum_of into.new)) }
+    ensures same { tools.new ≡ tools.old }
+{
+    match expr {
+        Expr::Column(n) => {
+            *into = in_column(row, *n);
+            Ok(())
+        }
+        Expr::Int(n) => {
+            *into = Value::Int(*n);
+            Ok(())
+        }
+        Expr::Str(text) => {
+            *into = Value::Text(text.as_str());
+            Ok(())
+        }
+        Expr::Call { op, args } => {
+            call(tools, doc, row, *op, args.as_slice(), into)?;
+            Ok(())
+        }
+    }
+}
+
+/// Puts into `into` what an operator gives for a row, with these arguments.
+#[cycle(eval)]
+fn call<'d>(
     tools: &mut Tools<'_>,
     doc: &Document<'d>,
     row: &Row<'d>,
     op: Op,
     args: &'d [Expr],
-) -> Result<Value<'d>, OutOfMemory>
+    into: &mut Value<'d>,
+) -> Result<(), OutOfMemory>
     requires in_document { All (IsOfDocument doc.now) row.now }
-    ensures value { IfOk result (λ found. datum_of found ≡ applied tools.old doc.now op (map (λ arg. value tools.old doc.now row.now (term_of arg)) args.now)) }
-    ensures lies { IfOk result (λ found. IsOfDocument doc.now (datum_of found)) }
+    ensures value { OnOk result (datum_of into.new ≡ applied tools.old doc.now op (map (λ arg. value tools.old doc.now row.now (term_of arg)) args.now)) }
+    ensures lies { OnOk result (IsOfDocument doc.now (datum_of into.new)) }
     ensures same { tools.new ≡ tools.old }
 {
     match op {
-        Op::And => Ok(Value::Bool(all_of_some(tools, doc, row, args)?)),
-        Op::Or => Ok(Value::Bool(some_holds(tools, doc, row, args)?)),
+        Op::And => {
+            *into = Value::Bool(all_of_some(tools, doc, row, args)?);
+            Ok(())
+        }
+        Op::Or => {
+            *into = Value::Bool(some_holds(tools, doc, row, args)?);
+            Ok(())
+        }
         _ => match args {
             [a] => {
-                let a = eval(tools, doc, row, a)?;
-                let found = applied_to_one(tools, doc, op, a)?;
-                Ok(found)
+                evaluate(tools, doc, row, a, into)?;
+                *into = applied_to_one(tools, doc, op, into)?;
+                Ok(())
             }
             [a, b] => {
-                let a = eval(tools, doc, row, a)?;
-                let b = eval(tools, doc, row, b)?;
-                Ok(applied_to_two(tools, doc, op, a, b))
+                evaluate(tools, doc, row, a, into)?;
+                let mut second = Value::Null;
+                evaluate(tools, doc, row, b, &mut second)?;
+                *into = applied_to_two(tools, doc, op, into, &second);
+                Ok(())
             }
-            _ => Ok(without_operands(op)),
+            _ => {
+                *into = without_operands(op);
+                Ok(())
+            }
         },
     }
 }
 
 /// The value in a column, Null where the row has no such column.
+#[inline(always)]
 fn in_column<'d>(row: &Row<'d>, column: u32) -> Value<'d>
     ensures { datum_of result ≡ value_in row.now column }
 {
-    if column < row.len() {
-        row.get(column)
-    } else {
-        Value::Null
+    match row.values().get(column as usize) {
+        Some(value) => *value,
+        None => Value::Null,
     }
 }
 
@@ -136,7 +178,8 @@ fn all_hold<'d>(
     ensures same { tools.new ≡ tools.old }
 {
     for expr in exprs {
-        let found = eval(tools, doc, row, expr)?;
+        let mut found = Value::Null;
+        evaluate(tools, doc, row, expr, &mut found)?;
         if !is_true(found) {
             return Ok(false);
         }
@@ -157,7 +200,8 @@ fn some_holds<'d>(
     ensures same { tools.new ≡ tools.old }
 {
     for expr in exprs {
-        let found = eval(tools, doc, row, expr)?;
+        let mut found = Value::Null;
+        evaluate(tools, doc, row, expr, &mut found)?;
         if is_true(found) {
             return Ok(true);
         }

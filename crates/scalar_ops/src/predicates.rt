@@ -6,10 +6,11 @@ ghost use Rattle.span_token.specs.Relations.{does_follow, does_follow_tok, do_ov
 ghost use Rattle.row_values.specs.Datums.{IsOfDocument, datum_of, datum_cmp};
 ghost use Rattle.scalar_ops.specs.Operators.{holds_of_spans, holds_of_numbers, holds_of_values, holds_of_truth, is_true};
 
-use row_values::{Value, compare_values};
+use row_values::Value;
 use span_token::{Document, contains, follows, follows_tok, overlaps};
 
 /// Whether a value is true.
+#[inline(always)]
 pub(crate) fn is_true(value: Value<'_>) -> bool
     ensures { result ≡ is_true (datum_of value.entry) }
 {
@@ -17,6 +18,7 @@ pub(crate) fn is_true(value: Value<'_>) -> bool
 }
 
 /// `Not`: false of what is no truth value.
+#[inline(always)]
 pub(crate) fn is_false(value: Value<'_>) -> bool
     ensures { result ≡ holds_of_truth not (datum_of value.entry ∷ []) }
 {
@@ -24,6 +26,7 @@ pub(crate) fn is_false(value: Value<'_>) -> bool
 }
 
 /// `Follows`
+#[inline(always)]
 pub(crate) fn does_follow(a: Value<'_>, b: Value<'_>, min: i64, max: i64) -> bool
     ensures { result ≡ holds_of_spans (λ a b. does_follow a b min max) (datum_of a.entry ∷ datum_of b.entry ∷ []) }
 {
@@ -34,6 +37,7 @@ pub(crate) fn does_follow(a: Value<'_>, b: Value<'_>, min: i64, max: i64) -> boo
 }
 
 /// `FollowsTok`
+#[inline(always)]
 pub(crate) fn does_follow_tok(
     doc: &Document<'_>,
     a: Value<'_>,
@@ -52,6 +56,7 @@ pub(crate) fn does_follow_tok(
 }
 
 /// `Overlaps`
+#[inline(always)]
 pub(crate) fn do_overlap(a: Value<'_>, b: Value<'_>) -> bool
     ensures { result ≡ holds_of_spans do_overlap (datum_of a.entry ∷ datum_of b.entry ∷ []) }
 {
@@ -62,6 +67,7 @@ pub(crate) fn do_overlap(a: Value<'_>, b: Value<'_>) -> bool
 }
 
 /// `Contains`
+#[inline(always)]
 pub(crate) fn does_contain(a: Value<'_>, b: Value<'_>) -> bool
     ensures { result ≡ holds_of_spans does_contain (datum_of a.entry ∷ datum_of b.entry ∷ []) }
 {
@@ -72,13 +78,15 @@ pub(crate) fn does_contain(a: Value<'_>, b: Value<'_>) -> bool
 }
 
 /// `Equals`: Null equals nothing.
-pub(crate) fn are_equal(a: Value<'_>, b: Value<'_>) -> bool
-    ensures { result ≡ holds_of_values (eq_by_cmp datum_cmp) (datum_of a.entry ∷ datum_of b.entry ∷ []) }
+#[inline(always)]
+pub(crate) fn are_equal(a: &Value<'_>, b: &Value<'_>) -> bool
+    ensures { result ≡ holds_of_values (eq_by_cmp datum_cmp) (datum_of a.now ∷ datum_of b.now ∷ []) }
 {
-    !a.is_null() && !b.is_null() && compare_values(a, b).is_eq()
+    !a.is_null() && !b.is_null() && a.cmp(b).is_eq()
 }
 
 /// `GreaterThan`
+#[inline(always)]
 pub(crate) fn is_greater(a: Value<'_>, b: Value<'_>) -> bool
     ensures { result ≡ holds_of_numbers (λ m n. int_lt n m) (datum_of a.entry ∷ datum_of b.entry ∷ []) }
 {

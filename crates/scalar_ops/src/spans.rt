@@ -12,6 +12,7 @@ use span_token::{
 };
 
 /// `GetBegin`
+#[inline(always)]
 pub(crate) fn begin_of<'d>(value: Value<'d>) -> Value<'d>
     ensures value { datum_of result ≡ of_span (λ s. int (pos s.begin)) (datum_of value.entry ∷ []) }
     ensures lies { (document : Doc) → IsOfDocument document (datum_of result) }
@@ -23,6 +24,7 @@ pub(crate) fn begin_of<'d>(value: Value<'d>) -> Value<'d>
 }
 
 /// `GetEnd`
+#[inline(always)]
 pub(crate) fn end_of<'d>(value: Value<'d>) -> Value<'d>
     ensures value { datum_of result ≡ of_span (λ s. int (pos s.end)) (datum_of value.entry ∷ []) }
     ensures lies { (document : Doc) → IsOfDocument document (datum_of result) }
@@ -34,6 +36,7 @@ pub(crate) fn end_of<'d>(value: Value<'d>) -> Value<'d>
 }
 
 /// `GetLength`
+#[inline(always)]
 pub(crate) fn length_of<'d>(value: Value<'d>) -> Value<'d>
     ensures value { datum_of result ≡ of_span (λ s. int (pos (s.end - s.begin))) (datum_of value.entry ∷ []) }
     ensures lies { (document : Doc) → IsOfDocument document (datum_of result) }
@@ -45,6 +48,7 @@ pub(crate) fn length_of<'d>(value: Value<'d>) -> Value<'d>
 }
 
 /// `GetText`
+#[inline(always)]
 pub(crate) fn text_of<'d>(doc: &Document<'d>, value: Value<'d>) -> Value<'d>
     requires in_document { IsOfDocument doc.now (datum_of value) }
     ensures value { datum_of result ≡ of_span (λ s. text (text_in doc.now s)) (datum_of value.entry ∷ []) }
@@ -57,6 +61,7 @@ pub(crate) fn text_of<'d>(doc: &Document<'d>, value: Value<'d>) -> Value<'d>
 }
 
 /// `LeftContext`
+#[inline(always)]
 pub(crate) fn left_of<'d>(doc: &Document<'d>, value: Value<'d>, number: Value<'d>) -> Value<'d>
     requires in_document { IsOfDocument doc.now (datum_of value) }
     ensures value { datum_of result ≡ of_span_and_number (λ s n. span (left_of s n)) (datum_of value.entry ∷ datum_of number.entry ∷ []) }
@@ -69,6 +74,7 @@ pub(crate) fn left_of<'d>(doc: &Document<'d>, value: Value<'d>, number: Value<'d
 }
 
 /// `RightContext`
+#[inline(always)]
 pub(crate) fn right_of<'d>(doc: &Document<'d>, value: Value<'d>, number: Value<'d>) -> Value<'d>
     requires in_document { IsOfDocument doc.now (datum_of value) }
     ensures value { datum_of result ≡ of_span_and_number (λ s n. span (right_of (len_of doc.now) s n)) (datum_of value.entry ∷ datum_of number.entry ∷ []) }
@@ -81,6 +87,7 @@ pub(crate) fn right_of<'d>(doc: &Document<'d>, value: Value<'d>, number: Value<'
 }
 
 /// `LeftContextTok`
+#[inline(always)]
 pub(crate) fn left_of_tok<'d>(doc: &Document<'d>, value: Value<'d>, number: Value<'d>) -> Value<'d>
     requires in_document { IsOfDocument doc.now (datum_of value) }
     ensures value { datum_of result ≡ of_span_and_number (λ s n. span (left_of_tok (tokens_of (characters doc.now)) s n)) (datum_of value.entry ∷ datum_of number.entry ∷ []) }
@@ -93,6 +100,7 @@ pub(crate) fn left_of_tok<'d>(doc: &Document<'d>, value: Value<'d>, number: Valu
 }
 
 /// `RightContextTok`
+#[inline(always)]
 pub(crate) fn right_of_tok<'d>(doc: &Document<'d>, value: Value<'d>, number: Value<'d>) -> Value<'d>
     requires in_document { IsOfDocument doc.now (datum_of value) }
     ensures value { datum_of result ≡ of_span_and_number (λ s n. span (right_of_tok (tokens_of (characters doc.now)) s n)) (datum_of value.entry ∷ datum_of number.entry ∷ []) }
@@ -105,6 +113,7 @@ pub(crate) fn right_of_tok<'d>(doc: &Document<'d>, value: Value<'d>, number: Val
 }
 
 /// `CombineSpans`
+#[inline(always)]
 pub(crate) fn combined<'d>(doc: &Document<'d>, a: Value<'d>, b: Value<'d>) -> Value<'d>
     requires first_in_document { IsOfDocument doc.now (datum_of a) }
     requires second_in_document { IsOfDocument doc.now (datum_of b) }
@@ -118,6 +127,7 @@ pub(crate) fn combined<'d>(doc: &Document<'d>, a: Value<'d>, b: Value<'d>) -> Va
 }
 
 /// `SpanBetween`
+#[inline(always)]
 pub(crate) fn between_of<'d>(doc: &Document<'d>, a: Value<'d>, b: Value<'d>) -> Value<'d>
     requires first_in_document { IsOfDocument doc.now (datum_of a) }
     requires second_in_document { IsOfDocument doc.now (datum_of b) }

@@ -10,6 +10,7 @@ use row_values::Value;
 use span_token::{Document, OutOfMemory};
 
 /// The text of a value: its own, or the characters of a span.
+#[inline(always)]
 fn text_of<'d>(doc: &Document<'d>, value: Value<'d>) -> Option<&'d str>
     requires in_document { IsOfDocument doc.now (datum_of value) }
     ensures { (f : List ℕ → Bool) → MatchOption result (holds_of_text doc.now f (datum_of value.entry ∷ []) ≡ false) (λ text. holds_of_text doc.now f (datum_of value.entry ∷ []) ≡ f text.now) }
@@ -22,6 +23,7 @@ fn text_of<'d>(doc: &Document<'d>, value: Value<'d>) -> Option<&'d str>
 }
 
 /// `ContainsRegex`
+#[inline(always)]
 pub(crate) fn has_match<'d>(
     tools: &mut Tools<'_>,
     pattern: u32,
@@ -39,6 +41,7 @@ pub(crate) fn has_match<'d>(
 }
 
 /// `MatchesRegex`
+#[inline(always)]
 pub(crate) fn matches_whole<'d>(
     tools: &mut Tools<'_>,
     pattern: u32,

@@ -119,7 +119,7 @@ pub(crate) static CONTEXTS: [Case; 23] = [
 ];
 
 /// Predicates of two values.
-pub(crate) static OF_TWO: [Case; 31] = [
+pub(crate) static OF_TWO: [Case; 33] = [
     (
         Op::Follows { min: 1, max: 1 },
         &[ANN, MET],
@@ -180,6 +180,8 @@ pub(crate) static OF_TWO: [Case; 31] = [
     (Op::Overlaps, &[AT_4, MET], Want::Bool(false)),
     (Op::Overlaps, &[AT_4, AT_4], Want::Bool(true)),
     (Op::Overlaps, &[NULL, NULL], Want::Bool(false)),
+    (Op::Overlaps, &[NULL, MET], Want::Bool(false)),
+    (Op::Overlaps, &[MET, NULL], Want::Bool(false)),
     (Op::Contains, &[MET, AT_7], Want::Bool(true)),
     (Op::Contains, &[AT_7, MET], Want::Bool(false)),
     (Op::Contains, &[NULL, MET], Want::Bool(false)),
