@@ -16,3 +16,5 @@ pub mod Queries
 pub mod Searching
 -- rows that are moved
 pub mod Moving
+-- conditions that are tried early
+pub mod Nesting

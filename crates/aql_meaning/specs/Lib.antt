@@ -7,3 +7,5 @@ pub mod Outputs
 pub mod Finds
 -- what sources mean, with their widths
 pub mod Sources
+-- nested loops, and the conditions that are tried before each
+pub mod Nests

@@ -1,10 +1,9 @@
-ghost use Rattle.std.specs.Prelude.{◌≡◌, ◌<◌, ◌∷◌, [], ◌++◌, OnOk, IfOk, map, length, option_map, vec_len, All};
-ghost use Rattle.std.specs.List.{filter};
+ghost use Rattle.std.specs.Prelude.{◌≡◌, ◌<◌, ◌∷◌, [], ◌++◌, OnOk, IfOk, map, length, option_map, vec_len, cond, All};
 ghost use Rattle.span_token.specs.Documents.{Doc};
 ghost use Rattle.row_values.specs.Datums.{IsOfDocument, span_of};
 ghost use Rattle.row_values.specs.Rows.{RowsLieIn};
 ghost use Rattle.span_sets.specs.Consolidation.{target_of};
-ghost use Rattle.scalar_ops.specs.Values.{value, holding};
+ghost use Rattle.scalar_ops.specs.Values.{value};
 ghost use Rattle.scalar_ops.specs.Views.{term_of};
 ghost use Rattle.aql_typed.specs.Meaning.{selected, kept, cut};
 ghost use Rattle.aql_typed.specs.Views.{consolidation_of};
@@ -34,27 +33,20 @@ pub(crate) fn selected<'d>(
     let conds = conds.as_slice();
     let mut out = Rows::new(alloc, rows.width());
     for row in rows.into_vec() {
-        push_if_holding(tools, doc, row, conds, &mut out)?;
+        let stays = holds(tools, doc, &row, conds)?;
+        push_if(stays, row, &mut out)?;
     }
     Ok(out)
 }
 
-/// Puts a row after the others where every condition holds on it.
-pub(crate) fn push_if_holding<'d>(
-    tools: &mut Tools<'_>,
-    doc: &Document<'d>,
-    row: Row<'d>,
-    conds: &'d [Expr],
-    into: &mut Rows<'d>,
-) -> Result<(), OutOfMemory>
-    requires in_document { All (IsOfDocument doc.now) row }
+/// Puts the row after the others where it stays.
+pub(crate) fn push_if<'d>(stays: bool, row: Row<'d>, into: &mut Rows<'d>) -> Result<(), OutOfMemory>
     requires width { length row ≡ into.old.width }
-    ensures rows { OnOk result (into.new.rows ≡ into.old.rows ++ filter (holding tools.old doc.now (map term_of conds.now)) (row.entry ∷ [])) }
+    ensures rows { OnOk result (into.new.rows ≡ into.old.rows ++ cond stays (row.entry ∷ []) []) }
     ensures width { OnOk result (into.new.width ≡ into.old.width) }
-    ensures lies { RowsLieIn doc.now into.old.rows → OnOk result (RowsLieIn doc.now into.new.rows) }
-    ensures same { tools.new ≡ tools.old }
+    ensures lies { (doc : Doc) → All (IsOfDocument doc) row.entry → RowsLieIn doc into.old.rows → OnOk result (RowsLieIn doc into.new.rows) }
 {
-    if holds(tools, doc, &row, conds)? {
+    if stays {
         into.push(row)?;
     }
     Ok(())

@@ -11,6 +11,7 @@ mod extract;
 mod find;
 mod keep;
 mod meanings;
+mod nest;
 mod project;
 mod query;
 mod select;
