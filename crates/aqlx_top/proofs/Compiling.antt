@@ -24,6 +24,7 @@ use Rattle.aqlx_top.specs.ProgramFaults.{HasCause, HasOnlyFault, HasTooMany, IsT
 use Rattle.aqlx_top.specs.ProgramTexts.{ReadsAs, IsWithinLimits, HoldsStatements}
 use Rattle.aqlx_top.specs.Programs.{IsCompiledFrom, IsBuiltFrom, IsRefusedFor}
 use Rattle.view_graph.specs.Answers.{IsNameDecided}
+use Rattle.aqlx_top.proofs.Planning.{lowered_means}
 use Rattle.aqlx_top.proofs.ProgramLaws.{only_many, only_deep, only_syntax, only_name, only_type, holds_program}
 
 -- the kinds of tokens are seen in two ways
@@ -65,7 +66,9 @@ module _ (text : List ℕ) (toks : List Tok) (decided : IsDecided text) (reads :
       module _ (names : IsNameDecided trees) where
         pub built_from : (compiled : Compiled) → IsBuiltFrom trees compiled → IsCompiledFrom text compiled
         built_from compiled built = record {
-          holds = holds_program text trees built.order compiled.typed decided held one names built.resolved built.is_typed;
+          program = program_of built.typed;
+          holds = holds_program text trees built.order built.typed decided held one names built.resolved built.is_typed;
+          means = lowered_means built.typed compiled.plan built.lowered;
           outputs = built.outputs;
         }
 

@@ -1,5 +1,6 @@
 -- From the text of a program file to the file, and to the words that name it.
-use Rattle.std.proofs.Common.{◌≡◌, ℕ, ◌+◌, ◌<◌, List, length, take, ap, ap₂, subst, ◌∙◌, refl, arith, Option, Some, None, Result, Ok, Err, IfSome, IfOk, OnErr, inl, inr, ◌⊎◌}
+use Rattle.std.specs.List.{flat_map}
+use Rattle.std.proofs.Common.{◌≡◌, ℕ, ◌+◌, ◌<◌, List, [], ◌∷◌, ◌++◌, length, take, ap, ap₂, subst, ◌∙◌, refl, arith, Option, Some, None, Result, Ok, Err, IfSome, IfOk, OnErr, inl, inr, ◌⊎◌}
 use Rattle.std.proofs.lemmas.List.{take_all, length-take}
 use Rattle.std.proofs.lemmas.Bool.{cases_lt}
 use Rattle.aql_io.specs.Bytes.{Names}
@@ -11,8 +12,11 @@ use Rattle.aqlx_top.specs.declared.status.Status.TheVariants.{Done, Program as R
 use Rattle.aqlx_top.specs.declared.status.ProgramFault.{ProgramFault}
 use Rattle.aqlx_top.specs.declared.status.ProgramFault.TheVariants.{Large}
 use Rattle.aqlx_top.specs.declared.status.What.TheVariants.{Bytes}
-use Rattle.aqlx_top.specs.Devices.{FilesEnds, SourceEnds, SinkEnds, FilesNeverFailed}
-use Rattle.aqlx_top.specs.Endings.{InPart}
+use Rattle.aqlx_top.specs.Devices.{FilesEnds, SourceEnds, SinkEnds, FilesNeverFailed, HasSent}
+use Rattle.corpus_json.specs.Documents.{documents}
+use Rattle.corpus_json.specs.Lines.{lines_of}
+use Rattle.aqlx_top.specs.Endings.{written_for, Came, InPart}
+use Rattle.aqlx_top.specs.Taken.{is_at_end}
 use Rattle.aqlx_top.specs.Outcome.{IsReadAs, IsCalledFor, WroteFront, HasCauseOf, call_of}
 use Rattle.aqlx_top.specs.ProgramFaults.{HasOnlyFault, AreOneFault, HoldsProgram}
 use Rattle.aqlx_top.specs.ProgramFile.{IsFrontOf}
@@ -22,18 +26,56 @@ use Rattle.aqlx_top.specs.Stages.{RanText, IsFileRunTo, IsFileInPart, IsTextRunT
 use Rattle.aqlx_top.specs.Words.{IsRun}
 use Rattle.aqlx_top.proofs.ProgramLaws.{only_large}
 
+-- ---- pieces that are alike for each document
+
+written_alike : (piece other : Doc → List ℕ) → ((doc : Doc) → piece doc ≡ other doc) → (lines : List (List ℕ)) → written_for piece lines ≡ written_for other lines
+written_alike piece other alike lines = each (documents lines)
+  where
+    each : (docs : List Doc) → flat_map piece docs ≡ flat_map other docs
+    each [] = refl
+    each (doc ∷ docs) = ap₂ (λ (first rest : List ℕ). first ++ rest) (alike doc) (each docs)
+
+part_alike : (piece other : Doc → List ℕ) → ((doc : Doc) → piece doc ≡ other doc) → (corpus : SourceEnds) (before now : Option (List ℕ)) → InPart piece corpus before now → InPart other corpus before now
+part_alike piece other alike corpus before now part = record {
+  given = part.given;
+  how = part.how;
+  sent = part.sent;
+  rest = part.rest;
+  taken = part.taken;
+  gained = part.gained;
+  prefix = part.prefix ∙ written_alike piece other alike (lines_of (is_at_end part.how) part.given);
+}
+
+came_alike : (piece other : Doc → List ℕ) → ((doc : Doc) → piece doc ≡ other doc) → (corpus : SourceEnds) (out : SinkEnds) (status : Status) → Came piece corpus out status → Came other corpus out status
+came_alike piece other alike corpus out status came = record {
+  given = came.given;
+  how = came.how;
+  taken = came.taken;
+  status_is = came.status_is;
+  read = came.read;
+  wrote = subst (HasSent out) (written_alike piece other alike (lines_of (is_at_end came.how) came.given)) came.wrote;
+}
+
+run_alike : (piece other : Doc → List ℕ) → ((doc : Doc) → piece doc ≡ other doc) → (corpus : SourceEnds) (out : SinkEnds) (status : Status) → IsRunTo piece corpus out status → IsRunTo other corpus out status
+run_alike piece other alike corpus out WriteFault run = (run.0, part_alike piece other alike corpus out.held_before out.held_after run.1)
+run_alike piece other alike corpus out Done run = came_alike piece other alike corpus out Done run
+run_alike piece other alike corpus out ReadFault run = came_alike piece other alike corpus out ReadFault run
+run_alike piece other alike corpus out Usage run = came_alike piece other alike corpus out Usage run
+run_alike piece other alike corpus out (Refused fault) run = came_alike piece other alike corpus out (Refused fault) run
+run_alike piece other alike corpus out (Corpus fault) run = came_alike piece other alike corpus out (Corpus fault) run
+
 -- a program text that ran
 pub text_run : (text : List ℕ) (program : Program) (piece : Doc → List ℕ) (corpus : SourceEnds) (out : SinkEnds) (r : Result Status OutOfMemory)
-    → HoldsProgram text program → piece ≡ line_of program → IfOk r (IsRunTo piece corpus out) → IfOk r (IsTextRunTo text corpus out)
+    → HoldsProgram text program → ((doc : Doc) → piece doc ≡ line_of program doc) → IfOk r (IsRunTo piece corpus out) → IfOk r (IsTextRunTo text corpus out)
 text_run text program piece corpus out (Ok status) holds means ran =
-    inr (record { program = program; holds = holds; ran = subst (λ (p : Doc → List ℕ). IsRunTo p corpus out status) means ran })
+    inr (record { program = program; holds = holds; ran = run_alike piece (line_of program) means corpus out status ran })
 text_run text program piece corpus out (Err e) holds means ran = tt
 
 pub text_part : (text : List ℕ) (program : Program) (piece : Doc → List ℕ) (corpus : SourceEnds) (out : SinkEnds) (r : Result Status OutOfMemory)
-    → HoldsProgram text program → piece ≡ line_of program → OnErr r (InPart piece corpus out.held_before out.held_after) → OnErr r (IsTextInPart text corpus out)
+    → HoldsProgram text program → ((doc : Doc) → piece doc ≡ line_of program doc) → OnErr r (InPart piece corpus out.held_before out.held_after) → OnErr r (IsTextInPart text corpus out)
 text_part text program piece corpus out (Ok status) holds means part = tt
 text_part text program piece corpus out (Err e) holds means part =
-    inr (record { program = program; holds = holds; ran = subst (λ (p : Doc → List ℕ). InPart p corpus out.held_before out.held_after) means part })
+    inr (record { program = program; holds = holds; ran = part_alike piece (line_of program) means corpus out.held_before out.held_after part })
 
 -- ---- a front of a file
 

@@ -7,7 +7,7 @@ pub mod Readings
 pub mod Turns
 pub mod ProgramLaws
 pub mod Begins
-pub mod Showing
+pub mod Planning
 pub mod Numbers
 pub mod Compiling
 pub mod StatusLines

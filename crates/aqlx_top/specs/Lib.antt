@@ -18,11 +18,11 @@ pub mod ProgramFaults
 -- what the top call promises
 pub mod Outcome
 -- Words of private clauses
+-- what a plan gives for a document
+pub mod Planned
 -- what is read of a program file, and what it is compiled to
 pub mod ProgramFile
 pub mod Programs
--- the rows that outputs show
-pub mod Shown
 -- a run under way
 pub mod Prefixes
 pub mod Progress

@@ -1,5 +1,5 @@
 -- What a program means on a corpus, and how a run of it ends.
-use Rattle.std.specs.Prelude.{ℕ, List, [], ◌∷◌, map, slice_index_or, codes, Option, None, Some}
+use Rattle.std.specs.Prelude.{ℕ, List, map, Option}
 use Rattle.span_token.specs.Documents.{Doc}
 use Rattle.row_values.specs.Datums.{Datum}
 use Rattle.row_values.specs.Outputs.{OutputNames}
@@ -9,7 +9,7 @@ use Rattle.aql_typed.specs.declared.tree.TypedView.{TypedView}
 use Rattle.aql_typed.specs.declared.tree.Output.{Output}
 use Rattle.aql_typed.specs.Trees.{Query}
 use Rattle.aql_typed.specs.Views.{body_of}
-use Rattle.aql_typed.specs.Programs.{column_names}
+use Rattle.plan_maker.specs.Lowered.{names_of}
 use Rattle.aql_typed.specs.Meaning.{output_rows}
 use Rattle.aqlx_top.specs.declared.status.Status.{Status}
 use Rattle.aqlx_top.specs.Devices.{SourceEnds, SinkEnds}
@@ -26,14 +26,6 @@ pub record Program : Type 0 where
 -- a typed program: its views, its patterns and dictionaries, its outputs
 abbrev pub Typed : Type 0
 Typed = List TypedView × (Lists × List Output)
-
--- the names of the columns of a view; the document has one
-abbrev pub columns_shown : List TypedView → Option ℕ → List (List ℕ)
-columns_shown views None = codes "text" ∷ []
-columns_shown views (Some n) = slice_index_or (map column_names views) n []
-
-abbrev pub names_of : List TypedView → Output → OutputNames
-names_of views out = record { name = out.name; columns = columns_shown views out.view }
 
 -- the outputs of a typed program with their columns
 abbrev pub outputs_of : Typed → List OutputNames

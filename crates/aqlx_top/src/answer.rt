@@ -1,24 +1,17 @@
 //! What is written for a line of the corpus.
 
-ghost use Rattle.std.specs.Prelude.{◌≡◌, ◌≤◌, [], ◌∷◌, ◌++◌, All, not, IfOk, IfSome, OnOk, ◌<◌, length, map, option_map};
-ghost use Rattle.span_token.specs.Documents.{whole_of};
-ghost use Rattle.row_values.specs.Datums.{span};
+ghost use Rattle.std.specs.Prelude.{◌≡◌, ◌≤◌, [], ◌∷◌, ◌++◌, All, not, IfOk, OnOk, ◌<◌, length, map, option_map};
 ghost use Rattle.row_values.specs.Rows.{RowsLieIn};
 ghost use Rattle.corpus_json.specs.Documents.{is_bad_line};
 ghost use Rattle.corpus_json.specs.Inputs.{doc_of};
-ghost use Rattle.corpus_json.specs.Outputs.{output_line, rows_of, width_of};
-ghost use Rattle.aql_typed.specs.Fitting.{widths_of};
-ghost use Rattle.aql_typed.specs.Meaning.{meanings};
-ghost use Rattle.aql_typed.specs.Programs.{AreTypedOutputs, NamesView};
-ghost use Rattle.aql_typed.specs.Views.{body_of};
+ghost use Rattle.plan_operators.specs.Evaluated.{ShowsOutputs, node_rows};
 ghost use Rattle.aqlx_top.specs.Endings.{written_for};
-ghost use Rattle.aqlx_top.specs.Run.{line_of, outputs_of, program_of};
-ghost use Rattle.aqlx_top.specs.Shown.{rows_shown};
+ghost use Rattle.aqlx_top.specs.Planned.{line_by, names_in};
 
-use aql_meaning::slow;
-use aql_typed::{Output, Typed};
+use algebra::{Plan, PlanOut};
 use corpus_json::{Input, Layout, NotDocument, append_document, read_document};
-use row_values::{Row, Rows, Value};
+use plan_operators::evaluate;
+use row_values::Rows;
 use scalar_ops::Tools;
 use span_token::{Document, Failure, OutOfMemory};
 use std::alloc::Global;
@@ -29,23 +22,23 @@ use std::mem;
 /// `with_tokens`; what is written is the same.
 pub(crate) fn answer(
     alloc: Global,
-    typed: &Typed,
+    plan: &Plan,
     with_tokens: bool,
     layout: &Layout<'_>,
     tools: &mut Tools<'_>,
     line: &[u8],
     pending: &mut Vec<u8>,
 ) -> Result<bool, OutOfMemory>
-    requires layout { layout.now ≡ outputs_of typed.now }
-    requires tables { tools.old ≡ typed.now.1.0 }
+    requires layout { layout.now ≡ names_in plan.now }
+    requires tables { tools.old ≡ plan.now.lists }
     requires short { length line.now ≤ 16777216 }
     ensures good { IfOk result (λ good. is_bad_line line.now ≡ not good) }
-    ensures bytes { IfOk result (λ good. pending.new.items ≡ pending.old.items ++ written_for (line_of (program_of typed.now)) (line.now ∷ [])) }
+    ensures bytes { IfOk result (λ good. pending.new.items ≡ pending.old.items ++ written_for (line_by plan.now) (line.now ∷ [])) }
     ensures same { tools.new ≡ tools.old }
 {
     match read_document(alloc, line) {
         Ok(Some(input)) => {
-            write_for(alloc, typed, with_tokens, layout, tools, &input, pending)?;
+            write_for(alloc, plan, with_tokens, layout, tools, &input, pending)?;
             Ok(true)
         }
         Ok(None) => Ok(true),
@@ -57,31 +50,22 @@ pub(crate) fn answer(
 /// Puts the line of a document after what is pending.
 fn write_for(
     alloc: Global,
-    typed: &Typed,
+    plan: &Plan,
     with_tokens: bool,
     layout: &Layout<'_>,
     tools: &mut Tools<'_>,
     input: &Input,
     pending: &mut Vec<u8>,
 ) -> Result<(), OutOfMemory>
-    requires layout { layout.now ≡ outputs_of typed.now }
-    requires tables { tools.old ≡ typed.now.1.0 }
+    requires layout { layout.now ≡ names_in plan.now }
+    requires tables { tools.old ≡ plan.now.lists }
     requires short { length input.now.text ≤ 16777216 }
-    ensures bytes { OnOk result (pending.new.items ≡ pending.old.items ++ line_of (program_of typed.now) (doc_of input.now)) }
+    ensures bytes { OnOk result (pending.new.items ≡ pending.old.items ++ line_by plan.now (doc_of input.now)) }
     ensures same { tools.new ≡ tools.old }
 {
     let document = document_of(alloc, with_tokens, input)?;
-    let all = slow(alloc, tools, &document, typed)?;
-    let whole = whole_row(alloc, &document)?;
-    append_rows(
-        alloc,
-        typed,
-        layout,
-        &document,
-        all.as_slice(),
-        &whole,
-        pending,
-    )
+    let all = evaluate(alloc, tools, &document, plan)?;
+    append_rows(alloc, plan, layout, &document, all.as_slice(), pending)
 }
 
 /// The document that was read, with its tokens kept or not.
@@ -109,38 +93,20 @@ fn label_of(input: &Input) -> Option<&str>
     }
 }
 
-/// The rows of the document as a view: the span of its whole text.
-fn whole_row<'d>(alloc: Global, document: &Document<'d>) -> Result<Rows<'d>, OutOfMemory>
-    ensures rows { IfOk result (λ rows. rows ≡ record { width = 1; rows = (span (whole_of document.now) ∷ []) ∷ [] }) }
-    ensures lies { IfOk result (λ rows. RowsLieIn document.now rows.rows) }
-{
-    let mut rows = Rows::new(alloc, 1);
-    let mut values = Vec::new(alloc);
-    values.push(Value::Span(document.whole()))?;
-    rows.push(Row::new(values))?;
-    Ok(rows)
-}
-
 /// Puts the line of a document with these rows after what is pending.
 fn append_rows<'d>(
     alloc: Global,
-    typed: &Typed,
+    plan: &Plan,
     layout: &Layout<'_>,
     document: &Document<'d>,
     all: &[Rows<'d>],
-    whole: &Rows<'d>,
     pending: &mut Vec<u8>,
 ) -> Result<(), OutOfMemory>
-    requires layout { layout.now ≡ outputs_of typed.now }
-    requires rows { map (λ list. list.rows) all.now ≡ meanings typed.now.1.0 document.now (map body_of typed.now.0) }
-    requires widths { map (λ list. list.width) all.now ≡ widths_of (map body_of typed.now.0) }
-    requires lies { All (λ list. RowsLieIn document.now list.rows) all.now }
-    requires whole { whole.now ≡ record { width = 1; rows = (span (whole_of document.now) ∷ []) ∷ [] } }
-    requires whole_lies { RowsLieIn document.now whole.now.rows }
-    ensures bytes { OnOk result (pending.new.items ≡ pending.old.items ++ line_of (program_of typed.now) document.now) }
+    requires layout { layout.now ≡ names_in plan.now }
+    requires shows { ShowsOutputs plan.now document.now all.now }
+    ensures bytes { OnOk result (pending.new.items ≡ pending.old.items ++ line_by plan.now document.now) }
 {
-    let _views = typed.views();
-    let shown = shown_rows(alloc, typed.outputs(), all, whole)?;
+    let shown = shown_rows(alloc, plan.outputs(), all)?;
     let line = mem::replace(pending, Vec::new(alloc));
     *pending = append_document(alloc, line, document, layout, shown.as_slice())?;
     Ok(())
@@ -149,27 +115,15 @@ fn append_rows<'d>(
 /// The rows that each output shows.
 fn shown_rows<'r, 'd>(
     alloc: Global,
-    outputs: &[Output],
+    outputs: &[PlanOut],
     all: &'r [Rows<'d>],
-    whole: &'r Rows<'d>,
 ) -> Result<Vec<&'r Rows<'d>>, OutOfMemory>
-    requires named { All (NamesView (length all.now)) outputs.now }
-    ensures { IfOk result (λ shown. map (λ list. list.now) shown.items ≡ map (λ out. rows_shown all.now whole.now out.view) outputs.now) }
+    requires there { All (λ out. out.node < length all.now) outputs.now }
+    ensures { IfOk result (λ shown. map (λ list. list.now) shown.items ≡ map (λ out. node_rows all.now out.node) outputs.now) }
 {
     let mut shown = Vec::new(alloc);
     for out in outputs {
-        shown.push(shown_in(all, whole, out.view))?;
+        shown.push(&all[out.node as usize])?;
     }
     Ok(shown)
-}
-
-/// The rows of a view, or of the document.
-fn shown_in<'r, 'd>(all: &'r [Rows<'d>], whole: &'r Rows<'d>, view: Option<u32>) -> &'r Rows<'d>
-    requires { IfSome view (λ n. n < length all.now) }
-    ensures { result.now ≡ rows_shown all.now whole.now view }
-{
-    match view {
-        None => whole,
-        Some(n) => &all[n as usize],
-    }
 }

@@ -1,96 +1,38 @@
-//! Whether a program asks for the tokens of a document.
+//! Whether a plan asks for the tokens of a document.
 
-use aql_typed::{
-    Consolidate, ExtractClauses, Extraction, Projection, SelectClauses, Typed, TypedQuery,
-    TypedSource,
-};
+use algebra::{JoinKind, Node, Plan};
 use scalar_ops::{Expr, Op};
 
-/// Whether an extraction or an expression of a program asks for the tokens of a document. Where none does,
-/// a document can be made without them; what is answered is the same.
-pub(crate) fn asks_for_tokens(typed: &Typed) -> bool {
-    typed.views().iter().any(|view| query_asks(&view.body))
+/// Whether a node of a plan asks for the tokens of a document. Where none does, a document can be made
+/// without them; what is answered is the same.
+pub(crate) fn asks_for_tokens(plan: &Plan) -> bool {
+    plan.nodes().as_slice().iter().any(|node| node_asks(node))
 }
 
-#[cycle(asks)]
-fn query_asks(query: &TypedQuery) -> bool {
-    match query {
-        TypedQuery::Select(select) => {
-            sources_ask(select.sources.as_slice()) || selection_asks(&select.clauses)
-        }
-        TypedQuery::Extract(extract) => {
-            source_asks(&extract.source) || extraction_asks(&extract.clauses)
-        }
-        TypedQuery::Union(sides) => sides_ask(sides.as_slice()),
-        TypedQuery::Minus(left, right) => query_asks(left) || query_asks(right),
+fn node_asks(node: &Node) -> bool {
+    match node {
+        Node::TokenRegex { .. } | Node::Dict { .. } | Node::Restricted { .. } => true,
+        Node::Blocks { tokens, .. } => *tokens,
+        Node::SpanJoin { kind, .. } => kind_asks(*kind),
+        Node::Select { conds, .. } => exprs_ask(conds.as_slice()),
+        Node::Project { items, .. } => exprs_ask(items.as_slice()),
+        Node::Consolidate { target, .. } => expr_asks(target.as_expr()),
+        Node::Doc
+        | Node::Regex { .. }
+        | Node::DictPart { .. }
+        | Node::Cross { .. }
+        | Node::Union { .. }
+        | Node::Minus { .. }
+        | Node::Group { .. }
+        | Node::OrderLimit { .. } => false,
     }
 }
 
-#[cycle(asks)]
-fn sides_ask(sides: &[TypedQuery]) -> bool {
-    for side in sides {
-        if query_asks(side) {
-            return true;
-        }
-    }
-    false
-}
-
-#[cycle(asks)]
-fn sources_ask(sources: &[TypedSource]) -> bool {
-    for source in sources {
-        if source_asks(source) {
-            return true;
-        }
-    }
-    false
-}
-
-#[cycle(asks)]
-fn source_asks(source: &TypedSource) -> bool {
-    match source {
-        TypedSource::Document | TypedSource::View(_) => false,
-        TypedSource::Nested(query) => query_asks(query),
-    }
-}
-
-fn selection_asks(clauses: &SelectClauses) -> bool {
-    exprs_ask(clauses.conds.as_slice())
-        || target_asks(&clauses.consolidate)
-        || projection_asks(&clauses.projection)
-}
-
-fn extraction_asks(clauses: &ExtractClauses) -> bool {
-    finding_asks(&clauses.extraction)
-        || exprs_ask(clauses.items.as_slice())
-        || exprs_ask(clauses.conds.as_slice())
-        || target_asks(&clauses.consolidate)
-}
-
-fn finding_asks(extraction: &Extraction) -> bool {
-    match extraction {
-        Extraction::Regex { .. } => false,
-        Extraction::TokenRegex { .. } | Extraction::Dict { .. } => true,
-        Extraction::Blocks { tokens, .. } => *tokens,
-    }
-}
-
-fn projection_asks(projection: &Projection) -> bool {
-    match projection {
-        Projection::Plain(items) => exprs_ask(items.as_slice()),
-        Projection::Grouped {
-            keys,
-            arguments,
-            ..
-        } => exprs_ask(keys.as_slice()) || exprs_ask(arguments.as_slice()),
-    }
-}
-
-fn target_asks(consolidate: &Option<Consolidate>) -> bool {
-    match consolidate {
-        Some(consolidate) => expr_asks(&consolidate.target),
-        None => false,
-    }
+fn kind_asks(kind: JoinKind) -> bool {
+    matches!(
+        kind,
+        JoinKind::FollowsTok { .. } | JoinKind::FollowsTokBack { .. }
+    )
 }
 
 #[cycle(exprs)]

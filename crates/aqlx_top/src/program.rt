@@ -11,20 +11,21 @@ ghost use Rattle.view_graph.specs.Answers.{IsNameDecided, IsResolved};
 use crate::ProgramFault;
 use crate::outputs::outputs_of;
 use crate::program_text::{check_sizes, text_of, tokens_of};
+use algebra::Plan;
 use aql_lexer::Tok;
 use aql_parser::parse;
 use aql_syntax::Statement;
-use aql_typed::Typed;
 use aql_types::{TypeFault, check};
+use plan_maker::lower;
 use row_values::Output;
 use span_token::Failure;
 use std::alloc::Global;
 use view_graph::{Graph, resolve};
 
-/// A program, ready to run: typed, with its outputs as they are written.
+/// A program, ready to run: its plan, with its outputs as they are written.
 #[derive(Drop)]
 pub(crate) struct Compiled {
-    pub typed: Typed,
+    pub plan: Plan,
     pub outputs: Vec<Output>,
 }
 
@@ -78,8 +79,9 @@ fn typed(alloc: Global, toks: &[Tok], graph: &Graph) -> Result<Compiled, Failure
 {
     match check(alloc, graph) {
         Ok(typed) => {
-            let outputs = outputs_of(alloc, &typed)?;
-            Ok(Compiled { typed, outputs })
+            let plan = lower(alloc, typed)?;
+            let outputs = outputs_of(alloc, &plan)?;
+            Ok(Compiled { plan, outputs })
         }
         Err(Failure::Fault(fault)) => Err(Failure::Fault(placed(toks, fault))),
         Err(Failure::OutOfMemory) => Err(Failure::OutOfMemory),

@@ -4,15 +4,15 @@ ghost use Rattle.span_token.specs.Documents.{Doc};
 ghost use Rattle.aqlx_top.specs.Devices.{SourceEnds, source_ends, sink_ends, source_between, sink_between};
 ghost use Rattle.aqlx_top.specs.Endings.{InPart};
 ghost use Rattle.aqlx_top.specs.Progress.{Stands, Finished, IsGoing, IsRunTo};
-ghost use Rattle.aqlx_top.specs.Run.{line_of, outputs_of, program_of};
+ghost use Rattle.aqlx_top.specs.Planned.{line_by, names_in};
 ghost use Rattle.aqlx_top.specs.Turns.{Turned, Begins, IsKept};
 
 use crate::answer::answer;
 use crate::asks::asks_for_tokens;
 use crate::put::{put, put_and_flush};
 use crate::{CorpusFault, Status};
+use algebra::Plan;
 use aql_io::{Failed, Sink, Source};
-use aql_typed::Typed;
 use corpus_json::{Layout, LineBuffer, Step};
 use row_values::Output;
 use scalar_ops::Tools;
@@ -40,30 +40,30 @@ pub(crate) enum Turn {
     Ended(Status),
 }
 
-/// Runs a program over a corpus: writes the line of each document, until a line is bad, the corpus
+/// Runs a plan over a corpus: writes the line of each document, until a line is bad, the corpus
 /// ends, or it can't be read or written any more. What is written is flushed at the end.
 pub(crate) fn run<S: Source, O: Sink>(
     alloc: Global,
-    typed: &Typed,
+    plan: &Plan,
     outputs: &[Output],
     corpus: &mut S,
     out: &mut O,
 ) -> Result<Status, OutOfMemory>
-    requires outputs { outputs.now ≡ outputs_of typed.now }
-    ensures ran { IfOk result (IsRunTo (line_of (program_of typed.now))
+    requires outputs { outputs.now ≡ names_in plan.now }
+    ensures ran { IfOk result (IsRunTo (line_by plan.now)
         (source_between S.left S.faults corpus.old corpus.new)
         (sink_between O.held O.flushed O.faults out.old out.new)) }
-    ensures part { OnErr result (InPart (line_of (program_of typed.now))
+    ensures part { OnErr result (InPart (line_by plan.now)
         (source_between S.left S.faults corpus.old corpus.new)
         (O.held out.old) (O.held out.new)) }
 {
-    let mut work = begin(alloc, typed, outputs)?;
+    let mut work = begin(alloc, plan, outputs)?;
     'lines: loop {
         match send_in_time(out, &mut work) {
             Ok(()) => {}
             Err(Failed) => return Ok(Status::WriteFault),
         }
-        match take_turn(alloc, typed, &mut work, corpus)? {
+        match take_turn(alloc, plan, &mut work, corpus)? {
             Turn::Next => {}
             Turn::Ended(status) => return Ok(finish(out, &work.pending, status)),
         }
@@ -72,18 +72,18 @@ pub(crate) fn run<S: Source, O: Sink>(
 
 fn begin<'p>(
     alloc: Global,
-    typed: &'p Typed,
+    plan: &'p Plan,
     outputs: &'p [Output],
 ) -> Result<Work<'p>, OutOfMemory>
-    ensures { IfOk result (λ work. Begins work outputs.now typed.now.1.0) }
+    ensures { IfOk result (λ work. Begins work outputs.now plan.now.lists) }
 {
     Ok(Work {
         layout: Layout::new(alloc, outputs)?,
         reader: LineBuffer::new(alloc)?,
         line: Vec::new(alloc),
         number: 0,
-        tools: Tools::new(alloc, typed.tables())?,
-        with_tokens: asks_for_tokens(typed),
+        tools: Tools::new(alloc, plan.tables())?,
+        with_tokens: asks_for_tokens(plan),
         pending: Vec::new(alloc),
     })
 }
@@ -110,17 +110,17 @@ fn send_in_time<O: Sink>(out: &mut O, work: &mut Work<'_>) -> Result<(), Failed>
 /// Looks at the next line, and puts what is written for it after what is pending.
 fn take_turn<S: Source>(
     alloc: Global,
-    typed: &Typed,
+    plan: &Plan,
     work: &mut Work<'_>,
     corpus: &mut S,
 ) -> Result<Turn, OutOfMemory>
-    requires layout { work.old.layout ≡ outputs_of typed.now }
-    requires tables { work.old.tools ≡ typed.now.1.0 }
+    requires layout { work.old.layout ≡ names_in plan.now }
+    requires tables { work.old.tools ≡ plan.now.lists }
     requires room { work.old.number < 2 ^ 63 }
     requires going { IsGoing work.old.reader }
     ensures turned { (left : Option (List ℕ)) (faults : ℕ) (before now : Option (List ℕ)) →
-        Stands (line_of (program_of typed.now)) (source_ends left (S.left corpus.old) faults (S.faults corpus.old)) before now work.old.reader work.old.pending.items work.old.number →
-        Turned (line_of (program_of typed.now)) (source_ends left (S.left corpus.new) faults (S.faults corpus.new)) before now work.new.reader work.new.pending.items work.new.number result }
+        Stands (line_by plan.now) (source_ends left (S.left corpus.old) faults (S.faults corpus.old)) before now work.old.reader work.old.pending.items work.old.number →
+        Turned (line_by plan.now) (source_ends left (S.left corpus.new) faults (S.faults corpus.new)) before now work.new.reader work.new.pending.items work.new.number result }
     ensures counts { IfOk result (λ came. came ≡ Turn.Next → work.new.number ≡ work.old.number + 1) }
     ensures going { IfOk result (λ came. came ≡ Turn.Next → IsGoing work.new.reader) }
     ensures same { (work.new.layout ≡ work.old.layout) × (work.new.tools ≡ work.old.tools) }
@@ -132,7 +132,7 @@ fn take_turn<S: Source>(
             let _taken = work.reader.taken();
             if answer(
                 alloc,
-                typed,
+                plan,
                 work.with_tokens,
                 &work.layout,
                 &mut work.tools,

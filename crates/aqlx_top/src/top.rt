@@ -106,7 +106,7 @@ fn run_text<S: Source, O: Sink>(
         (sink_between O.held O.flushed O.faults out.old out.new)) }
 {
     match compile(alloc, bytes) {
-        Ok(program) => run(alloc, &program.typed, &program.outputs, corpus, out),
+        Ok(program) => run(alloc, &program.plan, &program.outputs, corpus, out),
         Err(Failure::Fault(fault)) => Ok(Status::Program(fault)),
         Err(Failure::OutOfMemory) => Err(OutOfMemory),
     }

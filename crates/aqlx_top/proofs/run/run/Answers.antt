@@ -6,7 +6,7 @@ use Rattle.aqlx_top.specs.declared.run.Work.{Work}
 use Rattle.aqlx_top.specs.declared.run.Turn.{Turn}
 use Rattle.aqlx_top.specs.Devices.{SourceEnds, source_ends}
 use Rattle.aqlx_top.specs.Progress.{Stands}
-use Rattle.aqlx_top.specs.Run.{line_of, program_of}
+use Rattle.aqlx_top.specs.Planned.{line_by}
 use Rattle.aqlx_top.specs.Turns.{Turned, IsKept}
 use Rattle.aqlx_top.proofs.Turns as law
 use Rattle.aqlx_top.proofs.run.run.Goals as goal
@@ -17,13 +17,13 @@ falls_to most before kept now few counts same = omega arith
 pub returns-in_err-work-clause-part : goal.returns-in_err-work-clause-part
 returns-in_err-work-clause-part g c =
     law.at_err _ c.from_residual.result
-    (law.part_of (line_of (program_of c.args.typed.now)) (g.S.Source.left c.args.corpus.now) (g.S.Source.left c.args.corpus.now) (g.S.Source.faults c.args.corpus.now) (g.S.Source.faults c.args.corpus.now) (g.O.Sink.held c.args.out.now) (g.O.Sink.held c.args.out.now) _ _ _ (law.begins (line_of (program_of c.args.typed.now)) (g.S.Source.left c.args.corpus.now) (g.O.Sink.held c.args.out.now) (g.S.Source.faults c.args.corpus.now)))
+    (law.part_of (line_by c.args.plan.now) (g.S.Source.left c.args.corpus.now) (g.S.Source.left c.args.corpus.now) (g.S.Source.faults c.args.corpus.now) (g.S.Source.faults c.args.corpus.now) (g.O.Sink.held c.args.out.now) (g.O.Sink.held c.args.out.now) _ _ _ (law.begins (line_by c.args.plan.now) (g.S.Source.left c.args.corpus.now) (g.O.Sink.held c.args.out.now) (g.S.Source.faults c.args.corpus.now)))
 
 pub lines-init : goal.lines-init
 lines-init g c =
     let b = c.in_ok-work.ensures in
     record {
-      stands = rw (b.reader, b.pending, b.number) (law.begins (line_of (program_of c.args.typed.now)) (g.S.Source.left c.args.corpus.now) (g.O.Sink.held c.args.out.now) (g.S.Source.faults c.args.corpus.now));
+      stands = rw (b.reader, b.pending, b.number) (law.begins (line_by c.args.plan.now) (g.S.Source.left c.args.corpus.now) (g.O.Sink.held c.args.out.now) (g.S.Source.faults c.args.corpus.now));
       layout = b.outputs_are;
       tables = b.tables;
       going = rw b.reader tt;
@@ -33,28 +33,28 @@ lines-init g c =
 pub returns-in-Err-clause-ran : goal.returns-in-Err-clause-ran
 returns-in-Err-clause-ran g c = (
   law.rose_later (g.O.Sink.faults c.args.out.now) (g.O.Sink.faults c.lines.out) (g.O.Sink.faults c.send_in_time.new.out) c.lines.invariant.unfailed c.in-Err.ensures.cause,
-  c.in-Err.ensures.sent (line_of (program_of c.args.typed.now)) (g.S.Source.left c.args.corpus.now) (g.S.Source.left c.lines.corpus) (g.S.Source.faults c.args.corpus.now) (g.S.Source.faults c.lines.corpus) (g.O.Sink.held c.args.out.now) c.lines.invariant.stands,
+  c.in-Err.ensures.sent (line_by c.args.plan.now) (g.S.Source.left c.args.corpus.now) (g.S.Source.left c.lines.corpus) (g.S.Source.faults c.args.corpus.now) (g.S.Source.faults c.lines.corpus) (g.O.Sink.held c.args.out.now) c.lines.invariant.stands,
 )
 
 pub take_turn-requires-clause-room : goal.take_turn-requires-clause-room
 take_turn-requires-clause-room g c =
-    let stands = c.in-Ok.ensures.sent (line_of (program_of c.args.typed.now)) (g.S.Source.left c.args.corpus.now) (g.S.Source.left c.lines.corpus) (g.S.Source.faults c.args.corpus.now) (g.S.Source.faults c.lines.corpus) (g.O.Sink.held c.args.out.now) c.lines.invariant.stands in
-    let few = law.number_within (line_of (program_of c.args.typed.now)) (g.S.Source.left c.args.corpus.now) (g.S.Source.left c.lines.corpus) (g.S.Source.faults c.args.corpus.now) (g.S.Source.faults c.lines.corpus) (g.O.Sink.held c.args.out.now) (g.O.Sink.held c.send_in_time.new.out) c.send_in_time.new.work.reader c.send_in_time.new.work.pending.items c.send_in_time.new.work.number stands in
+    let stands = c.in-Ok.ensures.sent (line_by c.args.plan.now) (g.S.Source.left c.args.corpus.now) (g.S.Source.left c.lines.corpus) (g.S.Source.faults c.args.corpus.now) (g.S.Source.faults c.lines.corpus) (g.O.Sink.held c.args.out.now) c.lines.invariant.stands in
+    let few = law.number_within (line_by c.args.plan.now) (g.S.Source.left c.args.corpus.now) (g.S.Source.left c.lines.corpus) (g.S.Source.faults c.args.corpus.now) (g.S.Source.faults c.lines.corpus) (g.O.Sink.held c.args.out.now) (g.O.Sink.held c.send_in_time.new.out) c.send_in_time.new.work.reader c.send_in_time.new.work.pending.items c.send_in_time.new.work.number stands in
     omega arith
 
 pub lines-smaller : goal.lines-smaller
 lines-smaller g c =
     let turned = c.in_ok-take_turn.ensures.turned (g.S.Source.left c.args.corpus.now) (g.S.Source.faults c.args.corpus.now) (g.O.Sink.held c.args.out.now) (g.O.Sink.held c.send_in_time.new.out)
-    (c.in-Ok.ensures.sent (line_of (program_of c.args.typed.now)) (g.S.Source.left c.args.corpus.now) (g.S.Source.left c.lines.corpus) (g.S.Source.faults c.args.corpus.now) (g.S.Source.faults c.lines.corpus) (g.O.Sink.held c.args.out.now) c.lines.invariant.stands) in
+    (c.in-Ok.ensures.sent (line_by c.args.plan.now) (g.S.Source.left c.args.corpus.now) (g.S.Source.left c.lines.corpus) (g.S.Source.faults c.args.corpus.now) (g.S.Source.faults c.lines.corpus) (g.O.Sink.held c.args.out.now) c.lines.invariant.stands) in
     let next = rw c.in-Next.is at turned in
-    let few = law.number_within (line_of (program_of c.args.typed.now)) (g.S.Source.left c.args.corpus.now) (g.S.Source.left c.take_turn.new.corpus) (g.S.Source.faults c.args.corpus.now) (g.S.Source.faults c.take_turn.new.corpus) (g.O.Sink.held c.args.out.now) (g.O.Sink.held c.send_in_time.new.out) c.take_turn.new.work.reader c.take_turn.new.work.pending.items c.take_turn.new.work.number next in
+    let few = law.number_within (line_by c.args.plan.now) (g.S.Source.left c.args.corpus.now) (g.S.Source.left c.take_turn.new.corpus) (g.S.Source.faults c.args.corpus.now) (g.S.Source.faults c.take_turn.new.corpus) (g.O.Sink.held c.args.out.now) (g.O.Sink.held c.send_in_time.new.out) c.take_turn.new.work.reader c.take_turn.new.work.pending.items c.take_turn.new.work.number next in
     let counts = c.in_ok-take_turn.ensures.counts c.in-Next.is in
     falls_to corpus_limit c.lines.work.number c.send_in_time.new.work.number c.take_turn.new.work.number few counts c.in-Ok.ensures.same.number
 
 pub lines-preserved : goal.lines-preserved
 lines-preserved g c =
     let turned = c.in_ok-take_turn.ensures.turned (g.S.Source.left c.args.corpus.now) (g.S.Source.faults c.args.corpus.now) (g.O.Sink.held c.args.out.now) (g.O.Sink.held c.send_in_time.new.out)
-    (c.in-Ok.ensures.sent (line_of (program_of c.args.typed.now)) (g.S.Source.left c.args.corpus.now) (g.S.Source.left c.lines.corpus) (g.S.Source.faults c.args.corpus.now) (g.S.Source.faults c.lines.corpus) (g.O.Sink.held c.args.out.now) c.lines.invariant.stands) in
+    (c.in-Ok.ensures.sent (line_by c.args.plan.now) (g.S.Source.left c.args.corpus.now) (g.S.Source.left c.lines.corpus) (g.S.Source.faults c.args.corpus.now) (g.S.Source.faults c.lines.corpus) (g.O.Sink.held c.args.out.now) c.lines.invariant.stands) in
     let same = c.in-Ok.ensures.same in
     let next = rw c.in-Next.is at turned in
     record {
@@ -68,13 +68,13 @@ lines-preserved g c =
 pub returns-in_err-take_turn-clause-part : goal.returns-in_err-take_turn-clause-part
 returns-in_err-take_turn-clause-part g c =
     let turned = c.in_err-take_turn.ensures.turned (g.S.Source.left c.args.corpus.now) (g.S.Source.faults c.args.corpus.now) (g.O.Sink.held c.args.out.now) (g.O.Sink.held c.send_in_time.new.out)
-    (c.in-Ok.ensures.sent (line_of (program_of c.args.typed.now)) (g.S.Source.left c.args.corpus.now) (g.S.Source.left c.lines.corpus) (g.S.Source.faults c.args.corpus.now) (g.S.Source.faults c.lines.corpus) (g.O.Sink.held c.args.out.now) c.lines.invariant.stands) in
+    (c.in-Ok.ensures.sent (line_by c.args.plan.now) (g.S.Source.left c.args.corpus.now) (g.S.Source.left c.lines.corpus) (g.S.Source.faults c.args.corpus.now) (g.S.Source.faults c.lines.corpus) (g.O.Sink.held c.args.out.now) c.lines.invariant.stands) in
     law.at_err _ c.from_residual-in_err-take_turn.result turned
 
 pub returns-in-Ended-clause-ran : goal.returns-in-Ended-clause-ran
 returns-in-Ended-clause-ran g c =
     let turned = c.in_ok-take_turn.ensures.turned (g.S.Source.left c.args.corpus.now) (g.S.Source.faults c.args.corpus.now) (g.O.Sink.held c.args.out.now) (g.O.Sink.held c.send_in_time.new.out)
-    (c.in-Ok.ensures.sent (line_of (program_of c.args.typed.now)) (g.S.Source.left c.args.corpus.now) (g.S.Source.left c.lines.corpus) (g.S.Source.faults c.args.corpus.now) (g.S.Source.faults c.lines.corpus) (g.O.Sink.held c.args.out.now) c.lines.invariant.stands) in
+    (c.in-Ok.ensures.sent (line_by c.args.plan.now) (g.S.Source.left c.args.corpus.now) (g.S.Source.left c.lines.corpus) (g.S.Source.faults c.args.corpus.now) (g.S.Source.faults c.lines.corpus) (g.O.Sink.held c.args.out.now) c.lines.invariant.stands) in
     let ended = rw c.in-Ended.is at turned in
     let finish = rw c.deref.ensures.value at c.finish.ensures in
-    finish (line_of (program_of c.args.typed.now)) (source_ends (g.S.Source.left c.args.corpus.now) (g.S.Source.left c.take_turn.new.corpus) (g.S.Source.faults c.args.corpus.now) (g.S.Source.faults c.take_turn.new.corpus)) (g.O.Sink.held c.args.out.now) (g.O.Sink.flushed c.args.out.now) (g.O.Sink.faults c.args.out.now) (c.in-Ok.ensures.stands ∙ c.lines.invariant.unfailed) ended
+    finish (line_by c.args.plan.now) (source_ends (g.S.Source.left c.args.corpus.now) (g.S.Source.left c.take_turn.new.corpus) (g.S.Source.faults c.args.corpus.now) (g.S.Source.faults c.take_turn.new.corpus)) (g.O.Sink.held c.args.out.now) (g.O.Sink.flushed c.args.out.now) (g.O.Sink.faults c.args.out.now) (c.in-Ok.ensures.stands ∙ c.lines.invariant.unfailed) ended

@@ -2,16 +2,16 @@ use Rattle.std.proofs.Common.{◌≡◌, ◌-◌}
 use Rattle.corpus_json.specs.Limits.{corpus_limit}
 use Rattle.aqlx_top.specs.Devices.{source_ends}
 use Rattle.aqlx_top.specs.Progress.{Stands, IsGoing}
-use Rattle.aqlx_top.specs.Run.{line_of, program_of}
+use Rattle.aqlx_top.specs.Planned.{line_by}
 use Rattle.aqlx_top.proofs.run.run.Given as goal
 
 abbrev pub invariant-lines : goal.invariant-lines
 invariant-lines g l = record {
-  stands : Stands (line_of (program_of l.fn.typed))
+  stands : Stands (line_by l.fn.plan)
       (source_ends (g.S.Source.left l.initial.corpus) (g.S.Source.left l.corpus) (g.S.Source.faults l.initial.corpus) (g.S.Source.faults l.corpus))
       (g.O.Sink.held l.initial.out) (g.O.Sink.held l.out) l.work.reader l.work.pending.items l.work.number;
   layout : l.work.layout ≡ l.fn.outputs;
-  tables : l.work.tools ≡ l.fn.typed.1.0;
+  tables : l.work.tools ≡ l.fn.plan.lists;
   going : IsGoing l.work.reader;
   unfailed : g.O.Sink.faults l.out ≡ g.O.Sink.faults l.initial.out;
 }

@@ -1,0 +1,36 @@
+-- What a plan keeps of a typed program: its tables, and each output with its names and its meaning.
+use Rattle.std.specs.Prelude.{ℕ, ◌≡◌, List, map, [], ◌∷◌, slice_index_or, codes, Option, None, Some}
+use Rattle.std.specs.List.{AllZip}
+use Rattle.aql_base.specs.Bags.{SameBag}
+use Rattle.span_token.specs.Documents.{Doc}
+use Rattle.scalar_ops.specs.Tables.{Lists}
+use Rattle.aql_typed.specs.declared.tree.Output.{Output}
+use Rattle.aql_typed.specs.declared.tree.TypedView.{TypedView}
+use Rattle.aql_typed.specs.Meaning.{output_rows}
+use Rattle.row_values.specs.Outputs.{OutputNames}
+use Rattle.aql_typed.specs.Programs.{column_names}
+use Rattle.aql_typed.specs.Views.{body_of}
+use Rattle.algebra.specs.declared.output.PlanOut.{PlanOut}
+use Rattle.algebra.specs.Plans.{Parts}
+use Rattle.algebra.specs.Values.{val}
+
+-- a typed program: its views, its patterns and dictionaries, its outputs
+abbrev pub Program : Type 0
+Program = List TypedView × (Lists × List Output)
+
+abbrev pub columns_shown : List TypedView → Option ℕ → List (List ℕ)
+columns_shown views None = codes "text" ∷ []
+columns_shown views (Some n) = slice_index_or (map column_names views) n []
+
+abbrev pub names_of : List TypedView → Output → OutputNames
+names_of views out = record { name = out.name; columns = columns_shown views out.view }
+
+-- the plan's output has the names of the program's, and on each document the rows that it means, as a bag
+pub record ShowsOutput (program : Program) (plan : Parts) (out : Output) (shown : PlanOut) : Type 0 where
+  pub names : shown.names ≡ names_of program.0 out
+  pub rows : (doc : Doc) → SameBag (val plan.lists doc plan.nodes shown.node) (output_rows program.1.0 doc (map body_of program.0) out.view)
+
+-- the plan has the program's tables, and its outputs one by one
+pub record IsLowered (program : Program) (plan : Parts) : Type 0 where
+  pub lists : plan.lists ≡ program.1.0
+  pub outputs : AllZip (ShowsOutput program plan) program.1.1 plan.outputs
