@@ -8,7 +8,7 @@ pub mod UnderWay
 pub mod Givens
 -- the members of an output line, as serde_json has them and as they are written
 mod Objects
-mod PlacesLemmas
+mod NameIndexLemmas
 mod RowSpans
 mod Sections
 mod Views

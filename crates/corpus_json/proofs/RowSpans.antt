@@ -8,10 +8,10 @@ use Rattle.row_values.specs.Datums.{Datum, IsOfDocument, datum_of}
 use Rattle.row_values.specs.Rows.{sorted}
 use Rattle.row_values.specs.SortedRows.{SameBag-sorted}
 use Rattle.row_values.specs.declared.value.Value.{Value}
-use Rattle.corpus_json.specs.Places.{Place, place_of, places_of}
+use Rattle.corpus_json.specs.NameIndexes.{NameIndex, name_index, name_indexes}
 use Rattle.corpus_json.specs.Sections.{HasColumns}
 use Rattle.corpus_json.specs.declared.write.order.Named.{Named}
-use Rattle.corpus_json.proofs.Objects.{places_within}
+use Rattle.corpus_json.proofs.Objects.{indexes_within}
 use Rattle.corpus_json.proofs.Sections.{All-unmap}
 
 mapped_lie_in : (document : Doc) (values : List Value) → All (IsOfDocument document) (map datum_of values) → All (λ value. IsOfDocument document (datum_of value)) values
@@ -29,10 +29,10 @@ sorted_all P rows references are all =
 
 -- columns within the width are within each row
 pub columns_in_rows : (columns : List Named) (width : ℕ) (rows : List (List Datum)) → HasColumns columns width → All (λ row. length row ≡ width) rows → All (λ row. HasColumns columns (length row)) rows
-columns_in_rows columns width rows have fit = λ k d within j e there. subst (λ n. (get_or columns j e).place < n) (sym (fit k d within)) (have j e there)
+columns_in_rows columns width rows have fit = λ k d within j e there. subst (λ n. (get_or columns j e).index < n) (sym (fit k d within)) (have j e there)
 
 -- the columns of an output that stand by their names
-pub columns_within : (columns : List Named) (names : List (List ℕ)) → map place_of columns ≡ places_of names → HasColumns columns (length names)
+pub columns_within : (columns : List Named) (names : List (List ℕ)) → map name_index columns ≡ name_indexes names → HasColumns columns (length names)
 columns_within columns names are =
-    All-unmap (λ (p : Place). p.1 < length names) place_of columns (All-unmap (λ place. place < length names) (λ (p : Place). p.1) (map place_of columns)
-    (subst (λ (places : List Place). All (λ place. place < length names) (map (λ (p : Place). p.1) places)) (sym are) (places_within names)))
+    All-unmap (λ (p : NameIndex). p.1 < length names) name_index columns (All-unmap (λ index. index < length names) (λ (p : NameIndex). p.1) (map name_index columns)
+    (subst (λ (indexes : List NameIndex). All (λ index. index < length names) (map (λ (p : NameIndex). p.1) indexes)) (sym are) (indexes_within names)))

@@ -13,18 +13,18 @@ use Rattle.serde_json.specs.Data as serde
 use Rattle.span_token.specs.Documents.{Doc}
 use Rattle.row_values.specs.Datums.{Datum, null}
 use Rattle.row_values.specs.Outputs.{OutputNames}
-use Rattle.row_values.specs.Rows.{RowList, sorted}
+use Rattle.row_values.specs.Rows.{sorted}
 use Rattle.row_values.specs.SortedRows.{SameBag-sorted}
 use Rattle.corpus_json.specs.Outputs.{value_data, object_of, array_of, row_data, rows_data, views_data, label_pair, line_data}
 use Rattle.json.specs.Token.{Token, begin_array, begin_object, end_object, key}
 use Rattle.json.specs.Tree.{json_tokens}
 use Rattle.serde_json.specs.Written.{outline}
 use Rattle.corpus_json.specs.declared.write.order.Named.{Named}
-use Rattle.corpus_json.specs.Places.{Place, place_of, places_of}
+use Rattle.corpus_json.specs.NameIndexes.{NameIndex, name_index, name_indexes}
 use Rattle.corpus_json.specs.Writing.{listed, placed, row_listed, array_tokens, section_pair, views_listed, views_tokens, label_tokens}
 use Rattle.corpus_json.specs.Sections.{Section, section_of, output_at, section_at, output_names, sections_of, HasRows}
 use Rattle.corpus_json.specs.declared.write.member.Member.{Member}
-use Rattle.corpus_json.proofs.Objects.{with_value, object_of-zip, places_within}
+use Rattle.corpus_json.proofs.Objects.{with_value, object_of-zip, indexes_within}
 use Rattle.corpus_json.proofs.Sections.{All-unmap}
 
 -- two functions that agree where P holds
@@ -32,30 +32,30 @@ map_where : {X Y : Type 0} (P : X → Type 0) (f g : X → Y) → ((x : X) → P
 map_where P f g same [] all = refl
 map_where P f g same (x ∷ xs) all = λ i. same x (All-head P x xs all) i ∷ map_where P f g same xs (All-tail P x xs all) i
 
-value_placed : (document : Doc) (row : List Datum) (place : Place) → with_value (map (value_data document) row) place ≡ placed document row place
-value_placed document row place = λ i. (place.0, get_or-map (value_data document) row place.1 null i)
+value_placed : (document : Doc) (row : List Datum) (index : NameIndex) → with_value (map (value_data document) row) index ≡ placed document row index
+value_placed document row index = λ i. (index.0, get_or-map (value_data document) row index.1 null i)
 
 -- a row with a value for each column
-row_placed : (document : Doc) (columns : List (List ℕ)) (row : List Datum) → length row ≡ length columns → row_data document columns row ≡ row_listed document (places_of columns) row
+row_placed : (document : Doc) (columns : List (List ℕ)) (row : List Datum) → length row ≡ length columns → row_data document columns row ≡ row_listed document (name_indexes columns) row
 unfolding row_data
 row_placed document columns row fits =
     object_of-zip columns (map (value_data document) row) (sym fits ∙ sym (length-map row (value_data document)))
-    ∙ λ i. object (listed (map (λ place. value_placed document row place i) (places_of columns)))
+    ∙ λ i. object (listed (map (λ index. value_placed document row index i) (name_indexes columns)))
 
 -- an output's rows
 pub rows_placed : (document : Doc) (output : OutputNames) (rows : List (List Datum)) → All (λ row. length row ≡ length output.columns) rows
-    → rows_data document output rows ≡ array_of (map (row_listed document (places_of output.columns)) (sorted rows))
+    → rows_data document output rows ≡ array_of (map (row_listed document (name_indexes output.columns)) (sorted rows))
 unfolding rows_data
 rows_placed document output rows fit =
-    ap array_of (map_where (λ row. length row ≡ length output.columns) (row_data document output.columns) (row_listed document (places_of output.columns)) (row_placed document output.columns) (sorted rows)
+    ap array_of (map_where (λ row. length row ≡ length output.columns) (row_data document output.columns) (row_listed document (name_indexes output.columns)) (row_placed document output.columns) (sorted rows)
     (All-permutation (λ row. length row ≡ length output.columns) rows (sorted rows) (SameBag-sorted rows) fit))
 
 -- their tokens, from the columns that stand by their names
-pub list_tokens : (document : Doc) (output : OutputNames) (columns : List Named) (rows : List (List Datum)) → map place_of columns ≡ places_of output.columns → All (λ row. length row ≡ length output.columns) rows
-    → json_tokens (outline (rows_data document output rows)) ≡ begin_array ∷ array_tokens (map (row_listed document (map place_of columns)) (sorted rows))
+pub list_tokens : (document : Doc) (output : OutputNames) (columns : List Named) (rows : List (List Datum)) → map name_index columns ≡ name_indexes output.columns → All (λ row. length row ≡ length output.columns) rows
+    → json_tokens (outline (rows_data document output rows)) ≡ begin_array ∷ array_tokens (map (row_listed document (map name_index columns)) (sorted rows))
 unfolding array_tokens
 list_tokens document output columns rows are fit =
-    ap (λ d. json_tokens (outline d)) (rows_placed document output rows fit) ∙ ap (λ (places : List Place). begin_array ∷ array_tokens (map (row_listed document places) (sorted rows))) (sym are)
+    ap (λ d. json_tokens (outline d)) (rows_placed document output rows fit) ∙ ap (λ (indexes : List NameIndex). begin_array ∷ array_tokens (map (row_listed document indexes) (sorted rows))) (sym are)
 
 -- ---- the outputs by their names
 
@@ -76,14 +76,14 @@ lists_length document [] rows same = refl
 lists_length document (output ∷ outputs) [] same = absurd (omega arith)
 lists_length document (output ∷ outputs) (list ∷ rows) same = ap suc (lists_length document outputs rows (omega arith))
 
-section_placed : (document : Doc) (outputs : List OutputNames) (rows : List (List (List Datum))) → length rows ≡ length outputs → (place : Place) → place.1 < length outputs
-    → with_value (map (list_of document) (zip outputs rows)) place ≡ section_pair document rows (section_at outputs place)
-section_placed document outputs rows same place within =
+section_placed : (document : Doc) (outputs : List OutputNames) (rows : List (List (List Datum))) → length rows ≡ length outputs → (index : NameIndex) → index.1 < length outputs
+    → with_value (map (list_of document) (zip outputs rows)) index ≡ section_pair document rows (section_at outputs index)
+section_placed document outputs rows same index within =
     let none : OutputNames × List (List Datum) = (record { name = []; columns = [] }, []) in
-    let there : place.1 < length (zip outputs rows) = rw (length-zip outputs rows) (omega arith) in
-    let found : get_or (map (list_of document) (zip outputs rows)) place.1 serde.null ≡ rows_data document (output_at outputs place.1) (get_or rows place.1 []) =
-    lists.get_or-map (list_of document) (zip outputs rows) place.1 none serde.null there ∙ ap (list_of document) (get_or-zip outputs rows place.1 none within (omega arith)) in
-    λ i. (place.0, found i)
+    let there : index.1 < length (zip outputs rows) = rw (length-zip outputs rows) (omega arith) in
+    let found : get_or (map (list_of document) (zip outputs rows)) index.1 serde.null ≡ rows_data document (output_at outputs index.1) (get_or rows index.1 []) =
+    lists.get_or-map (list_of document) (zip outputs rows) index.1 none serde.null there ∙ ap (list_of document) (get_or-zip outputs rows index.1 none within (omega arith)) in
+    λ i. (index.0, found i)
 
 -- the views as their members stand
 pub views_placed : (document : Doc) (outputs : List OutputNames) (rows : List (List (List Datum))) → length rows ≡ length outputs → views_data document outputs rows ≡ object (views_listed document rows (sections_of outputs))
@@ -91,38 +91,38 @@ unfolding views_data sections_of
 views_placed document outputs rows same =
     let names = output_names outputs in
     let lists = map (list_of document) (zip outputs rows) in
-    let all : All (λ (place : Place). place.1 < length outputs) (places_of names) =
-    All-unmap (λ place. place < length outputs) (λ (place : Place). place.1) (places_of names) (subst (λ n. All (λ place. place < n) (map (λ (p : Place). p.1) (places_of names))) (length-map outputs (λ output. output.name)) (places_within names)) in
+    let all : All (λ (index : NameIndex). index.1 < length outputs) (name_indexes names) =
+    All-unmap (λ index. index < length outputs) (λ (index : NameIndex). index.1) (name_indexes names) (subst (λ n. All (λ index. index < n) (map (λ (p : NameIndex). p.1) (name_indexes names))) (length-map outputs (λ output. output.name)) (indexes_within names)) in
     ap object_of (pairs_of document outputs rows same) ∙ object_of-zip names lists (lists_length document outputs rows same)
     ∙ ap (λ pairs. object (listed pairs))
-    (map_where (λ (place : Place). place.1 < length outputs) (with_value lists) (λ place. section_pair document rows (section_at outputs place)) (section_placed document outputs rows same) (places_of names) all
-    ∙ sym (map-map (section_pair document rows) (section_at outputs) (places_of names)))
+    (map_where (λ (index : NameIndex). index.1 < length outputs) (with_value lists) (λ index. section_pair document rows (section_at outputs index)) (section_placed document outputs rows same) (name_indexes names) all
+    ∙ sym (map-map (section_pair document rows) (section_at outputs) (name_indexes names)))
 
 -- ---- each output has its rows
 
 abbrev HasRowsAt : List ℕ → Section → Type 0
-HasRowsAt widths section = (section.place < length widths) × (get_or widths section.place 0 ≡ length section.output.columns)
+HasRowsAt widths section = (section.index < length widths) × (get_or widths section.index 0 ≡ length section.output.columns)
 
 -- as many lists of rows as outputs
 pub lists_same : (outputs : List OutputNames) (widths : List ℕ) → widths ≡ map (λ output. length output.columns) outputs → length widths ≡ length outputs
 lists_same outputs widths are = ap length are ∙ length-map outputs (λ output. length output.columns)
 
-rows_at : (outputs : List OutputNames) (widths : List ℕ) → widths ≡ map (λ output. length output.columns) outputs → (place : Place) → place.1 < length outputs → HasRowsAt widths (section_at outputs place)
-rows_at outputs widths are place within = (
-  subst (λ n. place.1 < n) (sym (lists_same outputs widths are)) within,
-  ap (λ ns. get_or ns place.1 0) are
-      ∙ get_or-map (λ (output : OutputNames). length output.columns) outputs place.1 (record { name = []; columns = [] }),
+rows_at : (outputs : List OutputNames) (widths : List ℕ) → widths ≡ map (λ output. length output.columns) outputs → (index : NameIndex) → index.1 < length outputs → HasRowsAt widths (section_at outputs index)
+rows_at outputs widths are index within = (
+  subst (λ n. index.1 < n) (sym (lists_same outputs widths are)) within,
+  ap (λ ns. get_or ns index.1 0) are
+      ∙ get_or-map (λ (output : OutputNames). length output.columns) outputs index.1 (record { name = []; columns = [] }),
 )
 
 pub has_rows : (outputs : List OutputNames) (widths : List ℕ) (members : List Member) → widths ≡ map (λ output. length output.columns) outputs → map section_of members ≡ sections_of outputs → All (HasRows widths) members
 unfolding sections_of
 has_rows outputs widths members same are =
     let names = output_names outputs in
-    let all : All (λ (place : Place). place.1 < length outputs) (places_of names) =
-    All-unmap (λ place. place < length outputs) (λ (place : Place). place.1) (places_of names) (subst (λ n. All (λ place. place < n) (map (λ (p : Place). p.1) (places_of names))) (length-map outputs (λ output. output.name)) (places_within names)) in
+    let all : All (λ (index : NameIndex). index.1 < length outputs) (name_indexes names) =
+    All-unmap (λ index. index < length outputs) (λ (index : NameIndex). index.1) (name_indexes names) (subst (λ n. All (λ index. index < n) (map (λ (p : NameIndex). p.1) (name_indexes names))) (length-map outputs (λ output. output.name)) (indexes_within names)) in
     let each = All-unmap (HasRowsAt widths) section_of members (subst (All (HasRowsAt widths)) (sym are)
-    (All-map (HasRowsAt widths) (section_at outputs) (places_of names) (All-weaker (λ (place : Place). place.1 < length outputs) (λ place. HasRowsAt widths (section_at outputs place)) (rows_at outputs widths same) (places_of names) all))) in
-    λ k d within. let one = each k d within in record { place = one.0; width = one.1 }
+    (All-map (HasRowsAt widths) (section_at outputs) (name_indexes names) (All-weaker (λ (index : NameIndex). index.1 < length outputs) (λ index. HasRowsAt widths (section_at outputs index)) (rows_at outputs widths same) (name_indexes names) all))) in
+    λ k d within. let one = each k d within in record { index = one.0; width = one.1 }
 
 -- ---- the line
 

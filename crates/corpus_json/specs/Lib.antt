@@ -18,7 +18,7 @@ pub mod Inputs
 -- output lines
 pub mod Outputs
 -- how an output line is written
-pub mod Places
+pub mod NameIndexes
 pub mod Sections
 pub mod Writing
 -- ---- laws for the crates above

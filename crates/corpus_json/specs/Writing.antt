@@ -9,7 +9,7 @@ use Rattle.serde_json.specs.View.{items_of}
 use Rattle.span_token.specs.Documents.{Doc}
 use Rattle.row_values.specs.Datums.{Datum, null}
 use Rattle.corpus_json.specs.Outputs.{value_data, rows_data}
-use Rattle.corpus_json.specs.Places.{Place}
+use Rattle.corpus_json.specs.NameIndexes.{NameIndex}
 use Rattle.corpus_json.specs.Sections.{Section}
 
 -- on success the tokens are written after those that stood there
@@ -23,26 +23,26 @@ listed [] = no_members
 listed (pair ∷ pairs) = member pair.0 pair.1 (listed pairs)
 
 -- a row's values under the names of their columns, as the columns stand
-abbrev pub placed : Doc → List Datum → Place → List ℕ × Data
-placed document row (name, place) = (name, value_data document (slice_index_or row place null))
+abbrev pub placed : Doc → List Datum → NameIndex → List ℕ × Data
+placed document row (name, index) = (name, value_data document (slice_index_or row index null))
 
-abbrev pub row_members : Doc → List Place → List Datum → Members
+abbrev pub row_members : Doc → List NameIndex → List Datum → Members
 row_members document columns row = listed (map (placed document row) columns)
 
 -- their tokens, with the closing brace
-unfoldable pub row_tokens : Doc → List Place → List Datum → List Token
+unfoldable pub row_tokens : Doc → List NameIndex → List Datum → List Token
 row_tokens document columns row = members_tokens (members_outline (row_members document columns row))
 
 -- the tokens of the values of an array, with the closing bracket
 unfoldable pub array_tokens : List Data → List Token
 array_tokens values = items_tokens (items_outline (items_of values))
 
-abbrev pub row_listed : Doc → List Place → List Datum → Data
+abbrev pub row_listed : Doc → List NameIndex → List Datum → Data
 row_listed document columns row = object (row_members document columns row)
 
 -- an output's rows under its name
 abbrev pub section_pair : Doc → List (List (List Datum)) → Section → List ℕ × Data
-section_pair document rows section = (section.name, rows_data document section.output (slice_index_or rows section.place []))
+section_pair document rows section = (section.name, rows_data document section.output (slice_index_or rows section.index []))
 
 abbrev pub views_listed : Doc → List (List (List Datum)) → List Section → Members
 views_listed document rows sections = listed (map (section_pair document rows) sections)

@@ -1,5 +1,5 @@
 ghost use Rattle.std.specs.Prelude.{◌≡◌, ◌<◌, All, IfOk, length, map};
-ghost use Rattle.corpus_json.specs.Places.{place_of};
+ghost use Rattle.corpus_json.specs.NameIndexes.{name_index};
 ghost use Rattle.corpus_json.specs.Sections.{section_of, section_at, sections_of};
 
 use super::member::{Member, member_at};
@@ -38,8 +38,8 @@ impl<'p> Layout<'p> {
         ensures { IfOk result (λ layout. layout ≡ outputs.now) }
     {
         let names = output_names(alloc, outputs)?;
-        let places = in_order(alloc, names.as_slice())?;
-        let members = members(alloc, outputs, places.as_slice())?;
+        let indexes = in_order(alloc, names.as_slice())?;
+        let members = members(alloc, outputs, indexes.as_slice())?;
         Ok(Layout { outputs, members })
     }
 
@@ -62,18 +62,18 @@ fn output_names<'p>(alloc: Global, outputs: &'p [Output]) -> Result<Vec<&'p str>
     Ok(names)
 }
 
-/// The outputs at the places.
+/// The outputs at the indexes.
 fn members<'p>(
     alloc: Global,
     outputs: &'p [Output],
-    places: &[Named<'p>],
+    indexes: &[Named<'p>],
 ) -> Result<Vec<Member<'p>>, OutOfMemory>
-    requires within { All (λ named. named.place < length outputs.now) places.now }
-    ensures { IfOk result (λ members. map section_of members.items ≡ map (section_at outputs.now) (map place_of places.now)) }
+    requires within { All (λ named. named.index < length outputs.now) indexes.now }
+    ensures { IfOk result (λ members. map section_of members.items ≡ map (section_at outputs.now) (map name_index indexes.now)) }
 {
     let mut members = Vec::new(alloc);
-    'places: for named in places {
-        members.push(member_at(alloc, *named, &outputs[named.place])?)?;
+    'indexes: for named in indexes {
+        members.push(member_at(alloc, *named, &outputs[named.index])?)?;
     }
     Ok(members)
 }

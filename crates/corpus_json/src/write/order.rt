@@ -1,39 +1,39 @@
 ghost use Rattle.std.specs.Prelude.{◌≡◌, ◌<◌, All, IfOk, length, map};
-ghost use Rattle.corpus_json.specs.Places.{entry_place, place_of, places_of};
+ghost use Rattle.corpus_json.specs.NameIndexes.{entry_index, name_index, name_indexes};
 
 use span_token::OutOfMemory;
 use std::alloc::Global;
 use std::collections::BTreeMap;
 
-/// A name, with its place among the names that were given.
+/// A name, with its index among the names that were given.
 #[derive(Clone, Copy, Drop)]
 pub(crate) struct Named<'p> {
     pub(crate) name: &'p str,
-    pub(crate) place: usize,
+    pub(crate) index: usize,
 }
 
 /// The names in the order of their bytes.
 pub(crate) fn in_order<'p>(alloc: Global, names: &[&'p str]) -> Result<Vec<Named<'p>>, OutOfMemory>
-    ensures order { IfOk result (λ list. map place_of list.items ≡ places_of (map (λ name. name.now) names.now)) }
-    ensures within { IfOk result (λ list. All (λ named. named.place < length names.now) list.items) }
+    ensures order { IfOk result (λ list. map name_index list.items ≡ name_indexes (map (λ name. name.now) names.now)) }
+    ensures within { IfOk result (λ list. All (λ named. named.index < length names.now) list.items) }
 {
-    let mut places = BTreeMap::new(alloc);
-    'names: for (place, name) in names.iter().enumerate() {
-        places.insert(*name, place)?;
+    let mut indexes = BTreeMap::new(alloc);
+    'names: for (index, name) in names.iter().enumerate() {
+        indexes.insert(*name, index)?;
     }
-    let list = listed(alloc, places)?;
+    let list = listed(alloc, indexes)?;
     Ok(list)
 }
 
 fn listed<'p>(
     alloc: Global,
-    places: BTreeMap<&'p str, usize>,
+    indexes: BTreeMap<&'p str, usize>,
 ) -> Result<Vec<Named<'p>>, OutOfMemory>
-    ensures { IfOk result (λ list. map place_of list.items ≡ map entry_place places.entry.entries) }
+    ensures { IfOk result (λ list. map name_index list.items ≡ map entry_index indexes.entry.entries) }
 {
     let mut list = Vec::new(alloc);
-    'places: for (name, place) in places {
-        list.push(Named { name, place })?;
+    'indexes: for (name, index) in indexes {
+        list.push(Named { name, index })?;
     }
     Ok(list)
 }

@@ -2,7 +2,7 @@ ghost use Rattle.std.specs.Prelude.{◌≡◌, ◌++◌, ◌∷◌, All, length,
 ghost use Rattle.json.specs.Token.{begin_object};
 ghost use Rattle.row_values.specs.Datums.{IsOfDocument, datum_of};
 ghost use Rattle.row_values.specs.Rows.{RowsLieIn};
-ghost use Rattle.corpus_json.specs.Places.{place_of};
+ghost use Rattle.corpus_json.specs.NameIndexes.{name_index};
 ghost use Rattle.corpus_json.specs.Sections.{HasColumns};
 ghost use Rattle.corpus_json.specs.Writing.{Adds, row_tokens, row_listed, array_tokens};
 
@@ -22,12 +22,12 @@ pub(crate) fn write_row(
 ) -> Result<(), OutOfMemory>
     requires columns { HasColumns columns.now (length row.now) }
     requires in_document { All (λ value. IsOfDocument document.now (datum_of value)) row.now }
-    ensures { Adds result out.old out.new (begin_object ∷ row_tokens document.now (map place_of columns.now) (map datum_of row.now)) }
+    ensures { Adds result out.old out.new (begin_object ∷ row_tokens document.now (map name_index columns.now) (map datum_of row.now)) }
 {
     out.begin_object()?;
     'columns: for column in columns {
         out.key(column.name)?;
-        write_value(out, document, row[column.place])?;
+        write_value(out, document, row[column.index])?;
     }
     out.end_object()?;
     Ok(())
@@ -43,7 +43,7 @@ pub(crate) fn write_rows(
 ) -> Result<(), OutOfMemory>
     requires columns { All (λ row. HasColumns columns.now (length row)) rows.now }
     requires in_document { RowsLieIn document.now rows.now }
-    ensures { Adds result out.old out.new (array_tokens (map (row_listed document.now (map place_of columns.now)) rows.now)) }
+    ensures { Adds result out.old out.new (array_tokens (map (row_listed document.now (map name_index columns.now)) rows.now)) }
 {
     'rows: for row in rows {
         write_row(out, document, columns, row.values())?;
@@ -62,7 +62,7 @@ pub(crate) fn write_row_references(
 ) -> Result<(), OutOfMemory>
     requires columns { All (λ row. HasColumns columns.now (length row.now)) rows.now }
     requires in_document { All (λ row. All (IsOfDocument document.now) row.now) rows.now }
-    ensures { Adds result out.old out.new (array_tokens (map (row_listed document.now (map place_of columns.now)) (map (λ row. row.now) rows.now))) }
+    ensures { Adds result out.old out.new (array_tokens (map (row_listed document.now (map name_index columns.now)) (map (λ row. row.now) rows.now))) }
 {
     'rows: for row in rows {
         write_row(out, document, columns, row.values())?;

@@ -4,7 +4,7 @@ ghost use Rattle.json.specs.Tree.{json_tokens};
 ghost use Rattle.serde_json.specs.Written.{outline};
 ghost use Rattle.row_values.specs.Rows.{RowList, RowsLieIn, sorted};
 ghost use Rattle.corpus_json.specs.Outputs.{rows_data, rows_of, width_of};
-ghost use Rattle.corpus_json.specs.Places.{place_of};
+ghost use Rattle.corpus_json.specs.NameIndexes.{name_index};
 ghost use Rattle.corpus_json.specs.Sections.{section_of, HasColumns, HasRows};
 ghost use Rattle.corpus_json.specs.Writing.{Adds, array_tokens, row_listed, views_tokens};
 
@@ -31,7 +31,7 @@ pub(crate) fn write_views(
 {
     'members: for member in members {
         out.key(member.name)?;
-        write_list(alloc, out, document, member, rows[member.place])?;
+        write_list(alloc, out, document, member, rows[member.index])?;
     }
     out.end_object()?;
     Ok(())
@@ -66,7 +66,7 @@ fn write_in_order(
 ) -> Result<(), OutOfMemory>
     requires columns { HasColumns columns.now rows.now.width }
     requires in_document { RowsLieIn document.now rows.now.rows }
-    ensures { Adds result out.old out.new (array_tokens (map (row_listed document.now (map place_of columns.now)) (sorted rows.now.rows))) }
+    ensures { Adds result out.old out.new (array_tokens (map (row_listed document.now (map name_index columns.now)) (sorted rows.now.rows))) }
 {
     let _width = rows.width();
     if is_in_order(rows) {
@@ -86,7 +86,7 @@ fn write_sorted(
 ) -> Result<(), OutOfMemory>
     requires columns { HasColumns columns.now rows.now.width }
     requires in_document { RowsLieIn document.now rows.now.rows }
-    ensures { Adds result out.old out.new (array_tokens (map (row_listed document.now (map place_of columns.now)) (sorted rows.now.rows))) }
+    ensures { Adds result out.old out.new (array_tokens (map (row_listed document.now (map name_index columns.now)) (sorted rows.now.rows))) }
 {
     let _width = rows.width();
     let sorted = rows.sorted(alloc)?;

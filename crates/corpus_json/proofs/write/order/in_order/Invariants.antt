@@ -1,7 +1,7 @@
 use Rattle.std.proofs.Common.{◌≡◌, map, drop}
-use Rattle.corpus_json.specs.Places.{entry_place, places_of}
-use Rattle.corpus_json.proofs.PlacesLemmas.{with_rest}
+use Rattle.corpus_json.specs.NameIndexes.{entry_index, name_indexes}
+use Rattle.corpus_json.proofs.NameIndexLemmas.{with_rest}
 use Rattle.corpus_json.proofs.write.order.in_order.Given as goal
 
 abbrev pub invariant-names : goal.invariant-names
-invariant-names l = with_rest (map entry_place l.places.entries) l.place (drop l.place (map (λ name. name.now) l.fn.names)) ≡ places_of (map (λ name. name.now) l.fn.names)
+invariant-names l = with_rest (map entry_index l.indexes.entries) l.index (drop l.index (map (λ name. name.now) l.fn.names)) ≡ name_indexes (map (λ name. name.now) l.fn.names)
