@@ -1,5 +1,5 @@
 -- A plan that a program was lowered to gives the lines that the program means.
-use Rattle.std.proofs.Common.{◌≡◌, ◌++◌, ℕ, List, [], ◌∷◌, map, refl, sym, ap, ap₂, ◌∙◌}
+use Rattle.std.proofs.Common.{◌≡◌, ◌++◌, ℕ, List, [], ◌∷◌, map, refl, ap, ap₂, ◌∙◌}
 use Rattle.std.specs.List.{AllZip, zip}
 use Rattle.aql_base.specs.Bags.{SameBag}
 use Rattle.span_token.specs.Documents.{Doc}
@@ -12,13 +12,13 @@ use Rattle.serde_json.specs.Written.{compact_text}
 use Rattle.std.specs.Prelude.{codes}
 use Rattle.aql_typed.specs.declared.tree.Output.{Output}
 use Rattle.aql_typed.specs.Meaning.{output_rows}
-use Rattle.plan_maker.specs.Lowered.{names_of}
+use Rattle.aql_typed.specs.Programs.{names_of}
 use Rattle.aql_typed.specs.Views.{body_of}
 use Rattle.algebra.specs.declared.output.PlanOut.{PlanOut}
 use Rattle.algebra.specs.Plans.{Parts}
 use Rattle.algebra.specs.Values.{val}
 use Rattle.plan_maker.specs.Lowered.{ShowsOutput, IsLowered}
-use Rattle.aqlx_top.specs.Planned.{names_in, rows_by, line_by}
+use Rattle.aqlx_top.specs.Planned.{rows_by, line_by}
 use Rattle.aqlx_top.specs.Run.{Typed, program_of, line_of}
 
 -- lists that are the same bags, one by one

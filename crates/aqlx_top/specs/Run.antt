@@ -9,7 +9,7 @@ use Rattle.aql_typed.specs.declared.tree.TypedView.{TypedView}
 use Rattle.aql_typed.specs.declared.tree.Output.{Output}
 use Rattle.aql_typed.specs.Trees.{Query}
 use Rattle.aql_typed.specs.Views.{body_of}
-use Rattle.plan_maker.specs.Lowered.{names_of}
+use Rattle.aql_typed.specs.Programs.{names_of}
 use Rattle.aql_typed.specs.Meaning.{output_rows}
 use Rattle.aqlx_top.specs.declared.status.Status.{Status}
 use Rattle.aqlx_top.specs.Devices.{SourceEnds, SinkEnds}
