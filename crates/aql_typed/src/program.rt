@@ -10,8 +10,9 @@ use std::marker::Model;
 /// A program without a fault: its views, each standing on those before it, its patterns and dictionaries,
 /// and its outputs.
 ///
-/// Contracts see the three. The rows of a view have as many values as it has columns; no two columns of a
-/// view and no two outputs have one name, and each output names a view or the document.
+/// Contracts see the three. The rows of a view have as many values as it has columns, and every column that
+/// an expression or an extraction reads is there; no two columns of a view and no two outputs have one name,
+/// and each output names a view or the document.
 #[derive(Drop)]
 pub struct Typed {
     views: Vec<TypedView>,
