@@ -74,4 +74,15 @@ impl Typed {
     {
         self.outputs.as_slice()
     }
+
+    /// The views, the tables and the outputs, handed over.
+    pub fn into_parts(self) -> (Vec<TypedView>, Tables, Vec<Output>)
+        ensures views { result.0.items ≡ self.0 }
+        ensures tables { result.1 ≡ self.1.0 }
+        ensures outputs { result.2.items ≡ self.1.1 }
+        ensures valid_views { AreTypedViews self.0 }
+        ensures valid_outputs { AreTypedOutputs (length self.0) self.1.1 }
+    {
+        (self.views, self.tables, self.outputs)
+    }
 }
