@@ -1,14 +1,17 @@
 -- Nodes that give rows: kind by kind, when a node may be put, and what it gives then.
 use Rattle.std.proofs.Common.{◌≡◌, ◌∙◌, ℕ, ℤ, ◌+◌, ◌-◌, ◌<◌, ◌≤◌, Bool, List, [], ◌∷◌, ◌++◌, length, map, get_or, refl, sym, ap, subst, arith, Option, Some, None, flat_map}
-use Rattle.std.specs.List.{All}
+use Rattle.std.specs.List.{All, range_with_len}
+use Rattle.std.proofs.lemmas.List.FromFn.{length-range_with_len}
 use Rattle.std.specs.Prelude.{slice_get}
 use Rattle.std.proofs.lemmas.List.Sorted.{All-permutation}
 use Rattle.aql_base.specs.Bags.{SameBag}
-use Rattle.aql_base.specs.BagLaws.{SameBag-is}
+use Rattle.aql_base.specs.BagLaws.{SameBag-is, SameBag-sym, SameBag-trans}
 use Rattle.span_token.specs.Documents.{Doc as Document}
 use Rattle.span_sets.specs.declared.policy.Policy.{Policy}
 use Rattle.group_agg.specs.declared.agg.Agg.{Agg}
 use Rattle.group_agg.specs.Groups.{HasKey, HasColumn, grouped}
+use Rattle.group_agg.specs.Limits.{limited}
+use Rattle.row_values.specs.SortedRows.{SameBag-sorted}
 use Rattle.row_values.specs.Rows.{sorted, product, minus as without}
 use Rattle.scalar_ops.specs.Expressions.{Term, ReadsBelow}
 use Rattle.scalar_ops.specs.Extractions.{of_some}
@@ -28,6 +31,7 @@ use Rattle.algebra.specs.Shapes.{columns, document_shape, no_shape, shapes_of}
 use Rattle.algebra.specs.Values.{val}
 use Rattle.algebra.specs.WidthLaws.{AreWide, val-wide}
 use Rattle.plan_maker.specs.Grounds.{Gives}
+use Rattle.plan_maker.proofs.Numbers.{numbers_below}
 
 -- ---- what is given stays so
 
@@ -187,6 +191,31 @@ module _ (old : List Node) (i w : ℕ) (f : Lists → Document → Rows) (gives 
       where
         one_of : (lists : Lists) (doc : Document) → of_some (λ d. with_found lists doc (dict column d) (f lists doc)) (slice_get dicts 0) ≡ with_found lists doc (dict column number) (f lists doc)
         one_of lists doc = ap (λ (ds : List ℕ). of_some (λ d. with_found lists doc (dict column d) (f lists doc)) (slice_get ds 0)) single
+
+-- ---- groups over columns that are numbered, and no row
+
+module _ (old : List Node) (i w : ℕ) (f : Lists → Document → Rows) (gives : Gives old i w f) (n : ℕ) (keys : List ℕ) (aggs seen : List Agg) (are : keys ≡ range_with_len 0 n) (same : aggs ≡ seen) where
+  pub group-valid : n ≤ w → All (HasKey n) seen → All (HasColumn w) seen → IsNode (shapes_of old) (Group i keys aggs)
+  group-valid enough has_key has_column =
+      valid-group old i w f gives keys aggs
+      (subst (All (λ key. key < w)) (sym are) (numbers_below n w enough))
+      (subst (λ (k : ℕ). All (HasKey k) aggs) (sym (ap length are ∙ length-range_with_len 0 n)) (subst (All (HasKey n)) (sym same) has_key))
+      (subst (All (HasColumn w)) (sym same) has_column)
+
+  pub group-gives : (new : List Node) (m : ℕ) → Stands old new m (Group i keys aggs) → Gives new m (length seen) (λ lists doc. sorted (grouped (range_with_len 0 n) seen (f lists doc)))
+  group-gives new m stands =
+      subst (λ (ks : List ℕ). Gives new m (length seen) (λ lists doc. sorted (grouped ks seen (f lists doc)))) are
+      (subst (λ (xs : List Agg). Gives new m (length xs) (λ lists doc. sorted (grouped keys xs (f lists doc)))) same (gives-group old i w f gives keys aggs new m stands))
+
+limited-none : limited [] (Some 0) ([] ∷ []) ≡ []
+unfolding limited
+limited-none = refl
+
+-- no row is left where none may stay
+pub no-rows : SameBag (cut [] (Some 0) ([] ∷ [])) []
+no-rows =
+    SameBag-trans _ _ _ (SameBag-sym (limited [] (Some 0) ([] ∷ [])) (sorted (limited [] (Some 0) ([] ∷ []))) (SameBag-sorted (limited [] (Some 0) ([] ∷ []))))
+    (SameBag-is _ _ limited-none)
 
 -- ---- two inputs
 

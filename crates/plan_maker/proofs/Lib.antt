@@ -12,3 +12,5 @@ pub mod Bases
 pub mod Numbers
 -- conditions that are taken apart
 pub mod Parting
+-- selections and extractions, one node after another
+pub mod Clauses

@@ -72,9 +72,18 @@ fn extracted(
             })?;
             Ok(n)
         }
-        Extraction::Regex { .. } => each_extracted(alloc, nodes, input, clauses),
-        Extraction::TokenRegex { .. } => each_extracted(alloc, nodes, input, clauses),
-        Extraction::Dict { .. } => each_extracted(alloc, nodes, input, clauses),
+        Extraction::Regex { .. } => {
+            let n = each_extracted(alloc, nodes, input, clauses)?;
+            Ok(n)
+        }
+        Extraction::TokenRegex { .. } => {
+            let n = each_extracted(alloc, nodes, input, clauses)?;
+            Ok(n)
+        }
+        Extraction::Dict { .. } => {
+            let n = each_extracted(alloc, nodes, input, clauses)?;
+            Ok(n)
+        }
     }
 }
 
