@@ -18,3 +18,5 @@ pub mod Searching
 pub mod Moving
 -- conditions that are tried early
 pub mod Nesting
+-- `And` and the conditions that it joins
+pub mod Parting
