@@ -1,12 +1,12 @@
 -- Events on a board: when each is legal, and what it does.
-use Rattle.std.specs.Prelude.{ℕ, ◌≡◌, List, Option, Some, None, IsSome, set}
+use Rattle.std.specs.Prelude.{ℕ, ◌≡◌, List, Option, Some, None, IsSome, set, slice_index_or}
 use Rattle.aql_base.specs.Bags.{SameBag}
 use Rattle.row_values.specs.Rows.{RowList}
 use Rattle.algebra.specs.Inputs.{left_input, right_input}
 use Rattle.algebra.specs.Operators.{op}
 use Rattle.run_core.specs.declared.event.Event.{Event}
 use Rattle.run_core.specs.declared.event.Event.TheVariants.{Claim, Publish, Late}
-use Rattle.run_core.specs.Boards.{Standing, State, Place, standing, published_on}
+use Rattle.run_core.specs.Boards.{Standing, State, Place, untouched, standing, published_on}
 use Rattle.run_core.specs.Wanted.{given, IsWanted, IsReady}
 
 -- an item may be claimed where it is wanted, ready and unclaimed
@@ -34,12 +34,18 @@ IsLegal board (Publish worker item) (Some rows) = MayPublish board item rows
 IsLegal board (Late worker item) None = IsSome (standing board item).rows
 IsLegal board event rows = ⊥
 
--- how the items stand after an event: a Claim sets the claim, a Publish the rows, and a Late one changes nothing
-abbrev pub items_after : State → Event → Option RowList → List Standing
-items_after board (Claim worker item) rows = set board.items item (record (standing board item) { claim = Some worker })
-items_after board (Publish worker item) rows = set board.items item (record (standing board item) { rows = rows })
-items_after board (Late worker item) rows = board.items
+-- the item of an event
+abbrev pub item_of : Event → ℕ
+item_of (Claim worker item) = item
+item_of (Publish worker item) = item
+item_of (Late worker item) = item
+
+-- how items stand after an event: a Claim sets the claim, a Publish the rows, and a Late one changes nothing
+abbrev pub items_after : List Standing → Event → Option RowList → List Standing
+items_after items (Claim worker item) rows = set items item (record (slice_index_or items item untouched) { claim = Some worker })
+items_after items (Publish worker item) rows = set items item (record (slice_index_or items item untouched) { rows = rows })
+items_after items (Late worker item) rows = items
 
 -- the board after an event
 abbrev pub after : State → Event → Option RowList → State
-after board event rows = record board { items = items_after board event rows }
+after board event rows = record board { items = items_after board.items event rows }

@@ -2,7 +2,6 @@
 use Rattle.std.proofs.Common.{◌≡◌, ◌≢◌, ◌⊎◌, inl, inr, ℕ, ◌+◌, ◌*◌, ◌<◌, eqb, Bool, true, false, if◌then◌else◌, List, [], ◌∷◌, ◌++◌, length, get_or, refl, sym, ap, subst, ◌∙◌, arith, Option, Some, None, true≢false}
 use Rattle.std.specs.Prelude.{IsSome, IsSomeAnd, All, option_to_list, filter_map, slice_get}
 use Rattle.std.specs.List.{AllZip, AllByRecursion, cons_option}
-use Rattle.std.proofs.Math.Option.{some-injective}
 use Rattle.std.proofs.lemmas.Bool.Decides.{eqb_tells}
 use Rattle.std.proofs.lemmas.List.Elements.{recursion_from_All}
 use Rattle.std.proofs.lemmas.List.{append-nil}
@@ -102,35 +101,35 @@ module _ (i : ℕ) where
   chosen_rows : (board : State) (worker item : ℕ) (rows : RowList) → item < length board.items
       → (standing (after board (Publish worker item) (Some rows)) i).rows ≡ (if eqb item i then Some rows else (standing board i).rows)
   chosen_rows board worker item rows below = elim (eqb_tells item i) [
-      | inl same ↦ elim (rows-after_publish board worker item (Some rows) below i) [
-        | inl here ↦ here.1 ∙ sym (ap (λ (b : Bool). if b then Some rows else (standing board i).rows) same.0)
-        | inr there ↦ absurd (there.0 (sym same.1))
-      ]
-      | inr other ↦ elim (rows-after_publish board worker item (Some rows) below i) [
-        | inl here ↦ absurd (other.1 (sym here.0))
-        | inr there ↦ there.1 ∙ sym (ap (λ (b : Bool). if b then Some rows else (standing board i).rows) other.0)
-      ]
+    | inl same ↦ elim (rows-after_publish board worker item (Some rows) below i) [
+      | inl here ↦ here.1 ∙ sym (ap (λ (b : Bool). if b then Some rows else (standing board i).rows) same.0)
+      | inr there ↦ absurd (there.0 (sym same.1))
     ]
+    | inr other ↦ elim (rows-after_publish board worker item (Some rows) below i) [
+      | inl here ↦ absurd (other.1 (sym here.0))
+      | inr there ↦ there.1 ∙ sym (ap (λ (b : Bool). if b then Some rows else (standing board i).rows) other.0)
+    ]
+  ]
 
   chosen_claim : (board : State) (worker item : ℕ) → item < length board.items
       → (standing (after board (Claim worker item) None) i).claim ≡ (if eqb item i then Some worker else (standing board i).claim)
   chosen_claim board worker item below = elim (eqb_tells item i) [
-      | inl same ↦ elim (claim-after_claim board worker item None below i) [
-        | inl here ↦ here.1 ∙ sym (ap (λ (b : Bool). if b then Some worker else (standing board i).claim) same.0)
-        | inr there ↦ absurd (there.0 (sym same.1))
-      ]
-      | inr other ↦ elim (claim-after_claim board worker item None below i) [
-        | inl here ↦ absurd (other.1 (sym here.0))
-        | inr there ↦ there.1 ∙ sym (ap (λ (b : Bool). if b then Some worker else (standing board i).claim) other.0)
-      ]
+    | inl same ↦ elim (claim-after_claim board worker item None below i) [
+      | inl here ↦ here.1 ∙ sym (ap (λ (b : Bool). if b then Some worker else (standing board i).claim) same.0)
+      | inr there ↦ absurd (there.0 (sym same.1))
     ]
+    | inr other ↦ elim (claim-after_claim board worker item None below i) [
+      | inl here ↦ absurd (other.1 (sym here.0))
+      | inr there ↦ there.1 ∙ sym (ap (λ (b : Bool). if b then Some worker else (standing board i).claim) other.0)
+    ]
+  ]
 
   -- where an item is written, it held nothing
   empty_there : {X : Type 0} (board : State) (item : ℕ) (part : Standing → Option X) → part (standing board item) ≡ None → eqb item i ≡ true → part (standing board i) ≡ None
   empty_there board item part none same = elim (eqb_tells item i) [
-      | inl e ↦ ap (λ (k : ℕ). part (standing board k)) (sym e.1) ∙ none
-      | inr other ↦ absurd (true≢false (sym same ∙ other.0))
-    ]
+    | inl e ↦ ap (λ (k : ℕ). part (standing board k)) (sym e.1) ∙ none
+    | inr other ↦ absurd (true≢false (sym same ∙ other.0))
+  ]
 
   rows_once : (board : State) (event : Event) (rows : Option RowList) (rest : List RowList) → IsSized board → IsLegal board event rows
       → option_to_list (standing board i).rows ++ cons_option (rows_in i event rows) rest ≡ option_to_list (standing (after board event rows) i).rows ++ rest
@@ -222,7 +221,13 @@ goes_by : (board : State) (i : ℕ) (place : Place board.plan board.docs i) → 
 goes_by board i place planned holds ready =
     let item = place.d * length board.plan.nodes + ready.n in
     let here : Place board.plan board.docs item = record {
-      d = place.d; n = ready.n; doc = place.doc; node = ready.node; is = refl; doc_is = place.doc_is; node_is = ready.is;
+      d = place.d;
+      n = ready.n;
+      doc = place.doc;
+      node = ready.node;
+      is = refl;
+      doc_is = place.doc_is;
+      node_is = ready.is;
     } in
     record {
       item = item;
@@ -265,7 +270,7 @@ sound-holding board planned valid holds = record {
   claimed = holds.claimed;
   goes_on = goes-on board planned valid holds;
   outputs = λ d doc meant doc_is there are.
-      let below : All (λ (out : PlanOut). out.node < length board.plan.nodes) board.plan.outputs = λ i within. omega (arith, (valid.each i within).there, length-each no_shape shape_by board.plan.nodes) in
+      let below : All (λ (out : PlanOut). out.node < length board.plan.nodes) board.plan.outputs = λ i d within. omega (arith, (valid.each i d within).there, length-each no_shape shape_by board.plan.nodes) in
       shown_all board d doc (agrees-on board d doc holds doc_is).same board.plan.outputs meant
       (recursion_from_All (λ out. out.node < length board.plan.nodes) board.plan.outputs below)
       (recursion_from_All (λ out. IsSome (published_on board d out.node)) board.plan.outputs there) are;

@@ -2,7 +2,6 @@
 use Rattle.std.proofs.Common.{◌≡◌, ℕ, ◌+◌, ◌*◌, ◌/◌, ◌%◌, ◌<◌, ◌≤◌, List, length, get_or, refl, sym, ap, ap₂, subst, ◌∙◌, arith, Option, Some, inl, inr, ◌⊎◌}
 use Rattle.std.specs.Prelude.{slice_get}
 use Rattle.std.proofs.Math.Nat.{mul_comm, div-lt_iff_lt-mul}
-use Rattle.std.proofs.Math.Option.{some-injective}
 use Rattle.std.proofs.lemmas.Bool.{cases_lt}
 use Rattle.std.proofs.lemmas.Nat.{mul-add-lt, div-mul-add, div-add-mod'}
 use Rattle.std.proofs.lemmas.Option.{slice_get_within, slice_get-get_or}
@@ -12,11 +11,21 @@ use Rattle.algebra.specs.declared.node.Node.TheVariants.{Doc}
 use Rattle.algebra.specs.Plans.{Parts}
 use Rattle.run_core.specs.Boards.{Place, item_count}
 
+-- what is there is one
+pub same_some : {X : Type 0} (x y : X) → Some x ≡ Some y → x ≡ y
+same_some x y e = cc
+
 module _ (plan : Parts) (docs : List Document) where
   -- node n on document d has its item
   abbrev pub place_of : (d n : ℕ) (doc : Document) → slice_get docs d ≡ Some doc → n < length plan.nodes → Place plan docs (d * length plan.nodes + n)
   place_of d n doc doc_is below = record {
-    d = d; n = n; doc = doc; node = get_or plan.nodes n Doc; is = refl; doc_is = doc_is; node_is = slice_get-get_or plan.nodes n Doc below;
+    d = d;
+    n = n;
+    doc = doc;
+    node = get_or plan.nodes n Doc;
+    is = refl;
+    doc_is = doc_is;
+    node_is = slice_get-get_or plan.nodes n Doc below;
   }
 
   -- an item with a place is one of the items
@@ -37,10 +46,10 @@ module _ (plan : Parts) (docs : List Document) where
   same-n i j e p q = omega (arith, p.is, q.is, e, ap (λ (d : ℕ). d * length plan.nodes) (same-d i j e p q))
 
   pub same-doc : (i j : ℕ) → i ≡ j → (p : Place plan docs i) (q : Place plan docs j) → p.doc ≡ q.doc
-  same-doc i j e p q = some-injective p.doc q.doc (sym p.doc_is ∙ (ap (λ (d : ℕ). slice_get docs d) (same-d i j e p q) ∙ q.doc_is))
+  same-doc i j e p q = same_some p.doc q.doc (sym p.doc_is ∙ (ap (λ (d : ℕ). slice_get docs d) (same-d i j e p q) ∙ q.doc_is))
 
   pub same-node : (i j : ℕ) → i ≡ j → (p : Place plan docs i) (q : Place plan docs j) → p.node ≡ q.node
-  same-node i j e p q = some-injective p.node q.node (sym p.node_is ∙ (ap (λ (n : ℕ). slice_get plan.nodes n) (same-n i j e p q) ∙ q.node_is))
+  same-node i j e p q = same_some p.node q.node (sym p.node_is ∙ (ap (λ (n : ℕ). slice_get plan.nodes n) (same-n i j e p q) ∙ q.node_is))
 
   -- what is said of an item by its document and node is said at each of its places
   pub at-each : (P : Document → ℕ → Type 0) (i j : ℕ) → i ≡ j → (p : Place plan docs i) (q : Place plan docs j) → P p.doc p.n → P q.doc q.n

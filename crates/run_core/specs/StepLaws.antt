@@ -2,7 +2,6 @@
 -- holds its value.
 use Rattle.std.proofs.Common.{◌≡◌, ◌≢◌, ◌⊎◌, inl, inr, ℕ, ◌+◌, ◌*◌, ◌<◌, ◌≤◌, true, false, List, [], ◌∷◌, length, get_or, set, refl, sym, ap, subst, ◌∙◌, arith, Option, Some, None, true≢false}
 use Rattle.std.specs.Prelude.{IsSome, is_some, slice_get, replicate}
-use Rattle.std.proofs.Math.Option.{some-injective}
 use Rattle.std.proofs.lemmas.Bool.{cases_eq, cases_lt}
 use Rattle.std.proofs.lemmas.List.{length-set, length-replicate, get_or-set_same, get_or-set_other, get_or-replicate, get_or_past}
 use Rattle.std.proofs.lemmas.Option.{none-some, slice_get_within}
@@ -17,8 +16,8 @@ use Rattle.algebra.specs.Values.{val}
 use Rattle.run_core.specs.declared.event.Event.{Event}
 use Rattle.run_core.specs.declared.event.Event.TheVariants.{Claim, Publish, Late}
 use Rattle.run_core.specs.Boards.{Standing, State, Place, untouched, output_nodes, item_count, fresh, standing, published_on}
-use Rattle.run_core.specs.Events.{MayClaim, MayPublish, IsLegal, items_after, after}
-use Rattle.run_core.specs.PlaceLaws.{place_of, place-below, at-each}
+use Rattle.run_core.specs.Events.{MayClaim, MayPublish, IsLegal, item_of, after}
+use Rattle.run_core.specs.PlaceLaws.{same_some, place_of, place-below, at-each}
 use Rattle.run_core.specs.Promises.{IsNeededAt, IsValueAt, Keeps}
 use Rattle.run_core.specs.WantedLaws.{Agrees, wanted-needed, ready-value}
 
@@ -30,38 +29,38 @@ IsSized board = length board.items ≡ item_count board.plan board.docs
 set_cases : (items : List Standing) (i j : ℕ) (put : Standing) → j < length items
     → ((i ≡ j) × (get_or (set items j put) i untouched ≡ put)) ⊎ ((i ≢ j) × (get_or (set items j put) i untouched ≡ get_or items i untouched))
 set_cases items i j put below = elim (cases_eq i j) [
-    | inl e ↦ inl (e, ap (λ (k : ℕ). get_or (set items j put) k untouched) e ∙ get_or-set_same items j put untouched below)
-    | inr other ↦ inr (other, get_or-set_other items j i put untouched other)
-  ]
+  | inl e ↦ inl (e, ap (λ (k : ℕ). get_or (set items j put) k untouched) e ∙ get_or-set_same items j put untouched below)
+  | inr other ↦ inr (other, get_or-set_other items j i put untouched other)
+]
 
 module _ (board : State) (worker item : ℕ) (rows : Option RowList) (below : item < length board.items) where
   -- a claim leaves the rows of all items, and the claims of others
   pub rows-after_claim : (i : ℕ) → (standing (after board (Claim worker item) rows) i).rows ≡ (standing board i).rows
   rows-after_claim i = elim (set_cases board.items i item (record (standing board item) { claim = Some worker }) below) [
-      | inl here ↦ ap (λ (s : Standing). s.rows) here.1 ∙ ap (λ (k : ℕ). (standing board k).rows) (sym here.0)
-      | inr there ↦ ap (λ (s : Standing). s.rows) there.1
-    ]
+    | inl here ↦ ap (λ (s : Standing). s.rows) here.1 ∙ ap (λ (k : ℕ). (standing board k).rows) (sym here.0)
+    | inr there ↦ ap (λ (s : Standing). s.rows) there.1
+  ]
 
   pub claim-after_claim : (i : ℕ) → ((i ≡ item) × ((standing (after board (Claim worker item) rows) i).claim ≡ Some worker))
       ⊎ ((i ≢ item) × ((standing (after board (Claim worker item) rows) i).claim ≡ (standing board i).claim))
   claim-after_claim i = elim (set_cases board.items i item (record (standing board item) { claim = Some worker }) below) [
-      | inl here ↦ inl (here.0, ap (λ (s : Standing). s.claim) here.1)
-      | inr there ↦ inr (there.0, ap (λ (s : Standing). s.claim) there.1)
-    ]
+    | inl here ↦ inl (here.0, ap (λ (s : Standing). s.claim) here.1)
+    | inr there ↦ inr (there.0, ap (λ (s : Standing). s.claim) there.1)
+  ]
 
   -- a publication leaves the claims of all items, and the rows of others
   pub claim-after_publish : (i : ℕ) → (standing (after board (Publish worker item) rows) i).claim ≡ (standing board i).claim
   claim-after_publish i = elim (set_cases board.items i item (record (standing board item) { rows = rows }) below) [
-      | inl here ↦ ap (λ (s : Standing). s.claim) here.1 ∙ ap (λ (k : ℕ). (standing board k).claim) (sym here.0)
-      | inr there ↦ ap (λ (s : Standing). s.claim) there.1
-    ]
+    | inl here ↦ ap (λ (s : Standing). s.claim) here.1 ∙ ap (λ (k : ℕ). (standing board k).claim) (sym here.0)
+    | inr there ↦ ap (λ (s : Standing). s.claim) there.1
+  ]
 
   pub rows-after_publish : (i : ℕ) → ((i ≡ item) × ((standing (after board (Publish worker item) rows) i).rows ≡ rows))
       ⊎ ((i ≢ item) × ((standing (after board (Publish worker item) rows) i).rows ≡ (standing board i).rows))
   rows-after_publish i = elim (set_cases board.items i item (record (standing board item) { rows = rows }) below) [
-      | inl here ↦ inl (here.0, ap (λ (s : Standing). s.rows) here.1)
-      | inr there ↦ inr (there.0, ap (λ (s : Standing). s.rows) there.1)
-    ]
+    | inl here ↦ inl (here.0, ap (λ (s : Standing). s.rows) here.1)
+    | inr there ↦ inr (there.0, ap (λ (s : Standing). s.rows) there.1)
+  ]
 
 -- the item of a legal event is one of the items
 pub claimed-below : (board : State) (item : ℕ) → IsSized board → MayClaim board item → item < length board.items
@@ -72,9 +71,17 @@ published-below board item list sized may = omega (arith, sized, place-below boa
 
 pub there-below : (board : State) (item : ℕ) → IsSome (standing board item).rows → item < length board.items
 there-below board item there = elim (cases_lt item (length board.items)) [
-    | inl below ↦ below
-    | inr past ↦ absurd (true≢false (sym there ∙ ap (λ (s : Standing). is_some s.rows) (get_or_past board.items item untouched past)))
-  ]
+  | inl below ↦ below
+  | inr past ↦ absurd (true≢false (sym there ∙ ap (λ (s : Standing). is_some s.rows) (get_or_past board.items item untouched past)))
+]
+
+pub legal-below : (board : State) (event : Event) (rows : Option RowList) → IsSized board → IsLegal board event rows → item_of event < length board.items
+legal-below board (Claim worker item) None sized may = claimed-below board item sized may
+legal-below board (Claim worker item) (Some rows) sized legal = absurd legal
+legal-below board (Publish worker item) None sized legal = absurd legal
+legal-below board (Publish worker item) (Some rows) sized may = published-below board item rows sized may
+legal-below board (Late worker item) None sized there = there-below board item there
+legal-below board (Late worker item) (Some rows) sized legal = absurd legal
 
 pub sized-after : (board : State) (event : Event) (rows : Option RowList) → IsSized board → IsSized (after board event rows)
 sized-after board (Claim worker item) rows sized = length-set board.items item (record (standing board item) { claim = Some worker }) ∙ sized
@@ -90,9 +97,9 @@ pub record Holds (board : State) : Type 0 where
 
 untouched_all : (n i : ℕ) → get_or (replicate n untouched) i untouched ≡ untouched
 untouched_all n i = elim (cases_lt i n) [
-    | inl below ↦ get_or-replicate n i untouched untouched below
-    | inr past ↦ get_or_past (replicate n untouched) i untouched (omega (arith, length-replicate n untouched, past))
-  ]
+  | inl below ↦ get_or-replicate n i untouched untouched below
+  | inr past ↦ get_or_past (replicate n untouched) i untouched (omega (arith, length-replicate n untouched, past))
+]
 
 pub rows-fresh : (plan : Parts) (docs : List Document) (i : ℕ) → (standing (fresh plan docs) i).rows ≡ None
 rows-fresh plan docs i = ap (λ (s : Standing). s.rows) (untouched_all (item_count plan docs) i)
@@ -147,8 +154,8 @@ module _ (board : State) (planned : IsPlan board.plan.nodes) (holds : Holds boar
       record {
         sized = sized-after board (Publish worker item) (Some rows) holds.sized;
         values = λ i place list is. elim (rows-after_publish board worker item (Some rows) below i) [
-          | inl here ↦ subst (λ (l : RowList). SameBag l.rows (val board.plan.lists place.doc board.plan.nodes place.n)) (some-injective rows list (sym here.1 ∙ is))
-            (at-each board.plan board.docs (λ doc n. SameBag rows.rows (val board.plan.lists doc board.plan.nodes n)) item i (sym here.0) may.place place value)
+          | inl here ↦ subst (λ (l : RowList). SameBag l.rows (val board.plan.lists place.doc board.plan.nodes place.n)) (same_some rows list (sym here.1 ∙ is))
+              (at-each board.plan board.docs (λ doc n. SameBag rows.rows (val board.plan.lists doc board.plan.nodes n)) item i (sym here.0) may.place place value)
           | inr there ↦ holds.values i place list (sym there.1 ∙ is)
         ];
         published = λ i place list is. elim (rows-after_publish board worker item (Some rows) below i) [

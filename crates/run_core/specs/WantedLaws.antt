@@ -4,7 +4,6 @@ use Rattle.std.proofs.Common.{◌≡◌, ◌≢◌, ◌⊎◌, inl, inr, ℕ, ze
 use Rattle.std.specs.Prelude.{IsSome, is_some, Contains, All, map, slice_get}
 use Rattle.std.proofs.lemmas.List.Elements.{All-contains, All-map}
 use Rattle.std.proofs.lemmas.List.Sorted.{length_permutation}
-use Rattle.std.proofs.Math.Option.{some-injective}
 use Rattle.std.proofs.lemmas.Option.{none-some, slice_get_within, get_or_from_slice_get, slice_get-get_or}
 use Rattle.aql_base.specs.Bags.{SameBag}
 use Rattle.aql_base.specs.BagLaws.{SameBag-refl, SameBag-sym, SameBag-trans, SameBag-is}
@@ -29,6 +28,7 @@ use Rattle.algebra.specs.Plans.{Parts, IsOutput, AreOutputs}
 use Rattle.algebra.specs.Shapes.{shape_by, no_shape, shapes_of}
 use Rattle.algebra.specs.Values.{all_values, val, value_after}
 use Rattle.run_core.specs.Boards.{output_nodes}
+use Rattle.run_core.specs.PlaceLaws.{same_some}
 use Rattle.run_core.specs.Wanted.{rows_of, given, AsksFor, IsWanted, output, input, IsReady}
 
 no_rows : (rows : Rows) → SameBag rows [] → rows ≡ []
@@ -51,7 +51,7 @@ Lacks published o = (i : ℕ) × (o ≡ Some i) × (published i ≡ None)
 
 there_or_lacks : (published : ℕ → Option RowList) (i : ℕ) (found : Option RowList) → published i ≡ found → IsThere published (Some i) ⊎ Lacks published (Some i)
 there_or_lacks published i None is = inr (i, refl, is)
-there_or_lacks published i (Some list) is = inl (λ j e. subst (λ (k : ℕ). IsSome (published k)) (some-injective i j e) (rw is refl))
+there_or_lacks published i (Some list) is = inl (λ j e. subst (λ (k : ℕ). IsSome (published k)) (same_some i j e) (rw is refl))
 
 is_there : (published : ℕ → Option RowList) (o : Option ℕ) → IsThere published o ⊎ Lacks published o
 is_there published None = inl (λ i e. absurd (none-some i e))
@@ -61,6 +61,19 @@ is_there published (Some i) = there_or_lacks published i (published i) refl
 list_of : (found : Option RowList) → IsSome found → (list : RowList) × (found ≡ Some list)
 list_of None there = absurd (true≢false (sym there))
 list_of (Some list) there = (list, refl)
+
+-- a wanted node that isn't published
+abbrev pub Gap : Parts → (ℕ → Option RowList) → Type 0
+Gap plan published = (n : ℕ) × IsWanted plan published n × (published n ≡ None)
+
+-- and one that is ready
+pub record Ready (plan : Parts) (published : ℕ → Option RowList) : Type 0 where
+  pub n : ℕ
+  pub node : Node
+  pub is : slice_get plan.nodes n ≡ Some node
+  pub wanted : IsWanted plan published n
+  pub unpublished : published n ≡ None
+  pub ready : IsReady plan published node
 
 -- each published list of rows is the node's value, as a bag
 pub record Agrees (plan : Parts) (doc : Document) (published : ℕ → Option RowList) : Type 0 where
@@ -83,15 +96,15 @@ module _ (plan : Parts) (planned : IsPlan plan.nodes) (published : ℕ → Optio
 
   -- a wanted node is one of the plan's
   pub wanted-below : AreOutputs plan.nodes plan.outputs → (n : ℕ) → IsWanted plan published n → n < length plan.nodes
-  wanted-below valid n (output n listed) =
-      let each : All (λ i. i < length (shapes_of plan.nodes)) (output_nodes plan) = All-map (λ i. i < length (shapes_of plan.nodes)) (λ (out : PlanOut). out.node) plan.outputs (λ i below. (valid.each i below).there) in
+  wanted-below valid _ (output n listed) =
+      let each : All (λ i. i < length (shapes_of plan.nodes)) (output_nodes plan) = All-map (λ i. i < length (shapes_of plan.nodes)) (λ (out : PlanOut). out.node) plan.outputs (λ i d below. (valid.each i d below).there) in
       omega (arith, All-contains (λ i. i < length (shapes_of plan.nodes)) (output_nodes plan) n each listed, length-each no_shape shape_by plan.nodes)
-  wanted-below valid n (input k n node is asks wanted) = omega (arith, asked-below k n node is asks, slice_get_within plan.nodes k node is)
+  wanted-below valid _ (input k n node is asks wanted) = omega (arith, asked-below k n node is asks, slice_get_within plan.nodes k node is)
 
   -- the wanted node of the lowest number that isn't published is ready
   pub lowest-ready : (n : ℕ) (node : Node) → slice_get plan.nodes n ≡ Some node → IsWanted plan published n
       → ((m : ℕ) → m < n → IsWanted plan published m → IsSome (published m)) → IsReady plan published node
-  lowest-ready n node is wanted lower i asks = lower i (asked-below n i node is asks) (input i node is asks wanted)
+  lowest-ready n node is wanted lower i asks = lower i (asked-below n i node is asks) (input n i node is asks wanted)
 
 module _ (plan : Parts) (doc : Document) (planned : IsPlan plan.nodes) (published : ℕ → Option RowList) (agrees : Agrees plan doc published) where
   -- what all nodes are worth
@@ -115,8 +128,8 @@ module _ (plan : Parts) (doc : Document) (planned : IsPlan plan.nodes) (publishe
 
   -- a wanted node is needed
   pub wanted-needed : (n : ℕ) → IsWanted plan published n → IsNeeded plan.lists doc plan.nodes (output_nodes plan) n
-  wanted-needed n (output n listed) = needs.output n listed
-  wanted-needed n (input k n node is asks wanted) = needs.input k n node is (asks_too k n node is asks) (wanted-needed k wanted)
+  wanted-needed _ (output n listed) = needs.output n listed
+  wanted-needed _ (input k n node is asks wanted) = needs.input k n node is (asks_too k n node is asks) (wanted-needed k wanted)
 
   -- an input that is published is given as it is worth
   given_left : (k : ℕ) (o : Option ℕ) → IsAmong k o → k < length plan.nodes → IsThere published o → SameBag (given plan published o) (of_input [] worths o)
@@ -133,7 +146,7 @@ module _ (plan : Parts) (doc : Document) (planned : IsPlan plan.nodes) (publishe
       let here = at plan planned published k node is in
       SameBag-trans _ _ _
       (op-SameBag plan.lists doc node (given plan published (left_input node)) (of_input [] worths (left_input node)) (given plan published (right_input node)) (of_input [] worths (right_input node))
-        (given_left k (left_input node) here.left_lower below left) (given_left k (right_input node) here.right_lower below right))
+      (given_left k (left_input node) here.left_lower below left) (given_left k (right_input node) here.right_lower below right))
       (SameBag-is _ _ (sym (val-is plan.lists doc plan.nodes k node planned below (sym (get_or_from_slice_get plan.nodes k node node is)))))
 
   -- a conditional join that doesn't ask for its right input has no row, and is worth none
@@ -160,45 +173,41 @@ module _ (plan : Parts) (doc : Document) (planned : IsPlan plan.nodes) (publishe
       → SameBag (op plan.lists doc node (given plan published (left_input node)) (given plan published (right_input node))) (val plan.lists doc plan.nodes k)
   ready-value k node is ready = ready_by k node is ready (is_conditional node) refl (given plan published (left_input node)) refl
 
-  -- a wanted node that isn't published
-  abbrev pub Gap : Type 0
-  Gap = (n : ℕ) × IsWanted plan published n × (published n ≡ None)
-
   -- where a wanted node needs an input, that is wanted too, or there is a gap
   wanted_right : (k i : ℕ) (node : Node) → slice_get plan.nodes k ≡ Some node → IsWanted plan published k → right_input node ≡ Some i → (b : Bool) → is_conditional node ≡ b
-      → (is_conditional node ≡ true → of_input [] worths (left_input node) ≢ []) → (o : Option ℕ) → left_input node ≡ o → IsWanted plan published i ⊎ Gap
+      → (is_conditional node ≡ true → of_input [] worths (left_input node) ≢ []) → (o : Option ℕ) → left_input node ≡ o → IsWanted plan published i ⊎ Gap plan published
   wanted_right k i node is wanted right false plain some o left = inl (input k i node is (inr (right, λ c. absurd (true≢false (sym c ∙ plain)))) wanted)
   wanted_right k i node is wanted right true conditional some None left = absurd (some conditional (ap (λ (o : Option ℕ). of_input [] worths o) left))
   wanted_right k i node is wanted right true conditional some (Some j) left = by_found (published j) refl where
-    by_found : (found : Option RowList) → published j ≡ found → IsWanted plan published i ⊎ Gap
+    by_found : (found : Option RowList) → published j ≡ found → IsWanted plan published i ⊎ Gap plan published
     by_found None none = inr (j, input k j node is (inl left) wanted, none)
     by_found (Some list) found =
         let lower : j < k = left_below plan planned published k j node is left in
         let same = agreed k j list lower (slice_get_within plan.nodes k node is) found in
         let has_row : given plan published (left_input node) ≢ [] = λ none.
-            let empty : list.rows ≡ [] = sym (ap (λ (o : Option ℕ). given plan published o) left ∙ ap rows_of found) ∙ none in
-            some conditional (ap (λ (o : Option ℕ). of_input [] worths o) left ∙ no_row_after _ (subst (λ (rows : Rows). SameBag rows (get_or worths j [])) empty same)) in
+        let empty : list.rows ≡ [] = sym (ap (λ (o : Option ℕ). given plan published o) left ∙ ap rows_of found) ∙ none in
+        some conditional (ap (λ (o : Option ℕ). of_input [] worths o) left ∙ no_row_after _ (subst (λ (rows : Rows). SameBag rows (get_or worths j [])) empty same)) in
         inl (input k i node is (inr (right, λ c. has_row)) wanted)
 
-  wanted_input : (k i : ℕ) (node : Node) → slice_get plan.nodes k ≡ Some node → Asks plan.lists doc plan.nodes node i → IsWanted plan published k → IsWanted plan published i ⊎ Gap
+  wanted_input : (k i : ℕ) (node : Node) → slice_get plan.nodes k ≡ Some node → Asks plan.lists doc plan.nodes node i → IsWanted plan published k → IsWanted plan published i ⊎ Gap plan published
   wanted_input k i node is (inl e) wanted = inl (input k i node is (inl e) wanted)
   wanted_input k i node is (inr e) wanted = wanted_right k i node is wanted e.0 (is_conditional node) refl e.1 (left_input node) refl
 
-  next_input : (k i : ℕ) (node : Node) → slice_get plan.nodes k ≡ Some node → Asks plan.lists doc plan.nodes node i → IsWanted plan published k ⊎ Gap → IsWanted plan published i ⊎ Gap
+  next_input : (k i : ℕ) (node : Node) → slice_get plan.nodes k ≡ Some node → Asks plan.lists doc plan.nodes node i → IsWanted plan published k ⊎ Gap plan published → IsWanted plan published i ⊎ Gap plan published
   next_input k i node is asks (inl wanted) = wanted_input k i node is asks wanted
   next_input k i node is asks (inr gap) = inr gap
 
   -- a needed node is wanted, or some wanted one isn't published
-  pub needed-wanted : (n : ℕ) → IsNeeded plan.lists doc plan.nodes (output_nodes plan) n → IsWanted plan published n ⊎ Gap
-  needed-wanted n (needs.output n listed) = inl (output n listed)
-  needed-wanted n (needs.input k n node is asks needed) = next_input k n node is asks (needed-wanted k needed)
+  pub needed-wanted : (n : ℕ) → IsNeeded plan.lists doc plan.nodes (output_nodes plan) n → IsWanted plan published n ⊎ Gap plan published
+  needed-wanted _ (needs.output n listed) = inl (output n listed)
+  needed-wanted _ (needs.input k n node is asks needed) = next_input k n node is asks (needed-wanted k needed)
 
   -- so where all that is wanted is published, all that is needed is wanted, and published
   pub all-published : ((n : ℕ) → IsWanted plan published n → IsSome (published n)) → (n : ℕ) → IsNeeded plan.lists doc plan.nodes (output_nodes plan) n → IsSome (published n)
   all-published done n needed = elim (needed-wanted n needed) [
-      | inl wanted ↦ done n wanted
-      | inr gap ↦ absurd (true≢false (sym (done gap.0 gap.1) ∙ ap is_some gap.2))
-    ]
+    | inl wanted ↦ done n wanted
+    | inr gap ↦ absurd (true≢false (sym (done gap.0 gap.1) ∙ ap is_some gap.2))
+  ]
 
 module _ (plan : Parts) (planned : IsPlan plan.nodes) (valid : AreOutputs plan.nodes plan.outputs) (published : ℕ → Option RowList) where
   -- what a node asks for and isn't published
@@ -227,16 +236,7 @@ module _ (plan : Parts) (planned : IsPlan plan.nodes) (valid : AreOutputs plan.n
   by_left node (inl left) = by_right node left (is_there published (right_input node))
   by_left node (inr lacks) = inr (lacks.0, inl lacks.1, lacks.2)
 
-  -- a wanted node that isn't published and is ready
-  pub record Ready : Type 0 where
-    pub n : ℕ
-    pub node : Node
-    pub is : slice_get plan.nodes n ≡ Some node
-    pub wanted : IsWanted plan published n
-    pub unpublished : published n ≡ None
-    pub ready : IsReady plan published node
-
-  ready_below : (bound n : ℕ) → n < bound → IsWanted plan published n → published n ≡ None → Ready
+  ready_below : (bound n : ℕ) → n < bound → IsWanted plan published n → published n ≡ None → Ready plan published
   ready_below zero n below wanted none = absurd (omega (arith, below))
   ready_below (suc bound) n below wanted none =
       let node = get_or plan.nodes n Doc in
@@ -247,5 +247,5 @@ module _ (plan : Parts) (planned : IsPlan plan.nodes) (valid : AreOutputs plan.n
       ]
 
   -- where a wanted node isn't published, one that isn't is ready
-  pub some-ready : (n : ℕ) → IsWanted plan published n → published n ≡ None → Ready
+  pub some-ready : (n : ℕ) → IsWanted plan published n → published n ≡ None → Ready plan published
   some-ready n wanted none = ready_below (suc n) n (omega arith) wanted none

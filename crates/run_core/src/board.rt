@@ -1,9 +1,9 @@
-ghost use Rattle.std.specs.Prelude.{◌≡◌, ◌<◌, ◌^◌, length, replicate, map, option_map, IfOk, IfSome, IfNone};
+ghost use Rattle.std.specs.Prelude.{◌≡◌, ◌<◌, ◌^◌, length, replicate, map, option_map, vec_len, IfOk, IfSome, IfNone};
 ghost use Rattle.std.specs.Arc.{arc_value};
 ghost use Rattle.algebra.specs.Nodes.{IsPlan};
 ghost use Rattle.algebra.specs.Plans.{AreOutputs};
 ghost use Rattle.run_core.specs.Boards.{Place, fresh, item_count, standing, untouched};
-ghost use Rattle.run_core.specs.Events.{IsLegal, after};
+ghost use Rattle.run_core.specs.Events.{IsLegal, after, item_of, items_after};
 ghost use Rattle.run_core.specs.Histories.{AreLegal, IsReached, IsReachedBy, after_all, happening};
 ghost use Rattle.run_core.specs.Promises.{HasOnce, IsNeededAt, IsSound, IsValueAt, Keeps, MayGoOn};
 
@@ -68,11 +68,7 @@ impl<'d> Board<'d> {
         ensures keeps { Keeps self.old self.new }
         ensures sound { IsSound self.new }
     {
-        match event {
-            Event::Claim { worker, item } => self.spots[item as usize].set_claim(worker),
-            Event::Publish { item, .. } => self.spots[item as usize].set_rows(rows),
-            Event::Late { .. } => {}
-        }
+        step_spots(&mut self.spots, event, rows);
     }
 
     /// The worker that claimed the item. It takes no memory.
@@ -115,6 +111,18 @@ fn untouched_spots<'d>(alloc: Global, count: usize) -> Result<Vec<Spot<'d>>, Out
         spots.push(Spot::new())?;
     }
     Ok(spots)
+}
+
+/// Does what an event does to the items.
+fn step_spots<'d>(spots: &mut Vec<Spot<'d>>, event: Event, rows: Option<Arc<Rows<'d>, Global>>)
+    requires in_range { item_of event < vec_len spots.old }
+    ensures { spots.new.items ≡ items_after spots.old.items event (option_map arc_value rows.entry) }
+{
+    match event {
+        Event::Claim { worker, item } => spots[item as usize].set_claim(worker),
+        Event::Publish { item, .. } => spots[item as usize].set_rows(rows),
+        Event::Late { .. } => {}
+    }
 }
 
 /// The board that a legal list of events makes of the one with nothing claimed and nothing published; each

@@ -5,6 +5,7 @@ ghost use Rattle.run_core.specs.Boards.{untouched};
 use row_values::Rows;
 use std::alloc::Global;
 use std::marker::Model;
+use std::ops::Deref;
 use std::sync::Arc;
 
 /// How an item stands: the worker that claimed it, and its published rows, shared with whoever keeps them.

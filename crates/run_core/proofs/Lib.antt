@@ -1,0 +1,2 @@
+-- boards as they are kept
+pub mod Keeping
