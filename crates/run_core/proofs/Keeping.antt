@@ -7,8 +7,8 @@ use Rattle.run_core.specs.Boards.{Standing, State, Place, untouched, item_count,
 use Rattle.run_core.specs.Events.{IsLegal, after, item_of, items_after}
 use Rattle.run_core.specs.Histories.{Happening, IsBoard}
 use Rattle.run_core.specs.HistoryLaws.{holds-reached, reached-after, sound-reached}
-use Rattle.run_core.specs.Promises.{IsNeededAt, IsValueAt, IsSound, Keeps, MayGoOn}
-use Rattle.run_core.specs.StepLaws.{IsSized, keeps-after, legal-below}
+use Rattle.run_core.specs.Promises.{IsNeededAt, IsValueAt, IsSound, MayGoOn}
+use Rattle.run_core.specs.StepLaws.{IsSized, legal-below}
 
 sized_of : (board : State) → IsBoard board → IsSized board
 sized_of board is = (holds-reached board is.reached.events is.planned is.reached.by).sized
@@ -63,8 +63,5 @@ module _ (kept board : State) (event : Event) (rows : Option RowList) (same : ke
     reached = reached-after kept event rows is.reached legal_here;
   }
 
-  pub keeps_after : Keeps board (after board event rows)
-  keeps_after = keeps-after board event rows (subst IsSized same (sized_of kept is)) legal
-
-  pub sound_after : IsSound (after board event rows)
-  sound_after = sound (after kept event rows) (after board event rows) (ap (λ (b : State). after b event rows) same) board_after
+  pub sound_kept : IsSound (after kept event rows)
+  sound_kept = sound (after kept event rows) (after kept event rows) refl board_after

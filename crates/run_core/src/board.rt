@@ -53,7 +53,8 @@ impl<'d> Board<'d> {
         docs: &'d [Document<'d>],
     ) -> Result<Board<'d>, OutOfMemory>
         requires few { item_count plan.now docs.now < 2 ^ 32 }
-        ensures { IfOk result (λ board. board ≡ fresh plan.now docs.now) }
+        ensures fresh { IfOk result (λ board. board ≡ fresh plan.now docs.now) }
+        ensures sound { IfOk result (λ board. IsSound board) }
     {
         let count = docs.len() * nodes_of(plan);
         let spots = untouched_spots(alloc, count)?;
@@ -89,6 +90,14 @@ impl<'d> Board<'d> {
         ensures goes_on { IfNone result ((place : Place self.now.plan self.now.docs item) → IsNeededAt self.now item place → MayGoOn self.now) }
     {
         self.spots[item as usize].rows()
+    }
+
+    /// Nothing is done: it says what holds of every board.
+    pub fn promise(&self)
+        ensures reached { IsReached self.now }
+        ensures sound { IsSound self.now }
+    {
+        let _spots = &self.spots;
     }
 }
 
