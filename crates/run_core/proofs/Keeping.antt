@@ -1,11 +1,11 @@
 -- Boards as they are kept: what their invariant says of each item, and that a legal event keeps it.
-use Rattle.std.proofs.Common.{◌≡◌, ℕ, ◌<◌, ◌++◌, ◌∷◌, [], List, length, get_or, refl, sym, ap, subst, ◌∙◌, arith, Option, Some, None, IfSome, IfNone, map, option_map}
+use Rattle.std.proofs.Common.{◌≡◌, ℕ, ◌<◌, List, length, get_or, refl, sym, subst, ◌∙◌, arith, Option, Some, None, IfSome, IfNone, option_map}
 use Rattle.std.proofs.lemmas.List.{get_or_default}
 use Rattle.row_values.specs.Rows.{RowList}
 use Rattle.run_core.specs.declared.event.Event.{Event}
 use Rattle.run_core.specs.Boards.{Standing, State, Place, untouched, item_count, standing}
-use Rattle.run_core.specs.Events.{IsLegal, after, item_of, items_after}
-use Rattle.run_core.specs.Histories.{Happening, IsBoard}
+use Rattle.run_core.specs.Events.{IsLegal, after, item_of}
+use Rattle.run_core.specs.Histories.{IsBoard}
 use Rattle.run_core.specs.HistoryLaws.{holds-reached, reached-after, sound-reached}
 use Rattle.run_core.specs.Promises.{IsNeededAt, IsValueAt, IsSound, MayGoOn}
 use Rattle.run_core.specs.StepLaws.{IsSized, legal-below}

@@ -1,5 +1,5 @@
 -- Legal events that are taken in turn, from the board with nothing claimed and nothing published.
-use Rattle.std.proofs.Common.{◌≡◌, ℕ, ◌+◌, ◌<◌, ◌++◌, ◌∷◌, [], List, length, get_or, take, drop, refl, sym, ap, subst, ◌∙◌, Option, map, option_map}
+use Rattle.std.proofs.Common.{◌≡◌, ◌+◌, ◌<◌, ◌++◌, ◌∷◌, [], List, length, get_or, take, drop, sym, ap, subst, ◌∙◌, Option, map, option_map}
 use Rattle.std.proofs.lemmas.List.{take-append-drop, drop_more, map-append, map-id}
 use Rattle.span_token.specs.Documents.{Doc}
 use Rattle.row_values.specs.Rows.{RowList}
@@ -7,9 +7,8 @@ use Rattle.algebra.specs.Plans.{Parts}
 use Rattle.run_core.specs.declared.event.Event.{Event}
 use Rattle.run_core.specs.Boards.{State, fresh}
 use Rattle.run_core.specs.Events.{IsLegal, after}
-use Rattle.run_core.specs.Histories.{Happening, happening, AreLegal, after_all, IsReachedBy}
-use Rattle.run_core.specs.HistoryLaws.{after_all-append, legal-behind, reached-by, has-once}
-use Rattle.run_core.specs.Promises.{HasOnce}
+use Rattle.run_core.specs.Histories.{happening, AreLegal, after_all, IsReachedBy}
+use Rattle.run_core.specs.HistoryLaws.{after_all-append, legal-behind, reached-by}
 
 module _ {A : Type 0} (seen : A → RowList) (plan : Parts) (docs : List Doc) (yielded : List (Event × Option A)) (board : State)
     (so_far : board ≡ after_all (fresh plan docs) (map (happening seen) yielded)) where

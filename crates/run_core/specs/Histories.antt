@@ -4,7 +4,7 @@ use Rattle.row_values.specs.Rows.{RowList}
 use Rattle.algebra.specs.Nodes.{IsPlan}
 use Rattle.algebra.specs.Plans.{AreOutputs}
 use Rattle.run_core.specs.declared.event.Event.{Event}
-use Rattle.run_core.specs.declared.event.Event.TheVariants.{Claim, Publish, Late}
+use Rattle.run_core.specs.declared.event.Event.TheVariants.{Claim, Publish}
 use Rattle.run_core.specs.Boards.{State, fresh, item_count}
 use Rattle.run_core.specs.Events.{IsLegal, after}
 

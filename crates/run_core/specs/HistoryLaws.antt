@@ -1,13 +1,12 @@
 -- Laws of legal lists of events: what holds of every board that one reaches.
-use Rattle.std.proofs.Common.{◌≡◌, ◌≢◌, ◌⊎◌, inl, inr, ℕ, ◌+◌, ◌*◌, ◌<◌, eqb, Bool, true, false, if◌then◌else◌, List, [], ◌∷◌, ◌++◌, length, get_or, refl, sym, ap, subst, ◌∙◌, arith, Option, Some, None, true≢false}
-use Rattle.std.specs.Prelude.{IsSome, IsSomeAnd, All, option_to_list, filter_map, slice_get}
+use Rattle.std.proofs.Common.{◌≡◌, inl, inr, ℕ, ◌+◌, ◌*◌, ◌<◌, eqb, Bool, true, false, if◌then◌else◌, List, [], ◌∷◌, ◌++◌, length, refl, sym, ap, subst, ◌∙◌, arith, Option, Some, None, true≢false}
+use Rattle.std.specs.Prelude.{IsSome, IsSomeAnd, All, option_to_list}
 use Rattle.std.specs.List.{AllZip, AllByRecursion, cons_option}
 use Rattle.std.proofs.lemmas.Bool.Decides.{eqb_tells}
 use Rattle.std.proofs.lemmas.List.Elements.{recursion_from_All}
 use Rattle.std.proofs.lemmas.List.{append-nil}
-use Rattle.std.proofs.lemmas.Option.{none-some}
 use Rattle.aql_base.specs.Bags.{SameBag}
-use Rattle.aql_base.specs.BagLaws.{SameBag-refl, SameBag-sym, SameBag-trans}
+use Rattle.aql_base.specs.BagLaws.{SameBag-sym, SameBag-trans}
 use Rattle.span_token.specs.Documents.{Doc as Document}
 use Rattle.row_values.specs.Rows.{RowList}
 use Rattle.aql_typed.specs.Meaning.{Rows}
@@ -19,14 +18,13 @@ use Rattle.algebra.specs.Shapes.{shape_by, no_shape}
 use Rattle.algebra.specs.Values.{val}
 use Rattle.run_core.specs.declared.event.Event.{Event}
 use Rattle.run_core.specs.declared.event.Event.TheVariants.{Claim, Publish, Late}
-use Rattle.run_core.specs.Boards.{Standing, State, Place, item_count, fresh, standing, published_on}
+use Rattle.run_core.specs.Boards.{Standing, State, Place, fresh, standing, published_on}
 use Rattle.run_core.specs.Wanted.{IsWanted, IsReady}
 use Rattle.run_core.specs.Events.{MayClaim, MayPublish, IsLegal, after}
 use Rattle.run_core.specs.Histories.{Happening, AreLegal, after_all, IsReachedBy, IsReached, claim_in, rows_in, claims_in_all, rows_in_all}
-use Rattle.run_core.specs.PlaceLaws.{at-each}
-use Rattle.run_core.specs.Promises.{IsNeededAt, IsValueAt, MayGoOn, HasOutputs, AreMeant, ShowsOutputs, IsSound, HasOnce}
+use Rattle.run_core.specs.Promises.{IsNeededAt, IsValueAt, MayGoOn, IsSound, HasOnce}
 use Rattle.run_core.specs.StepLaws.{IsSized, Holds, holds-fresh, holds-after, sized-after, sized-fresh, agrees-on, rows-fresh, claim-fresh, claimed-below, published-below, rows-after_claim, claim-after_claim, rows-after_publish, claim-after_publish}
-use Rattle.run_core.specs.WantedLaws.{needed-wanted, ready-value, lowest-ready, some-ready, Ready, Gap}
+use Rattle.run_core.specs.WantedLaws.{needed-wanted, ready-value, lowest-ready, some-ready, Ready}
 
 -- lists one after the other
 pub after_all-append : (board : State) (xs ys : List Happening) → after_all board (xs ++ ys) ≡ after_all (after_all board xs) ys

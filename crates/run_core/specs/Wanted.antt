@@ -1,5 +1,5 @@
 -- What is wanted on a document and what is ready there, by what is published of its nodes.
-use Rattle.std.specs.Prelude.{ℕ, ◌≡◌, ◌≢◌, ◌⊎◌, true, List, [], Option, Some, None, IsSome, Contains, slice_get}
+use Rattle.std.specs.Prelude.{ℕ, ◌≡◌, ◌≢◌, ◌⊎◌, true, [], Option, Some, None, IsSome, Contains, slice_get}
 use Rattle.row_values.specs.Rows.{RowList}
 use Rattle.aql_typed.specs.Meaning.{Rows}
 use Rattle.algebra.specs.declared.node.Node.{Node}

@@ -1,12 +1,12 @@
 -- Laws of what is wanted and ready on a document: where what is published holds its values, only needed nodes are wanted, a
 -- ready node gives its value, and where a needed node isn't published some wanted one is ready.
-use Rattle.std.proofs.Common.{◌≡◌, ◌≢◌, ◌⊎◌, inl, inr, ℕ, zero, suc, ◌<◌, ◌≤◌, Bool, true, false, List, [], ◌∷◌, length, get_or, refl, sym, ap, subst, ◌∙◌, arith, Option, Some, None, true≢false}
-use Rattle.std.specs.Prelude.{IsSome, is_some, Contains, All, map, slice_get}
+use Rattle.std.proofs.Common.{◌≡◌, ◌≢◌, ◌⊎◌, inl, inr, ℕ, zero, suc, ◌<◌, Bool, true, false, List, [], ◌∷◌, length, get_or, refl, sym, ap, subst, ◌∙◌, arith, Option, Some, None, true≢false}
+use Rattle.std.specs.Prelude.{IsSome, is_some, All, slice_get}
 use Rattle.std.proofs.lemmas.List.Elements.{All-contains, All-map}
 use Rattle.std.proofs.lemmas.List.Sorted.{length_permutation}
 use Rattle.std.proofs.lemmas.Option.{none-some, slice_get_within, get_or_from_slice_get, slice_get-get_or}
 use Rattle.aql_base.specs.Bags.{SameBag}
-use Rattle.aql_base.specs.BagLaws.{SameBag-refl, SameBag-sym, SameBag-trans, SameBag-is}
+use Rattle.aql_base.specs.BagLaws.{SameBag-refl, SameBag-trans, SameBag-is}
 use Rattle.span_token.specs.Documents.{Doc as Document}
 use Rattle.row_values.specs.Rows.{RowList}
 use Rattle.aql_typed.specs.Meaning.{Rows}
@@ -24,7 +24,7 @@ use Rattle.algebra.specs.Needed as needs
 use Rattle.algebra.specs.Nodes.{IsPlan}
 use Rattle.algebra.specs.OperatorLaws.{op-SameBag}
 use Rattle.algebra.specs.Operators.{op}
-use Rattle.algebra.specs.Plans.{Parts, IsOutput, AreOutputs}
+use Rattle.algebra.specs.Plans.{Parts, AreOutputs}
 use Rattle.algebra.specs.Shapes.{shape_by, no_shape, shapes_of}
 use Rattle.algebra.specs.Values.{all_values, val, value_after}
 use Rattle.run_core.specs.Boards.{output_nodes}

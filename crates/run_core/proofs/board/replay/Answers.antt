@@ -1,8 +1,7 @@
-use Rattle.std.proofs.Common.{rules, ◌≡◌, ◌∙◌, sym, ap, subst, Global, map, option_map}
+use Rattle.std.proofs.Common.{rules, Global, map, option_map}
 use Rattle.std.proofs.lemmas.Iterator.Adapters.{YieldsList-from_vec}
 use Rattle.std.proofs.lemmas.Iterator.Consumers.{YieldsList-turn, YieldsList-so_far, YieldsList-end}
 use Rattle.std.specs.Arc.{arc_value}
-use Rattle.run_core.specs.Boards.{State}
 use Rattle.run_core.specs.HistoryLaws.{has-once}
 use Rattle.run_core.proofs.Replaying.{next_legal, next_board, reached_all}
 use Rattle.run_core.proofs.board.replay.Goals as goal

@@ -1,4 +1,4 @@
-use Rattle.std.proofs.Common.{◌≡◌, ◌∙◌, ap, arith}
+use Rattle.std.proofs.Common.{◌∙◌, ap, arith}
 use Rattle.run_core.specs.Boards.{Standing, State, standing}
 use Rattle.run_core.proofs.Keeping.{there, sound, read, claim_needed}
 use Rattle.run_core.proofs.board.Board.claimed.Goals as goal

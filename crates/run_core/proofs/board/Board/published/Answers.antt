@@ -1,4 +1,4 @@
-use Rattle.std.proofs.Common.{◌≡◌, ◌∙◌, ap, arith}
+use Rattle.std.proofs.Common.{◌∙◌, ap, arith}
 use Rattle.run_core.specs.Boards.{Standing, State, standing}
 use Rattle.run_core.proofs.Keeping.{there, sound, read, rows_needed, rows_value, rows_lacking}
 use Rattle.run_core.proofs.board.Board.published.Goals as goal

@@ -1,4 +1,4 @@
-use Rattle.std.proofs.Common.{◌≡◌, List, sym, subst, option_map, arith}
+use Rattle.std.proofs.Common.{List, sym, subst, option_map, arith}
 use Rattle.std.specs.Arc.{arc_value}
 use Rattle.run_core.specs.Boards.{Standing}
 use Rattle.run_core.specs.Histories.{IsBoard}
