@@ -71,6 +71,14 @@ def wide_chain(last):
     return first + links + f"create view Last as select W399.{last} from W399;\n"
 
 
+def wide_star(last):
+    """Each view over one and the same, which has many columns, of which it reads the last."""
+    columns = 1000
+    base = "create view Base as select " + ", ".join(f"{i} as c{i}" for i in range(columns)) + " from Document D;\n"
+    rays = "".join(f"create view V{i} as select Base.c{columns - 1} from Base;\n" for i in range(VIEWS - 2))
+    return base + rays + f"create view Last as select Base.{last} from Base;\n"
+
+
 def patterns(last):
     """A pattern of its own in each view."""
     found = "".join(f"create view P{i} as extract regex /{i}[a-z]/ on D.text as n from Document D;\n" for i in range(VIEWS - 1))
@@ -103,6 +111,7 @@ PROGRAMS = {
     "chain": (chain, "n"),
     "star": (star, "n"),
     "wide_chain": (wide_chain, "c199"),
+    "wide_star": (wide_star, "c999"),
     "patterns": (patterns, "text"),
     "megabyte": (megabyte, "n"),
 }

@@ -1,8 +1,46 @@
 ghost use Rattle.std.specs.Prelude.{◌≡◌, length};
-ghost use Rattle.algebra.specs.Inputs.{left_input, right_input, with_inputs, IsAmong};
+ghost use Rattle.algebra.specs.Inputs.{left_input, right_input, with_inputs, is_conditional, IsAmong};
 ghost use Rattle.algebra.specs.Mapping.{new_number};
 
 use crate::Node;
+
+impl Node {
+    /// The numbers of the nodes that it reads: its only input is the left one; a restricted join has the
+    /// outer node on the left and the source on the right.
+    pub fn inputs(&self) -> (Option<u32>, Option<u32>)
+        ensures left { result.0 ≡ left_input self.now }
+        ensures right { result.1 ≡ right_input self.now }
+    {
+        match self {
+            Node::Doc => (None, None),
+            Node::Regex { input, .. }
+            | Node::TokenRegex { input, .. }
+            | Node::Dict { input, .. }
+            | Node::DictPart { input, .. }
+            | Node::Blocks { input, .. }
+            | Node::Select { input, .. }
+            | Node::Project { input, .. }
+            | Node::Consolidate { input, .. }
+            | Node::Group { input, .. }
+            | Node::OrderLimit { input, .. } => (Some(*input), None),
+            Node::Cross { left, right, .. }
+            | Node::SpanJoin { left, right, .. }
+            | Node::Union { left, right }
+            | Node::Minus { left, right } => (Some(*left), Some(*right)),
+            Node::Restricted { outer, source, .. } => (Some(*outer), Some(*source)),
+        }
+    }
+
+    /// Whether it is a join that asks for its right input only where its left one has a row.
+    pub fn is_conditional(&self) -> bool
+        ensures { result ≡ is_conditional self.now }
+    {
+        match self {
+            Node::Cross { conditional, .. } | Node::SpanJoin { conditional, .. } => *conditional,
+            _ => false,
+        }
+    }
+}
 
 /// The node, reading the nodes that stand for its inputs.
 pub(crate) fn with_inputs(node: Node, to: &[u32]) -> Node

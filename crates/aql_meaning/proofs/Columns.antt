@@ -1,22 +1,17 @@
--- Columns of keys and arguments, and rows in row order.
-use Rattle.std.proofs.Common.{◌≡◌, ◌∙◌, ℕ, zero, suc, ◌+◌, ◌<◌, ◌≤◌, ◌++◌, List, [], ◌∷◌, Option, map, length, sym, ap, subst, arith}
+-- Columns of keys and arguments.
+use Rattle.std.proofs.Common.{◌≡◌, ◌∙◌, ℕ, zero, suc, ◌+◌, ◌<◌, ◌≤◌, ◌++◌, List, [], ◌∷◌, map, length, sym, ap, subst, arith}
 use Rattle.std.specs.List.{All, range_with_len}
 use Rattle.std.proofs.lemmas.List.{map-append, length-map}
 use Rattle.std.proofs.lemmas.List.FromFn.{length-range_with_len, get_or-range_with_len}
-use Rattle.aql_base.specs.Bags.{SameBag}
 use Rattle.span_token.specs.Documents.{Doc}
 use Rattle.row_values.specs.Datums.{Datum}
-use Rattle.row_values.specs.Rows.{RowList, RowsLieIn, sorted}
-use Rattle.row_values.specs.SortedRows.{sorted-SameBag}
 use Rattle.scalar_ops.specs.Expressions.{Term}
 use Rattle.scalar_ops.specs.Tables.{Lists}
 use Rattle.scalar_ops.specs.Values.{value}
 use Rattle.scalar_ops.specs.Views.{term_of}
 use Rattle.scalar_ops.specs.declared.expr.Expr.{Expr}
 use Rattle.group_agg.specs.declared.agg.Agg.{Agg}
-use Rattle.group_agg.specs.Groups.{HasKey, grouped}
-use Rattle.group_agg.specs.Limits.{IsLimited}
-use Rattle.aql_meaning.proofs.Lying.{among_lie, sorted_lie, grouped_lie}
+use Rattle.group_agg.specs.Groups.{HasKey}
 
 last : (a n j : ℕ) → a + n ≡ j → range_with_len a (suc n) ≡ range_with_len a n ++ j ∷ []
 last a zero j is = let same : a ≡ j = omega (arith, is) in ap (λ (k : ℕ). k ∷ []) same
@@ -35,21 +30,6 @@ columns_below columns n width are enough =
 pub keys_there : (columns : List ℕ) (n : ℕ) (aggs : List Agg) → columns ≡ range_with_len 0 n → All (HasKey n) aggs → All (HasKey (length columns)) aggs
 keys_there columns n aggs are there =
     subst (λ (k : ℕ). All (HasKey k) aggs) (sym (ap length are ∙ length-range_with_len 0 n)) there
-
--- a bag in row order is the sorted list
-pub in_row_order : (rows : List (List Datum)) (out : RowList) (after : RowList) → SameBag rows out.rows
-    → after ≡ record { width = out.width; rows = sorted out.rows } → after.rows ≡ sorted rows
-in_row_order rows out after bag is = ap (λ (list : RowList). list.rows) is ∙ sym (sorted-SameBag rows out.rows bag)
-
--- where the first rows lie
-pub limited_lie : (doc : Doc) (keys : List ℕ) (limit : Option ℕ) (rows out after : RowList) → IsLimited keys limit rows out
-    → after ≡ record { width = out.width; rows = sorted out.rows } → RowsLieIn doc rows.rows → RowsLieIn doc after.rows
-limited_lie doc keys limit rows out after limits is lies =
-    subst (λ (list : RowList). RowsLieIn doc list.rows) (sym is) (sorted_lie doc out.rows (among_lie doc out.rows limits.rest rows.rows limits.parts lies))
-
--- and those of groups
-pub groups_lie : (doc : Doc) (keys : List ℕ) (aggs : List Agg) (rows after : List (List Datum)) → after ≡ sorted (grouped keys aggs rows) → RowsLieIn doc rows → RowsLieIn doc after
-groups_lie doc keys aggs rows after is lies = subst (RowsLieIn doc) (sym is) (sorted_lie doc (grouped keys aggs rows) (grouped_lie doc keys aggs rows lies))
 
 -- the values of each of two lists of expressions
 pub values_one_by_one : (lists : Lists) (doc : Doc) (row : List Datum) (keys arguments : List Term)

@@ -1,8 +1,8 @@
 -- Rows that are lent to sources, one after another.
-use Rattle.std.proofs.Common.{◌≡◌, ◌∙◌, ℕ, zero, suc, Bool, refl, ◌+◌, ◌<◌, ◌≤◌, ◌++◌, List, [], ◌∷◌, map, length, take, get_or, sym, ap, ap₂, subst, arith}
-use Rattle.std.specs.List.{All, AllZip, filter}
+use Rattle.std.proofs.Common.{◌≡◌, ◌∙◌, ℕ, zero, suc, refl, ◌+◌, ◌<◌, ◌≤◌, ◌++◌, List, [], ◌∷◌, map, length, take, get_or, sym, ap, ap₂, subst, arith}
+use Rattle.std.specs.List.{All, AllZip}
 use Rattle.std.proofs.lemmas.List.{map-append, take_more, take_all}
-use Rattle.std.proofs.lemmas.List.Elements.{All-push, filter-append}
+use Rattle.std.proofs.lemmas.List.Elements.{All-push}
 use Rattle.span_token.specs.Documents.{Doc}
 use Rattle.row_values.specs.Datums.{Datum}
 use Rattle.row_values.specs.Rows.{RowList, RowsLieIn}
@@ -67,10 +67,3 @@ at_item P xs i x below is all = subst P (sym is) (all i x below)
 -- a list of rows by its rows and its width
 pub list_is : (list : RowList) (width : ℕ) (rows : List (List Datum)) → list.width ≡ width → list.rows ≡ rows → list ≡ record { width = width; rows = rows }
 list_is list width rows wide are = ap₂ (λ (w : ℕ) (r : List (List Datum)). record { width = w; rows = r }) wide are
-
--- the rows that pass a test, with one row more
-pub passing_more : (p : List Datum → Bool) (items : List (List Datum)) (i : ℕ) (row : List Datum) (before after : List (List Datum)) → i < length items → row ≡ get_or items i row
-    → before ≡ filter p (take i items) → after ≡ before ++ filter p (row ∷ []) → after ≡ filter p (take (i + 1) items)
-passing_more p items i row before after below at so_far put =
-    put ∙ (ap (λ (rows : List (List Datum)). rows ++ filter p (row ∷ [])) so_far
-    ∙ (sym (filter-append p (take i items) (row ∷ [])) ∙ ap (filter p) (sym (take_more items i row below ∙ ap (λ (r : List Datum). take i items ++ r ∷ []) (sym at)))))

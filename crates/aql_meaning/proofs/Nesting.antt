@@ -21,7 +21,7 @@ use Rattle.scalar_ops.specs.SideLaws.{left_conditions, later_conditions, holding
 use Rattle.aql_typed.specs.Meaning.{selected}
 use Rattle.aql_meaning.specs.declared.nest.Level.{Level}
 use Rattle.aql_meaning.specs.Sources.{products}
-use Rattle.aql_meaning.specs.Nests.{terms_lent, all_conds, AreEarly, IsNest}
+use Rattle.aql_meaning.specs.Nests.{HoldAlike, terms_lent, all_conds, AreEarly, IsNest}
 
 nothing : {X Y : Type 0} (p : X → Bool) (f : Y → X) (ys : List Y) → ((y : Y) → p (f y) ≡ false) → filter p (map f ys) ≡ []
 nothing p f [] never = refl
@@ -151,15 +151,11 @@ rest_early levels rest first lead are early row longer is wide =
 
 -- ---- a nest of no level, and with one more
 
-pub no_level : (exprs : List Expr) (lent : List (Bor Expr)) (levels : List Level) → map (λ c. c.now) lent ≡ exprs → levels ≡ [] → IsNest [] (map term_of exprs) levels (terms_lent lent) 0
-no_level exprs lent levels is none =
-    subst (λ (ls : List Level). IsNest [] (map term_of exprs) ls (terms_lent lent) 0) (sym none)
-    (record {
-      early = tt;
-      sources_are = refl;
-      wide = refl;
-      same = λ lists doc row. ap (λ (cs : List Term). holding lists doc cs row) (sym (map-map term_of (λ (c : Bor Expr). c.now) lent) ∙ ap (map term_of) is);
-    })
+pub no_level : (exprs : List Expr) (parts : List (Bor Expr)) (levels : List Level) → HoldAlike (terms_lent parts) (map term_of exprs) → levels ≡ []
+    → IsNest [] (map term_of exprs) levels (terms_lent parts) 0
+no_level exprs parts levels alike none =
+    subst (λ (ls : List Level). IsNest [] (map term_of exprs) ls (terms_lent parts) 0) (sym none)
+    (record { early = tt; sources_are = refl; wide = refl; same = alike })
 
 module _ {X : Type 0} (f : X → RowList) where
   pub level_put : (sources : List X) (i : ℕ) (source : X) (conds : List Term) (levels after : List Level) (last later : List Term) (width wider : ℕ) (level : Level) → i < length sources

@@ -3,8 +3,6 @@
 pub mod RowLists
 pub mod Outputs
 -- Words of private clauses
--- what a search in a row wants, and where what is found lies
-pub mod Finds
 -- what sources mean, with their widths
 pub mod Sources
 -- nested loops, and the conditions that are tried before each

@@ -16,6 +16,10 @@ use Rattle.aql_meaning.specs.declared.nest.Level.{Level}
 abbrev pub terms_lent : List (Bor Expr) → List Term
 terms_lent = map (λ cond. term_of cond.now)
 
+-- conditions that hold for the same rows
+abbrev pub HoldAlike : List Term → List Term → Type 0
+HoldAlike conds others = (lists : Lists) (doc : Doc) (row : List Datum) → holding lists doc conds row ≡ holding lists doc others row
+
 -- the conditions of all levels, and those that are left for whole combinations
 abbrev pub all_conds : List Level → List Term → List Term
 all_conds [] last = last
@@ -31,4 +35,4 @@ pub record IsNest (sources : List RowList) (conds : List Term) (levels : List Le
   pub early : AreEarly 0 levels
   pub sources_are : map (λ level. level.source.now) levels ≡ sources
   pub wide : width ≡ sum_by (λ source. source.width) sources
-  pub same : (lists : Lists) (doc : Doc) (row : List Datum) → holding lists doc (all_conds levels last) row ≡ holding lists doc conds row
+  pub same : HoldAlike (all_conds levels last) conds

@@ -2,23 +2,18 @@
 //!
 //! `slow` gives exactly the rows of each view's meaning (`meanings`, `aql_typed`), each view evaluated
 //! once, by rank; no plan, no rewrite and no join takes part. Stands on `aql_typed` for programs and
-//! their meaning, on `scalar_ops` for expressions and extractions, and on `span_sets` and `group_agg` for
-//! consolidation, blocks, groups and limits.
+//! their meaning, on `scalar_ops` for expressions, and on `row_operators` for what is done to rows.
 #![tactic(auto)]
 
 mod combine;
 mod extract;
-mod find;
 mod keep;
 mod meanings;
 mod nest;
 mod project;
 mod query;
 mod select;
-mod sides;
 mod sources;
-mod values;
 
 pub use meanings::{rows_for, slow};
 pub use query::slow_query;
-pub use sources::document_rows;

@@ -1,12 +1,14 @@
 //! Nested loops over sources: which conditions are tried before which loop.
 
-ghost use Rattle.std.specs.Prelude.{◌≡◌, map, IfOk};
+ghost use Rattle.std.specs.Bool.{OnTrue};
+ghost use Rattle.std.specs.Prelude.{◌≡◌, ◌<◌, ◌∷◌, [], ◌++◌, length, map, IfOk, OnOk};
+ghost use Rattle.scalar_ops.specs.declared.op.Op.TheVariants.{And};
 ghost use Rattle.scalar_ops.specs.SideLaws.{left_conditions, later_conditions};
 ghost use Rattle.scalar_ops.specs.Views.{term_of};
-ghost use Rattle.aql_meaning.specs.Nests.{IsNest, terms_lent};
+ghost use Rattle.aql_meaning.specs.Nests.{HoldAlike, IsNest, terms_lent};
 
 use row_values::Rows;
-use scalar_ops::{Expr, reads_below};
+use scalar_ops::{Expr, Op, reads_below};
 use span_token::OutOfMemory;
 use std::alloc::Global;
 
@@ -27,7 +29,8 @@ pub(crate) struct Nest<'r, 'd> {
     pub width: u32,
 }
 
-/// The loops over the sources in their order, and each condition as far out as it can be tried.
+/// The loops over the sources in their order, and each condition as far out as it can be tried. Conditions
+/// that an `And` joins are tried apart.
 pub(crate) fn nest_of<'r, 'd>(
     alloc: Global,
     sources: &[&'r Rows<'d>],
@@ -36,7 +39,7 @@ pub(crate) fn nest_of<'r, 'd>(
     ensures { IfOk result (λ nest. IsNest (map (λ source. source.now) sources.now) (map term_of conds.now) nest.levels.items (terms_lent nest.last.items) nest.width) }
 {
     let mut levels = Vec::new(alloc);
-    let mut last = lent(alloc, conds)?;
+    let mut last = parted(alloc, conds)?;
     let mut width: u32 = 0;
     for source in sources {
         let conds = early(alloc, last.as_slice(), width)?;
@@ -54,11 +57,49 @@ pub(crate) fn nest_of<'r, 'd>(
     })
 }
 
-/// The conditions, borrowed, in their order.
-fn lent<'d>(alloc: Global, conds: &'d [Expr]) -> Result<Vec<&'d Expr>, OutOfMemory>
-    ensures { IfOk result (λ lent. map (λ cond. cond.now) lent.items ≡ conds.now) }
+/// The conditions, borrowed; in place of an `And` the conditions that it joins.
+fn parted<'d>(alloc: Global, conds: &'d [Expr]) -> Result<Vec<&'d Expr>, OutOfMemory>
+    ensures { IfOk result (λ parts. HoldAlike (terms_lent parts.items) (map term_of conds.now)) }
 {
-    Ok(conds.iter().collect(alloc)?)
+    let mut parts = Vec::new(alloc);
+    push_all_parts(conds, &mut parts)?;
+    Ok(parts)
+}
+
+/// Puts conditions after the others; in place of an `And` the conditions that it joins.
+#[cycle(parts)]
+fn push_all_parts<'d>(conds: &'d [Expr], into: &mut Vec<&'d Expr>) -> Result<(), OutOfMemory>
+    ensures { OnOk result (HoldAlike (terms_lent into.new.items) (terms_lent into.old.items ++ map term_of conds.now)) }
+{
+    for cond in conds {
+        push_parts(cond, into)?;
+    }
+    Ok(())
+}
+
+/// Puts a condition after the others, or the conditions that it joins. An `And` of none is false, and stays.
+#[cycle(parts)]
+fn push_parts<'d>(cond: &'d Expr, into: &mut Vec<&'d Expr>) -> Result<(), OutOfMemory>
+    ensures { OnOk result (HoldAlike (terms_lent into.new.items) (terms_lent into.old.items ++ term_of cond.now ∷ [])) }
+{
+    if let Expr::Call { op, args } = cond {
+        if joins(*op, args) {
+            push_all_parts(args.as_slice(), into)?;
+            return Ok(());
+        }
+    }
+    into.push(cond)?;
+    Ok(())
+}
+
+/// Whether a call joins conditions: an `And` of one or more.
+fn joins(op: Op, args: &[Expr]) -> bool
+    ensures { OnTrue result ((op ≡ And) × (0 < length args.now)) }
+{
+    match op {
+        Op::And => !args.is_empty(),
+        _ => false,
+    }
 }
 
 /// The conditions that read columns below `width` alone.

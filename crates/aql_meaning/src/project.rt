@@ -7,10 +7,10 @@ ghost use Rattle.aql_typed.specs.Fitting.{FitsProjection, projection_width};
 ghost use Rattle.aql_typed.specs.Meaning.{row_of, projected};
 ghost use Rattle.aql_typed.specs.Views.{projection_of};
 
-use crate::values::{values_for, values_for_each};
 use aql_typed::Projection;
-use group_agg::{Agg, group};
-use row_values::{Row, Rows, sort_rows};
+use group_agg::Agg;
+use row_operators::{columns_of_both, grouped_in_order, values_for, values_for_each};
+use row_values::{Row, Rows};
 use scalar_ops::{Exprs, Tools};
 use span_token::{Document, OutOfMemory};
 use std::alloc::Global;
@@ -71,8 +71,7 @@ fn grouped<'d>(
 {
     let columns = numbers(alloc, keys.as_slice().len())?;
     let values = values_of_both(alloc, tools, doc, rows, keys, arguments)?;
-    let mut out = group(alloc, &values, columns.as_slice(), aggs)?;
-    sort_rows(&mut out)?;
+    let out = grouped_in_order(alloc, &values, columns.as_slice(), aggs)?;
     Ok(out)
 }
 
@@ -105,7 +104,7 @@ fn values_of_both<'d>(
     ensures lies { IfOk result (λ out. RowsLieIn doc.now out.rows) }
     ensures same { tools.new ≡ tools.old }
 {
-    let width = width_of_both(keys, arguments)?;
+    let width = columns_of_both(keys.as_slice().len(), arguments.as_slice().len())?;
     let mut out = Rows::new(alloc, width);
     for row in rows {
         push_both(alloc, tools, doc, row, keys, arguments, &mut out)?;
@@ -135,18 +134,4 @@ fn push_both<'d>(
     values.extend(rest.values())?;
     into.push(values)?;
     Ok(())
-}
-
-/// How many keys and arguments there are.
-fn width_of_both(keys: &Exprs, arguments: &Exprs) -> Result<u32, OutOfMemory>
-    ensures { IfOk result (λ width. width ≡ length (keys.now ++ arguments.now)) }
-{
-    let keys = keys.as_slice().len();
-    let Some(width) = keys.checked_add(arguments.as_slice().len()) else {
-        return Err(OutOfMemory);
-    };
-    match u32::try_from(width) {
-        Ok(width) => Ok(width),
-        Err(_) => Err(OutOfMemory),
-    }
 }

@@ -9,9 +9,9 @@ ghost use Rattle.aql_meaning.specs.RowLists.{rows_in, widths_in, AllLieIn};
 ghost use Rattle.aql_meaning.specs.Sources.{IsOwnOf};
 
 use crate::select::{extraction, selection};
-use crate::sides::{append_rows, without};
-use crate::sources::{document_rows, lent};
+use crate::sources::lent;
 use aql_typed::{TypedExtract, TypedQuery, TypedSelect, TypedSource};
+use row_operators::{append_rows, document_rows, without};
 use row_values::Rows;
 use scalar_ops::Tools;
 use span_token::{Document, OutOfMemory};

@@ -9,10 +9,11 @@ ghost use Rattle.aql_meaning.specs.Sources.{products, IsOwnOf, source_list};
 
 use crate::combine::combined;
 use crate::extract::extracted;
-use crate::keep::{cut, kept, selected};
+use crate::keep::kept;
 use crate::project::projected;
 use crate::sources::lent_sources;
 use aql_typed::{ExtractClauses, SelectClauses, TypedSource};
+use row_operators::{cut, selected};
 use row_values::Rows;
 use scalar_ops::Tools;
 use span_token::{Document, OutOfMemory};

@@ -4,26 +4,14 @@ ghost use Rattle.span_token.specs.Documents.{Doc};
 ghost use Rattle.row_values.specs.Rows.{RowsLieIn};
 ghost use Rattle.scalar_ops.specs.Tables.{Lists};
 ghost use Rattle.aql_typed.specs.Fitting.{SourceFits};
-ghost use Rattle.aql_typed.specs.Meaning.{document_rows};
 ghost use Rattle.aql_typed.specs.Views.{source_of};
 ghost use Rattle.aql_meaning.specs.RowLists.{widths_in, AllLieIn};
 ghost use Rattle.aql_meaning.specs.Sources.{IsOwnOf, source_list};
 
 use aql_typed::TypedSource;
-use row_values::{Row, Rows, Value};
-use span_token::{Document, OutOfMemory};
+use row_values::Rows;
+use span_token::OutOfMemory;
 use std::alloc::Global;
-
-/// The document as a view: one row, the span of the whole text.
-pub fn document_rows<'d>(alloc: Global, doc: &Document<'d>) -> Result<Rows<'d>, OutOfMemory>
-    ensures rows { (lists : Lists) → IfOk result (λ out. out.rows ≡ document_rows lists doc.now) }
-    ensures width { IfOk result (λ out. out.width ≡ 1) }
-    ensures lies { IfOk result (λ out. RowsLieIn doc.now out.rows) }
-{
-    let mut rows = Rows::new(alloc, 1);
-    rows.push(Row::single(alloc, Value::Span(doc.whole())))?;
-    Ok(rows)
-}
 
 /// The rows of a source: those of a view, which are lent, or its own.
 pub(crate) fn lent<'r, 'd>(

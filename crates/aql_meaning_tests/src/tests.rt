@@ -1,7 +1,8 @@
-ghost use Rattle.std.specs.Prelude.{◌≡◌, [], map, IfOk};
-ghost use Rattle.aql_typed.specs.Fitting.{Fits, AllSourcesFit, width_of};
+ghost use Rattle.std.specs.Prelude.{◌≡◌, [], map, All, IfOk};
+ghost use Rattle.aql_typed.specs.Fitting.{Fits, AllSourcesFit, all_widths, width_of};
 ghost use Rattle.aql_typed.specs.Trees.{as_sources};
 ghost use Rattle.aql_typed.specs.Views.{query_of, source_of};
+ghost use Rattle.scalar_ops.specs.Expressions.{ReadsBelow};
 
 use aql_meaning::slow_query;
 use aql_regex_extract::compile_pattern;
@@ -10,7 +11,7 @@ use aql_typed::{
     TypedSource,
 };
 use row_values::{Row, Rows};
-use scalar_ops::{Expr, Exprs, Op, Tables, Tools};
+use scalar_ops::{Expr, Exprs, Op, Tables, Tools, reads_below};
 use span_token::{Document, OutOfMemory};
 use std::alloc::Global;
 use std::test::Fail;
@@ -24,8 +25,20 @@ fn tables_of(alloc: Global) -> Result<Tables, Fail> {
     Ok(Tables::new(alloc, patterns, &[])?)
 }
 
+/// One expression, which has to read columns below a width alone.
+fn reading(alloc: Global, width: u32, expr: Expr) -> Result<Exprs, Fail>
+    ensures { IfOk result (All (ReadsBelow width)) }
+{
+    if !reads_below(&expr, width) {
+        return Err(Fail::new("a column that isn't there"));
+    }
+    let mut exprs = Vec::new(alloc);
+    exprs.push(expr)?;
+    Ok(Exprs::from(exprs))
+}
+
 /// The numbers of the document, of which at least `least` characters stand in front.
-fn numbers(alloc: Global, least: i64) -> Result<TypedQuery, OutOfMemory>
+fn numbers(alloc: Global, least: i64) -> Result<TypedQuery, Fail>
     ensures fits { IfOk result (λ query. Fits [] (query_of query)) }
     ensures width { IfOk result (λ query. width_of [] (query_of query) ≡ 1) }
 {
@@ -39,11 +52,8 @@ fn numbers(alloc: Global, least: i64) -> Result<TypedQuery, OutOfMemory>
         args: begin,
     })?;
     args.push(Expr::Int(least))?;
-    let mut conds = Vec::new(alloc);
-    conds.push(Expr::Call {
-        op: Op::GreaterThan,
-        args,
-    })?;
+    let op = Op::GreaterThan;
+    let conds = reading(alloc, 1, Expr::Call { op, args })?;
     Ok(TypedQuery::Extract(TypedExtract {
         source: TypedSource::Document,
         clauses: ExtractClauses {
@@ -53,7 +63,7 @@ fn numbers(alloc: Global, least: i64) -> Result<TypedQuery, OutOfMemory>
                 pattern: 0,
                 groups,
             },
-            conds: Exprs::from(conds),
+            conds,
             consolidate: None,
             limit: None,
         },
@@ -61,7 +71,7 @@ fn numbers(alloc: Global, least: i64) -> Result<TypedQuery, OutOfMemory>
 }
 
 /// The numbers but for those that stand behind more than five characters.
-fn early_numbers(alloc: Global) -> Result<TypedQuery, OutOfMemory>
+fn early_numbers(alloc: Global) -> Result<TypedQuery, Fail>
     ensures { IfOk result (λ query. Fits [] (query_of query)) }
 {
     let all = Box::new(alloc, numbers(alloc, 0)?)?;
@@ -70,8 +80,9 @@ fn early_numbers(alloc: Global) -> Result<TypedQuery, OutOfMemory>
 }
 
 /// The numbers, and the numbers again.
-fn two_sources(alloc: Global) -> Result<Vec<TypedSource>, OutOfMemory>
-    ensures { IfOk result (λ sources. AllSourcesFit [] (as_sources (map source_of sources.items))) }
+fn two_sources(alloc: Global) -> Result<Vec<TypedSource>, Fail>
+    ensures width { IfOk result (λ sources. all_widths [] (as_sources (map source_of sources.items)) ≡ 2) }
+    ensures fit { IfOk result (λ sources. AllSourcesFit [] (as_sources (map source_of sources.items))) }
 {
     let left = Box::new(alloc, numbers(alloc, 0)?)?;
     let right = Box::new(alloc, numbers(alloc, 0)?)?;
@@ -81,17 +92,17 @@ fn two_sources(alloc: Global) -> Result<Vec<TypedSource>, OutOfMemory>
     Ok(sources)
 }
 
-fn of_both(alloc: Global, op: Op) -> Result<Exprs, OutOfMemory> {
+fn of_both(alloc: Global, op: Op) -> Result<Exprs, Fail>
+    ensures { IfOk result (All (ReadsBelow 2)) }
+{
     let mut args = Vec::new(alloc);
     args.push(Expr::Column(0))?;
     args.push(Expr::Column(1))?;
-    let mut items = Vec::new(alloc);
-    items.push(Expr::Call { op, args })?;
-    Ok(Exprs::from(items))
+    reading(alloc, 2, Expr::Call { op, args })
 }
 
 /// From each number to one that follows it.
-fn pairs(alloc: Global) -> Result<TypedQuery, OutOfMemory>
+fn pairs(alloc: Global) -> Result<TypedQuery, Fail>
     ensures { IfOk result (λ query. Fits [] (query_of query)) }
 {
     let sources = two_sources(alloc)?;

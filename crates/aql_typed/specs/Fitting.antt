@@ -1,9 +1,10 @@
 -- What is asked of a query, so that it can be evaluated and its rows have one width: the sides of a union and of a
--- difference have one, blocks have no items; each aggregate names a key or an argument, each order key a column, and a
--- run of tokens has one token or more.
-use Rattle.std.specs.Prelude.{ℕ, ◌+◌, ◌<◌, ◌≤◌, ◌≡◌, List, [], ◌∷◌, ◌++◌, length, All, slice_index_or}
+-- difference have one, blocks have no items; each aggregate names a key or an argument, each order key a column, a
+-- run of tokens has one token or more, and every column that an expression or an extraction reads is there.
+use Rattle.std.specs.Prelude.{ℕ, ◌+◌, ◌<◌, ◌≤◌, ◌≡◌, List, [], ◌∷◌, ◌++◌, length, All, slice_index_or, Option, IfSome}
 use Rattle.group_agg.specs.Groups.{HasKey, HasColumn}
-use Rattle.aql_typed.specs.Trees.{Projection, plain, grouped_by, SelectClauses, Extraction, regex, token_regex, dict, blocks, ExtractClauses, Query, select, extract, union, minus, Queries, no_queries, more_queries, Source, document, view, nested, Sources, no_sources, more_sources}
+use Rattle.scalar_ops.specs.Expressions.{Term, ReadsBelow}
+use Rattle.aql_typed.specs.Trees.{Consolidation, Projection, plain, grouped_by, SelectClauses, Extraction, regex, token_regex, dict, blocks, ExtractClauses, Query, select, extract, union, minus, Queries, no_queries, more_queries, Source, document, view, nested, Sources, no_sources, more_sources}
 
 -- the number of columns that a projection gives
 abbrev pub projection_width : Projection → ℕ
@@ -34,6 +35,36 @@ FitsExtraction clauses extraction = Unit {0}
 abbrev pub FitsSelect : SelectClauses → Type 0
 FitsSelect clauses = FitsProjection clauses.projection × All (λ column. column < projection_width clauses.projection) clauses.order
 
+-- the expressions of a projection: its items, or its keys and the arguments of its aggregates
+abbrev pub projected_terms : Projection → List Term
+projected_terms (plain items) = items
+projected_terms (grouped_by keys arguments aggregates) = keys ++ arguments
+
+-- the target of a consolidation, if there is one, reads columns below a width
+abbrev pub TargetReads : ℕ → Option Consolidation → Type 0
+TargetReads width consolidate = IfSome consolidate (λ c. ReadsBelow width c.target)
+
+-- what a selection reads is there, among so many columns of its sources
+pub record SelectReads (width : ℕ) (clauses : SelectClauses) : Type 0 where
+  pub conds : All (ReadsBelow width) clauses.conds
+  pub target : TargetReads width clauses.consolidate
+  pub items : All (ReadsBelow width) (projected_terms clauses.projection)
+
+-- the column in which an extraction searches
+abbrev pub searched_column : Extraction → ℕ
+searched_column (regex column p groups) = column
+searched_column (token_regex column low high p groups) = column
+searched_column (dict column d) = column
+searched_column (blocks column low high from to tokens) = column
+
+-- what an extraction reads is there, among so many columns of its source; its conditions and its target read the items
+-- and what is found
+pub record ExtractReads (width : ℕ) (clauses : ExtractClauses) : Type 0 where
+  pub column : searched_column clauses.extraction < width
+  pub items : All (ReadsBelow width) clauses.items
+  pub conds : All (ReadsBelow (extract_width clauses)) clauses.conds
+  pub target : TargetReads (extract_width clauses) clauses.consolidate
+
 module _ (widths : List ℕ) where
   abbrev mutual
     -- the number of columns of a query, where `widths` has those of the views by their numbers
@@ -59,8 +90,8 @@ module _ (widths : List ℕ) where
 
   abbrev mutual
     pub Fits : Query → Type 0
-    Fits (select sources clauses) = AllSourcesFit sources × FitsSelect clauses
-    Fits (extract source clauses) = SourceFits source × FitsExtraction clauses clauses.extraction
+    Fits (select sources clauses) = AllSourcesFit sources × FitsSelect clauses × SelectReads (all_widths sources) clauses
+    Fits (extract source clauses) = SourceFits source × FitsExtraction clauses clauses.extraction × ExtractReads (source_width source) clauses
     Fits (union sides) = SidesFit (first_width sides) sides
     Fits (minus left right) = Fits left × Fits right × (width_of right ≡ width_of left)
 

@@ -1,6 +1,6 @@
 -- Typed programs: what names views and outputs may have.
-use Rattle.std.specs.Prelude.{ℕ, ◌≡◌, ◌<◌, List, [], map, length, All, IfSome}
-use Rattle.row_values.specs.Outputs.{HasDistinctNames}
+use Rattle.std.specs.Prelude.{ℕ, ◌≡◌, ◌<◌, List, [], ◌∷◌, map, length, All, Option, None, Some, IfSome, slice_index_or, codes}
+use Rattle.row_values.specs.Outputs.{HasDistinctNames, OutputNames}
 use Rattle.aql_typed.specs.declared.tree.TypedView.{TypedView}
 use Rattle.aql_typed.specs.declared.tree.Output.{Output}
 use Rattle.aql_typed.specs.Views.{body_of}
@@ -24,3 +24,12 @@ NamesView number out = IfSome out.view (λ n. n < number)
 pub record AreTypedOutputs (number : ℕ) (outputs : List Output) : Type 0 where
   pub named : All (NamesView number) outputs
   pub distinct : HasDistinctNames (map (λ out. out.name) outputs)
+
+-- the names of the columns of a view; the document has one
+abbrev pub columns_shown : List TypedView → Option ℕ → List (List ℕ)
+columns_shown views None = codes "text" ∷ []
+columns_shown views (Some n) = slice_index_or (map column_names views) n []
+
+-- an output's name with those of its columns
+abbrev pub names_of : List TypedView → Output → OutputNames
+names_of views out = record { name = out.name; columns = columns_shown views out.view }

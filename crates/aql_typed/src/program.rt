@@ -10,8 +10,9 @@ use std::marker::Model;
 /// A program without a fault: its views, each standing on those before it, its patterns and dictionaries,
 /// and its outputs.
 ///
-/// Contracts see the three. The rows of a view have as many values as it has columns; no two columns of a
-/// view and no two outputs have one name, and each output names a view or the document.
+/// Contracts see the three. The rows of a view have as many values as it has columns, and every column that
+/// an expression or an extraction reads is there; no two columns of a view and no two outputs have one name,
+/// and each output names a view or the document.
 #[derive(Drop)]
 pub struct Typed {
     views: Vec<TypedView>,
@@ -73,5 +74,16 @@ impl Typed {
         ensures valid { AreTypedOutputs (length self.now.0) self.now.1.1 }
     {
         self.outputs.as_slice()
+    }
+
+    /// The views, the tables and the outputs, handed over.
+    pub fn into_parts(self) -> (Vec<TypedView>, Tables, Vec<Output>)
+        ensures views { result.0.items ≡ self.0 }
+        ensures tables { result.1 ≡ self.1.0 }
+        ensures outputs { result.2.items ≡ self.1.1 }
+        ensures valid_views { AreTypedViews self.0 }
+        ensures valid_outputs { AreTypedOutputs (length self.0) self.1.1 }
+    {
+        (self.views, self.tables, self.outputs)
     }
 }

@@ -1,11 +1,12 @@
 -- Queries without a fault fit, have as many columns as they give, and no two of one name.
-use Rattle.std.proofs.Common.{◌≡◌, ◌∙◌, ◌+◌, ◌<◌, ℕ, suc, Bool, true, false, if◌then◌else◌, List, [], ◌∷◌, ◌++◌, map, length, refl, ap, sym, subst, arith}
+use Rattle.std.proofs.Common.{◌≡◌, ◌∙◌, ◌+◌, ◌<◌, ◌≤◌, ℕ, suc, slice_index_or, Bool, true, false, if◌then◌else◌, List, [], ◌∷◌, ◌++◌, map, length, refl, ap, ap₂, sym, subst, arith, append_assoc}
 use Rattle.std.specs.Str.{bytes_eq}
 use Rattle.std.proofs.lemmas.Bool.{and_parts, false≢true}
-use Rattle.std.proofs.lemmas.List.{length-map}
+use Rattle.std.proofs.Math.Seq.{get_or-append_seam}
+use Rattle.std.proofs.lemmas.List.{length-append, length-map}
 use Rattle.row_values.specs.Outputs.{HasDistinctNames}
 use Rattle.aql_syntax.specs.Trees.{Query, select, extract, union, minus, Queries, no_queries, more_queries, Source, view, nested, Sources, no_sources, more_sources}
-use Rattle.aql_typed.specs.Fitting.{width_of, first_width, Fits, SidesFit, SourceFits, AllSourcesFit}
+use Rattle.aql_typed.specs.Fitting.{width_of, first_width, source_width, all_widths, Fits, SidesFit, SourceFits, AllSourcesFit}
 use Rattle.aql_typed.specs.Trees as tree
 use Rattle.aql_typed.specs.declared.tree.Column.{Column}
 use Rattle.aql_types.specs.declared.fault.TypeRule.TheVariants.{DuplicateColumn, SchemaMismatch}
@@ -13,11 +14,13 @@ use Rattle.aql_types.specs.Extractions.{names_found, items_extracted, found_faul
 use Rattle.aql_types.specs.Items.{names_of_items}
 use Rattle.aql_types.specs.Known.{Known}
 use Rattle.aql_types.specs.Queries.{View, view_named, same_column, same_columns, faults_of_sides, mismatch, mismatches, mismatched, first_columns, typing_of_query, typings_of_queries, typing_of_source, typings_of_sources}
-use Rattle.aql_types.specs.Selections.{QueryTyping, faults_of_sources, bodies_of, duplicate_aliases, row_of, rows_faults, items_typed}
+use Rattle.aql_types.specs.Scopes.{Scope}
+use Rattle.aql_types.specs.Selections.{QueryTyping, SourceTyping, visible_in, faults_of_sources, bodies_of, duplicate_aliases, row_of, rows_faults, items_typed}
 use Rattle.aql_types.proofs.FitsLists.{both_none, unbroken}
 use Rattle.aql_types.proofs.FitsNames.{names_in, no_duplicate, names_of_columns, names_given}
-use Rattle.aql_types.proofs.FitsSelections.{rows_wide, rows_fit, names_once}
-use Rattle.aql_types.proofs.FitsExtractions.{extract_wide, spec_sound, found_once, extraction_fits}
+use Rattle.aql_types.proofs.FitsReads.{row_width, ScopeReads}
+use Rattle.aql_types.proofs.FitsSelections.{rows_wide, rows_fit, names_once, rows_read}
+use Rattle.aql_types.proofs.FitsExtractions.{extract_wide, spec_sound, found_once, extraction_fits, extract_reads}
 
 -- the numbers of columns of some views
 abbrev pub widths_in : List View → List ℕ
@@ -35,6 +38,24 @@ named_fits widths name number (v ∷ views) long =
     by true here later = here
     by false here later = later
 
+-- and has as many columns as are known of it, where those in front of the views that are looked through are `front`
+named_wide : (widths front : List ℕ) (name : List ℕ) (number : ℕ) (views : List View) → front ++ widths_in views ≡ widths → length front ≡ number
+    → source_width widths (view_named name number views).body ≡ length (view_named name number views).columns
+named_wide widths front name number [] are counted = refl
+named_wide widths front name number (v ∷ views) are counted =
+    by (bytes_eq v.name name)
+    (named_wide widths (front ++ length v.columns ∷ []) name (suc number) views
+    (append_assoc front (length v.columns ∷ []) (widths_in views) ∙ are)
+    (length-append front (length v.columns ∷ []) ∙ omega (arith, counted)))
+  where
+    by : (b : Bool) → source_width widths (view_named name (suc number) views).body ≡ length (view_named name (suc number) views).columns
+        → source_width widths (if b then record { columns = v.columns; body = tree.view number } else view_named name (suc number) views).body
+        ≡ length (if b then record { columns = v.columns; body = tree.view number } else view_named name (suc number) views).columns
+    by true later =
+        sym (ap₂ (λ (ws : List ℕ) (n : ℕ). slice_index_or ws n 0) are counted)
+        ∙ get_or-append_seam front (length v.columns) (widths_in views) 0
+    by false later = later
+
 -- equal columns are equally many
 as_wide : (columns others : List Column) → same_columns columns others ≡ true → length others ≡ length columns
 as_wide [] [] h = refl
@@ -49,10 +70,19 @@ side_as_wide : (side later : QueryTyping) → mismatch side later ≡ []
     → length later.columns ≡ length side.columns
 side_as_wide side later h = as_wide side.columns later.columns (unbroken (same_columns side.columns later.columns) later.at SchemaMismatch h)
 
+as_many : {n m : ℕ} → n ≡ m → m ≤ n
+as_many {n} {m} same = omega (arith, same)
+
 module _ (widths : List ℕ) where
   -- a query fits, and has as many columns as are said
   abbrev pub IsFit : QueryTyping → Type 0
   IsFit t = Fits widths t.body × (width_of widths t.body ≡ length t.columns)
+
+  abbrev IsSourceFit : SourceTyping → Type 0
+  IsSourceFit s = SourceFits widths s.body × (source_width widths s.body ≡ length s.columns)
+
+  abbrev AreSourcesFit : List SourceTyping → Type 0
+  AreSourcesFit ss = AllSourcesFit widths (tree.as_sources (bodies_of ss)) × (all_widths widths (tree.as_sources (bodies_of ss)) ≡ row_width (visible_in ss))
 
   abbrev AllAreFit : List QueryTyping → Type 0
   AllAreFit [] = Unit {0}
@@ -89,12 +119,23 @@ module _ (known : Known) (below : List View) (widths : List ℕ) (are : widths �
         let row = row_of typings in
         let p = both_none (faults_of_sources typings) (duplicate_aliases typings ++ rows_faults known row items clauses) h in
         let q = both_none (duplicate_aliases typings) (rows_faults known row items clauses) p.1 in
-        ((sources_fit sources p.0, rows_fit known row items clauses q.1), rows_wide known row items clauses)
+        let fit = sources_fit sources p.0 in
+        let width = all_widths widths (tree.as_sources (bodies_of typings)) in
+        let reads : ScopeReads width row = record { sources = as_many fit.1; names = tt } in
+        ((fit.0, rows_fit known row items clauses q.1, rows_read width known row items clauses reads), rows_wide known row items clauses)
     query_fits (extract at items spec source tail) h =
         let typing = typing_of_source known below source in
         let row = row_of_one typing in
-        let p = both_none typing.faults (found_faults known row items spec tail) h in (
-          (source_fits source p.0, extraction_fits known row items spec tail (spec_sound known row items spec tail p.1)),
+        let p = both_none typing.faults (found_faults known row items spec tail) h in
+        let fit = source_fits source p.0 in
+        let width = source_width widths typing.body in
+        let wide : width ≡ row_width row.sources = fit.1 ∙ omega arith in
+        let reads : ScopeReads width row = record { sources = as_many wide; names = tt } in (
+          (
+            fit.0,
+            extraction_fits known row items spec tail (spec_sound known row items spec tail p.1),
+            extract_reads known row items spec tail p.1 width reads,
+          ),
           extract_wide known row items spec tail,
         )
     query_fits (union sides) h =
@@ -119,16 +160,17 @@ module _ (known : Known) (below : List View) (widths : List ℕ) (are : widths �
         let p = both_none (typing_of_query known below query).faults (faults_of_sides (typings_of_queries known below queries)) h in
         (query_fits query p.0, queries_fit queries p.1)
 
-    source_fits : (s : Source) → (typing_of_source known below s).faults ≡ [] → SourceFits widths (typing_of_source known below s).body
-    source_fits (view name alias) h = named_fits widths name.text 0 below long_widths
-    source_fits (nested query alias) h = (query_fits query h).0
+    source_fits : (s : Source) → (typing_of_source known below s).faults ≡ [] → IsSourceFit widths (typing_of_source known below s)
+    source_fits (view name alias) h = (named_fits widths name.text 0 below long_widths, named_wide widths [] name.text 0 below (sym are) refl)
+    source_fits (nested query alias) h = query_fits query h
 
-    sources_fit : (ss : Sources) → faults_of_sources (typings_of_sources known below ss) ≡ []
-        → AllSourcesFit widths (tree.as_sources (bodies_of (typings_of_sources known below ss)))
-    sources_fit no_sources h = tt
+    sources_fit : (ss : Sources) → faults_of_sources (typings_of_sources known below ss) ≡ [] → AreSourcesFit widths (typings_of_sources known below ss)
+    sources_fit no_sources h = (tt, refl)
     sources_fit (more_sources source sources) h =
         let p = both_none (typing_of_source known below source).faults (faults_of_sources (typings_of_sources known below sources)) h in
-        (source_fits source p.0, sources_fit sources p.1)
+        let one = source_fits source p.0 in
+        let more = sources_fit sources p.1 in
+        ((one.0, more.0), ap₂ ◌+◌ one.1 more.1)
 
 -- no two columns of one name
 abbrev pub AreNamed : List Column → Type 0

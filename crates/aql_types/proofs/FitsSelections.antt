@@ -1,13 +1,15 @@
--- A selection without a fault gives as many columns as its projection, and its keys and columns are there.
+-- A selection without a fault gives as many columns as its projection; its keys and columns are there, and so are the
+-- columns that its expressions read.
 use Rattle.std.proofs.Common.{◌≡◌, ◌∙◌, ◌+◌, ◌<◌, ◌≤◌, ℕ, suc, Bool, true, false, ◌||◌, if◌then◌else◌, List, [], ◌∷◌, ◌++◌, map, length, All, refl, ap, sym, subst, arith}
 use Rattle.std.proofs.lemmas.Bool.{ltb-true}
 use Rattle.std.proofs.lemmas.List.{length-append, length-map}
-use Rattle.std.proofs.lemmas.List.Elements.{All-nil, All-cons}
+use Rattle.std.proofs.lemmas.List.Elements.{All-nil, All-cons, All-head, All-tail, All-append}
 use Rattle.group_agg.specs.Groups.{HasKey, HasColumn}
 use Rattle.aql_syntax.specs.Trees.{Term, Item, Clauses}
 use Rattle.aql_typed.specs.Trees as tree
-use Rattle.aql_typed.specs.Fitting.{projection_width, FitsProjection, FitsSelect}
+use Rattle.aql_typed.specs.Fitting.{projection_width, FitsProjection, FitsSelect, projected_terms, SelectReads}
 use Rattle.scalar_ops.specs.Expressions as expressed
+use Rattle.scalar_ops.specs.Expressions.{ReadsBelow}
 use Rattle.scalar_ops.specs.declared.kind.Kind.TheVariants as kind
 use Rattle.aql_types.specs.declared.fault.Breach.{Breach}
 use Rattle.aql_types.specs.declared.fault.TypeRule.TheVariants.{NotGrouped, UnknownColumn}
@@ -18,9 +20,10 @@ use Rattle.aql_types.specs.Items.{place_of, faults_of_items, duplicate_columns, 
 use Rattle.aql_types.specs.Keys.{key_place, is_key, item_place, has_item}
 use Rattle.aql_types.specs.Known.{Known}
 use Rattle.aql_types.specs.Scopes.{Scope}
-use Rattle.aql_types.specs.Selections.{groups, arguments_in, arguments_of, agg_of, agg_in, aggs_of, plain_terms, grouped_faults, projection_by, clause_faults, rows_faults, rows_clauses, items_typed, item_scope}
+use Rattle.aql_types.specs.Selections.{groups, arguments_in, arguments_of, agg_of, agg_in, aggs_of, plain_term, plain_terms, grouped_faults, projection_by, clause_faults, rows_faults, rows_clauses, items_typed, item_scope}
 use Rattle.aql_types.specs.Typings.{Content, expression, row_count, aggregated, ItemTyping, column_of_item}
 use Rattle.aql_types.proofs.FitsLists.{both_none, unbroken}
+use Rattle.aql_types.proofs.FitsReads.{ContentReads, ItemReads, ScopeReads, terms_read, target_reads, select_items_read}
 
 -- an aggregate of a column names no key
 aggregate_key : (keys : ℕ) (a : Aggregate) (column : ℕ) → HasKey keys (agg_of a column)
@@ -161,3 +164,55 @@ module _ (known : Known) (row : Scope) (items : List Item) (clauses : Clauses) w
           projection_fits items clauses.group terms typed (length-map clauses.group _) p.0,
           subst (λ (n : ℕ). All (λ column. column < n) (map (item_place items) clauses.order)) (sym wide) (order_within items clauses.group known scope clauses.order q.0),
         )
+
+-- ---- what it reads
+
+module _ (width : ℕ) where
+  value_reads : (content : Content) → ContentReads width content → ReadsBelow width (plain_term content)
+  value_reads (expression meant) h = h
+  value_reads row_count h = All-nil (λ n. n < width)
+  value_reads (aggregated a meant) h = All-nil (λ n. n < width)
+
+  pub values_read : (typed : List ItemTyping) → All (ItemReads width) typed → All (ReadsBelow width) (plain_terms typed)
+  values_read [] h = All-nil (ReadsBelow width)
+  values_read (t ∷ typed) h =
+      All-cons (ReadsBelow width) (plain_term t.content) (plain_terms typed)
+      (value_reads t.content (All-head (ItemReads width) t typed h))
+      (values_read typed (All-tail (ItemReads width) t typed h))
+
+  argument_reads : (content : Content) → ContentReads width content → All (ReadsBelow width) (arguments_in content)
+  argument_reads (expression meant) h = All-nil (ReadsBelow width)
+  argument_reads row_count h = All-nil (ReadsBelow width)
+  argument_reads (aggregated a meant) h = All-cons (ReadsBelow width) _ [] h (All-nil (ReadsBelow width))
+
+  arguments_read : (typed : List ItemTyping) → All (ItemReads width) typed → All (ReadsBelow width) (arguments_of typed)
+  arguments_read [] h = All-nil (ReadsBelow width)
+  arguments_read (t ∷ typed) h =
+      All-append (ReadsBelow width) (arguments_in t.content) (arguments_of typed)
+      (argument_reads t.content (All-head (ItemReads width) t typed h))
+      (arguments_read typed (All-tail (ItemReads width) t typed h))
+
+  projection_reads : (terms : List expressed.Term) (items : List Item) (typed : List ItemTyping) (keys : List Term)
+      → All (ReadsBelow width) terms → All (ItemReads width) typed
+      → All (ReadsBelow width) (projected_terms (projection_by terms items typed keys))
+  projection_reads terms items typed keys own each = by (groups keys typed)
+    where
+      by : (b : Bool)
+          → All (ReadsBelow width) (projected_terms (if b then tree.grouped_by terms (arguments_of typed) (aggs_of items keys (length keys) items typed) else tree.plain (plain_terms typed)))
+      by true = All-append (ReadsBelow width) terms (arguments_of typed) own (arguments_read typed each)
+      by false = values_read typed each
+
+  -- in the scope of its row it reads columns of the row; so does a bare name that stands for an item
+  pub rows_read : (known : Known) (row : Scope) (items : List Item) (clauses : Clauses) → ScopeReads width row
+      → SelectReads width (rows_clauses known row items clauses)
+  rows_read known row items clauses reads =
+      let each : All (ItemReads width) (items_typed known row items clauses) = select_items_read width known row reads items in
+      let own : ScopeReads width (item_scope known row items clauses) = record { sources = reads.sources; names = each } in
+      record {
+        conds = terms_read width known row reads clauses.conds;
+        target = target_reads width known (item_scope known row items clauses) own clauses.cons;
+        items =
+            projection_reads (terms_of known (item_scope known row items clauses) clauses.group) items (items_typed known row items clauses) clauses.group
+            (terms_read width known (item_scope known row items clauses) own clauses.group)
+            each;
+      }

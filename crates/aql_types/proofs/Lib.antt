@@ -14,6 +14,7 @@ pub mod QueryParts
 pub mod QueryNodes
 pub mod FitsLists
 pub mod FitsNames
+pub mod FitsReads
 pub mod FitsSelections
 pub mod FitsExtractions
 pub mod FitsQueries

@@ -2,11 +2,12 @@ ghost use Rattle.std.specs.Prelude.{◌≡◌, map, All, IfOk, OnOk};
 ghost use Rattle.std.specs.List.{list_all, list_any};
 ghost use Rattle.row_values.specs.Datums.{IsOfDocument, datum_of};
 ghost use Rattle.row_values.specs.Rows.{value_in};
-ghost use Rattle.scalar_ops.specs.Operators.{holds_of_all, is_true};
+ghost use Rattle.scalar_ops.specs.Operators.{IsOfFew, holds_of_all, is_true};
 ghost use Rattle.scalar_ops.specs.Values.{applied, value, holding};
 ghost use Rattle.scalar_ops.specs.Views.{term_of};
 
 use crate::apply::{applied_to_one, applied_to_two, without_operands};
+use crate::comparisons::{column, compared};
 use crate::predicates::is_true;
 use crate::{Expr, Op, Tools};
 use row_values::{Row, Value};
@@ -114,33 +115,62 @@ fn call<'d>(
             *into = Value::Bool(some_holds(tools, doc, row, args)?);
             Ok(())
         }
-        _ => match args {
-            [a] => {
-                evaluate(tools, doc, row, a, into)?;
-                *into = applied_to_one(tools, doc, op, into)?;
+        _ => match compared(row, op, args) {
+            Some(found) => {
+                *into = Value::Bool(found);
                 Ok(())
             }
-            [a, b] => {
-                evaluate(tools, doc, row, a, into)?;
-                let mut second = Value::Null;
-                evaluate(tools, doc, row, b, &mut second)?;
-                *into = applied_to_two(tools, doc, op, into, &second);
-                Ok(())
-            }
-            _ => {
-                *into = without_operands(op);
+            None => {
+                of_values(tools, doc, row, op, args, into)?;
                 Ok(())
             }
         },
     }
 }
 
+/// Puts into `into` what an operator other than `And` and `Or` gives for the values of these arguments.
+#[cycle(eval)]
+#[inline(always)]
+fn of_values<'d>(
+    tools: &mut Tools<'_>,
+    doc: &Document<'d>,
+    row: &Row<'d>,
+    op: Op,
+    args: &'d [Expr],
+    into: &mut Value<'d>,
+) -> Result<(), OutOfMemory>
+    requires few { IsOfFew op }
+    requires in_document { All (IsOfDocument doc.now) row.now }
+    ensures value { OnOk result (datum_of into.new ≡ applied tools.old doc.now op (map (λ arg. value tools.old doc.now row.now (term_of arg)) args.now)) }
+    ensures lies { OnOk result (IsOfDocument doc.now (datum_of into.new)) }
+    ensures same { tools.new ≡ tools.old }
+{
+    match args {
+        [a] => {
+            evaluate(tools, doc, row, a, into)?;
+            *into = applied_to_one(tools, doc, op, into)?;
+            Ok(())
+        }
+        [a, b] => {
+            evaluate(tools, doc, row, a, into)?;
+            let mut second = Value::Null;
+            evaluate(tools, doc, row, b, &mut second)?;
+            *into = applied_to_two(tools, doc, op, into, &second);
+            Ok(())
+        }
+        _ => {
+            *into = without_operands(op);
+            Ok(())
+        }
+    }
+}
+
 /// The value in a column, Null where the row has no such column.
 #[inline(always)]
-fn in_column<'d>(row: &Row<'d>, column: u32) -> Value<'d>
-    ensures { datum_of result ≡ value_in row.now column }
+fn in_column<'d>(row: &Row<'d>, number: u32) -> Value<'d>
+    ensures { datum_of result ≡ value_in row.now number }
 {
-    match row.values().get(column as usize) {
+    match column(row, number) {
         Some(value) => *value,
         None => Value::Null,
     }

@@ -7,6 +7,7 @@
 #![tactic(auto)]
 
 mod apply;
+mod comparisons;
 mod dicts;
 mod evaluation;
 mod expr;

@@ -82,7 +82,10 @@ pub(crate) fn does_contain(a: Value<'_>, b: Value<'_>) -> bool
 pub(crate) fn are_equal(a: &Value<'_>, b: &Value<'_>) -> bool
     ensures { result ≡ holds_of_values (eq_by_cmp datum_cmp) (datum_of a.now ∷ datum_of b.now ∷ []) }
 {
-    !a.is_null() && !b.is_null() && a.cmp(b).is_eq()
+    match (a, b) {
+        (Value::Int(a), Value::Int(b)) => a.cmp(b).is_eq(),
+        _ => !a.is_null() && !b.is_null() && a.cmp(b).is_eq(),
+    }
 }
 
 /// `GreaterThan`

@@ -6,7 +6,7 @@ use Rattle.aql_meaning.proofs.Nesting.{no_level, level_put}
 use Rattle.aql_meaning.proofs.nest.nest_of.Goals as goal
 
 pub loop-source-init : goal.loop-source-init
-loop-source-init c = no_level c.args.conds.now c.in_ok-last.last.items c.new-levels.result.items c.in_ok-last.ensures c.new-levels.ensures.items
+loop-source-init c = no_level c.args.conds.now c.in_ok-last.last.items c.new-levels.result.items (c.in_ok-last.ensures) c.new-levels.ensures.items
 
 pub loop-source-preserved : goal.loop-source-preserved
 loop-source-preserved c =

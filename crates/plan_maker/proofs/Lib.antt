@@ -1,0 +1,16 @@
+-- expressions that are made of a list
+pub mod ExprViews
+-- nodes that give rows, kind by kind
+pub mod Giving
+-- products of sources, and conditions that are tried early
+pub mod Combining
+-- queries that are made of a list
+pub mod Queries
+-- views, one after another
+pub mod Bases
+-- numbers in their order, and columns
+pub mod Numbers
+-- conditions that are taken apart
+pub mod Parting
+-- selections and extractions, one node after another
+pub mod Clauses

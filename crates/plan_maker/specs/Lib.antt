@@ -1,0 +1,8 @@
+-- Words of public clauses
+-- what a plan keeps of a typed program
+pub mod Lowered
+-- the text of a plan
+pub mod PlanTexts
+-- Words of private clauses
+-- what is known of the nodes that stand for queries
+pub mod Grounds

@@ -1,0 +1,21 @@
+//! Plans of programs.
+//!
+//! `lower` gives the plan of a typed program, in which each view stands once: its outputs show what the
+//! views mean, as bags, on every document (`specs/Lowered.antt`). `plan_text` writes a plan line by line
+//! (`specs/PlanTexts.antt`). Stands on `aql_typed` for programs and their meaning, and on `algebra` for
+//! plans, their values and the laws of their nodes.
+#![tactic(auto)]
+
+mod below;
+mod conditions;
+mod copying;
+mod extraction;
+mod joining;
+mod lowering;
+mod outputs;
+mod query;
+mod selection;
+mod text;
+
+pub use lowering::lower;
+pub use text::plan_text;

@@ -1,0 +1,9 @@
+//! Tests of `plan_maker`, apart from it, so that it is proved once: they call its public items alone.
+//!
+//! Stands on `aql_lexer`, `aql_parser`, `view_graph` and `aql_types` for programs from their texts.
+#![tactic(auto)]
+
+#[cfg(test)]
+mod plans;
+#[cfg(test)]
+mod programs;

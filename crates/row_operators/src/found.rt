@@ -1,0 +1,97 @@
+ghost use Rattle.std.specs.Prelude.{◌≡◌, ◌+◌, ◌*◌, ◌∷◌, [], ◌++◌, OnOk, map, length, All, option_map};
+ghost use Rattle.span_token.specs.Extents.{extent_of};
+ghost use Rattle.row_values.specs.Datums.{IsOfDocument, datum_of};
+ghost use Rattle.row_values.specs.Rows.{RowsLieIn};
+ghost use Rattle.aql_regex_extract.specs.Matches.{extents_of};
+ghost use Rattle.aql_regex_extract.specs.Steps.{cut_rows};
+ghost use Rattle.aql_typed.specs.Fitting.{found_width};
+ghost use Rattle.aql_typed.specs.Meaning.{group_value, found_in};
+ghost use Rattle.row_operators.specs.Searches.{extraction_for, HasRuns};
+
+use crate::search::{Search, find};
+use row_values::{Row, Rows, Value};
+use scalar_ops::Tools;
+use span_token::{Document, OutOfMemory, Span};
+use std::alloc::Global;
+
+/// Puts a row for each match in a row of the document after the others: the values of `lead`, followed by
+/// the spans of the groups, Null for one that takes no part. `found` is room for matches, kept from row to
+/// row; what it held is gone.
+///
+/// After want of memory no clause says what `into` holds.
+///
+/// Meaning: `found_in`, `specs/Meaning.antt` of `aql_typed`.
+pub fn push_found<'d>(
+    alloc: Global,
+    tools: &mut Tools<'_>,
+    doc: &Document<'d>,
+    row: &Row<'d>,
+    search: Search<'_>,
+    lead: &Row<'d>,
+    found: &mut Vec<Option<Span>>,
+    into: &mut Rows<'d>,
+) -> Result<(), OutOfMemory>
+    requires in_document { All (IsOfDocument doc.now) row.now }
+    requires lead_in_document { All (IsOfDocument doc.now) lead.now }
+    requires runs { HasRuns (extraction_for search) }
+    requires width { length lead.now + found_width (extraction_for search) ≡ into.old.width }
+    ensures rows { OnOk result (into.new ≡ record { width = into.old.width; rows = into.old.rows ++ map (λ groups. lead.now ++ map group_value groups) (found_in tools.old doc.now (extraction_for search.entry) row.now) }) }
+    ensures lies { RowsLieIn doc.now into.old.rows → OnOk result (RowsLieIn doc.now into.new.rows) }
+    ensures same { tools.new ≡ tools.old }
+{
+    let number = find(alloc, tools, doc, row, search, found)?;
+    push_cut(alloc, lead, found.as_slice(), number, search.width(), into)?;
+    Ok(())
+}
+
+/// Puts so many rows after the others: each the values of `lead`, followed by the spans of so many groups.
+fn push_cut<'d>(
+    alloc: Global,
+    lead: &Row<'d>,
+    found: &[Option<Span>],
+    number: usize,
+    width: usize,
+    into: &mut Rows<'d>,
+) -> Result<(), OutOfMemory>
+    requires width { length lead.now + width ≡ into.old.width }
+    requires whole { length found.now ≡ number * width }
+    ensures { OnOk result (into.new ≡ record { width = into.old.width; rows = into.old.rows ++ map (λ groups. lead.now ++ map group_value groups) (cut_rows number width (extents_of found.now)) }) }
+{
+    let mut rest = found;
+    let mut left = number;
+    'cuts: while left > 0 {
+        let (groups, others) = rest.split_at(width);
+        push_groups(alloc, lead, groups, into)?;
+        rest = others;
+        left -= 1;
+    }
+    Ok(())
+}
+
+/// Puts a row of the values of `lead`, followed by the spans of groups, after the others.
+fn push_groups<'d>(
+    alloc: Global,
+    lead: &Row<'d>,
+    groups: &[Option<Span>],
+    into: &mut Rows<'d>,
+) -> Result<(), OutOfMemory>
+    requires width { length lead.now + length groups.now ≡ into.old.width }
+    ensures { OnOk result (into.new ≡ record { width = into.old.width; rows = into.old.rows ++ (lead.now ++ map group_value (extents_of groups.now)) ∷ [] }) }
+{
+    let mut row = lead.copy(alloc)?;
+    for group in groups {
+        row.push(value_of(*group))?;
+    }
+    into.push(row)?;
+    Ok(())
+}
+
+/// The value of a group: its span, Null where it takes no part.
+fn value_of<'d>(group: Option<Span>) -> Value<'d>
+    ensures { datum_of result ≡ group_value (option_map extent_of group) }
+{
+    match group {
+        Some(span) => Value::Span(span),
+        None => Value::Null,
+    }
+}

@@ -1,0 +1,203 @@
+-- Laws of one event: a legal one keeps what is claimed and published, and that each is needed and each published item
+-- holds its value.
+use Rattle.std.proofs.Common.{◌≡◌, ◌≢◌, ◌⊎◌, inl, inr, ℕ, ◌+◌, ◌*◌, ◌<◌, List, length, get_or, set, refl, sym, ap, subst, ◌∙◌, arith, Option, Some, None, true≢false}
+use Rattle.std.specs.Prelude.{IsSome, is_some, slice_get, replicate}
+use Rattle.std.proofs.lemmas.Bool.{cases_eq, cases_lt}
+use Rattle.std.proofs.lemmas.List.{length-set, length-replicate, get_or-set_same, get_or-set_other, get_or-replicate, get_or_past}
+use Rattle.std.proofs.lemmas.Option.{none-some}
+use Rattle.aql_base.specs.Bags.{SameBag}
+use Rattle.aql_base.specs.BagLaws.{SameBag-trans}
+use Rattle.span_token.specs.Documents.{Doc as Document}
+use Rattle.row_values.specs.Rows.{RowList}
+use Rattle.algebra.specs.Needed.{IsNeeded}
+use Rattle.algebra.specs.Nodes.{IsPlan}
+use Rattle.algebra.specs.Plans.{Parts}
+use Rattle.algebra.specs.Values.{val}
+use Rattle.run_core.specs.declared.event.Event.{Event}
+use Rattle.run_core.specs.declared.event.Event.TheVariants.{Claim, Publish, Late}
+use Rattle.run_core.specs.Boards.{Standing, State, Place, untouched, output_nodes, item_count, fresh, standing, published_on}
+use Rattle.run_core.specs.Events.{MayClaim, MayPublish, IsLegal, item_of, after}
+use Rattle.run_core.specs.PlaceLaws.{same_some, place_of, place-below, at-each}
+use Rattle.run_core.specs.Promises.{IsNeededAt, IsValueAt, Keeps}
+use Rattle.run_core.specs.WantedLaws.{Agrees, wanted-needed, ready-value}
+
+-- there is a standing for each item
+abbrev pub IsSized : State → Type 0
+IsSized board = length board.items ≡ item_count board.plan board.docs
+
+-- an item of the list that was written, or another one
+set_cases : (items : List Standing) (i j : ℕ) (put : Standing) → j < length items
+    → ((i ≡ j) × (get_or (set items j put) i untouched ≡ put)) ⊎ ((i ≢ j) × (get_or (set items j put) i untouched ≡ get_or items i untouched))
+set_cases items i j put below = elim (cases_eq i j) [
+  | inl e ↦ inl (e, ap (λ (k : ℕ). get_or (set items j put) k untouched) e ∙ get_or-set_same items j put untouched below)
+  | inr other ↦ inr (other, get_or-set_other items j i put untouched other)
+]
+
+module _ (board : State) (worker item : ℕ) (rows : Option RowList) (below : item < length board.items) where
+  -- a claim leaves the rows of all items, and the claims of others
+  pub rows-after_claim : (i : ℕ) → (standing (after board (Claim worker item) rows) i).rows ≡ (standing board i).rows
+  rows-after_claim i = elim (set_cases board.items i item (record (standing board item) { claim = Some worker }) below) [
+    | inl here ↦ ap (λ (s : Standing). s.rows) here.1 ∙ ap (λ (k : ℕ). (standing board k).rows) (sym here.0)
+    | inr there ↦ ap (λ (s : Standing). s.rows) there.1
+  ]
+
+  pub claim-after_claim : (i : ℕ) → ((i ≡ item) × ((standing (after board (Claim worker item) rows) i).claim ≡ Some worker))
+      ⊎ ((i ≢ item) × ((standing (after board (Claim worker item) rows) i).claim ≡ (standing board i).claim))
+  claim-after_claim i = elim (set_cases board.items i item (record (standing board item) { claim = Some worker }) below) [
+    | inl here ↦ inl (here.0, ap (λ (s : Standing). s.claim) here.1)
+    | inr there ↦ inr (there.0, ap (λ (s : Standing). s.claim) there.1)
+  ]
+
+  -- a publication leaves the claims of all items, and the rows of others
+  pub claim-after_publish : (i : ℕ) → (standing (after board (Publish worker item) rows) i).claim ≡ (standing board i).claim
+  claim-after_publish i = elim (set_cases board.items i item (record (standing board item) { rows = rows }) below) [
+    | inl here ↦ ap (λ (s : Standing). s.claim) here.1 ∙ ap (λ (k : ℕ). (standing board k).claim) (sym here.0)
+    | inr there ↦ ap (λ (s : Standing). s.claim) there.1
+  ]
+
+  pub rows-after_publish : (i : ℕ) → ((i ≡ item) × ((standing (after board (Publish worker item) rows) i).rows ≡ rows))
+      ⊎ ((i ≢ item) × ((standing (after board (Publish worker item) rows) i).rows ≡ (standing board i).rows))
+  rows-after_publish i = elim (set_cases board.items i item (record (standing board item) { rows = rows }) below) [
+    | inl here ↦ inl (here.0, ap (λ (s : Standing). s.rows) here.1)
+    | inr there ↦ inr (there.0, ap (λ (s : Standing). s.rows) there.1)
+  ]
+
+-- the item of a legal event is one of the items
+pub claimed-below : (board : State) (item : ℕ) → IsSized board → MayClaim board item → item < length board.items
+claimed-below board item sized may = omega (arith, sized, place-below board.plan board.docs item may.place)
+
+pub published-below : (board : State) (item : ℕ) (list : RowList) → IsSized board → MayPublish board item list → item < length board.items
+published-below board item list sized may = omega (arith, sized, place-below board.plan board.docs item may.place)
+
+pub there-below : (board : State) (item : ℕ) → IsSome (standing board item).rows → item < length board.items
+there-below board item there = elim (cases_lt item (length board.items)) [
+  | inl below ↦ below
+  | inr past ↦ absurd (true≢false (sym there ∙ ap (λ (s : Standing). is_some s.rows) (get_or_past board.items item untouched past)))
+]
+
+pub legal-below : (board : State) (event : Event) (rows : Option RowList) → IsSized board → IsLegal board event rows → item_of event < length board.items
+legal-below board (Claim worker item) None sized may = claimed-below board item sized may
+legal-below board (Claim worker item) (Some rows) sized legal = absurd legal
+legal-below board (Publish worker item) None sized legal = absurd legal
+legal-below board (Publish worker item) (Some rows) sized may = published-below board item rows sized may
+legal-below board (Late worker item) None sized there = there-below board item there
+legal-below board (Late worker item) (Some rows) sized legal = absurd legal
+
+pub sized-after : (board : State) (event : Event) (rows : Option RowList) → IsSized board → IsSized (after board event rows)
+sized-after board (Claim worker item) rows sized = length-set board.items item (record (standing board item) { claim = Some worker }) ∙ sized
+sized-after board (Publish worker item) rows sized = length-set board.items item (record (standing board item) { rows = rows }) ∙ sized
+sized-after board (Late worker item) rows sized = sized
+
+-- what is kept by each event: each published item holds its value and is needed, and each claimed one is needed
+pub record Holds (board : State) : Type 0 where
+  pub sized : IsSized board
+  pub values : (i : ℕ) (place : Place board.plan board.docs i) (list : RowList) → (standing board i).rows ≡ Some list → IsValueAt board i place list
+  pub published : (i : ℕ) (place : Place board.plan board.docs i) (list : RowList) → (standing board i).rows ≡ Some list → IsNeededAt board i place
+  pub claimed : (i : ℕ) (place : Place board.plan board.docs i) (worker : ℕ) → (standing board i).claim ≡ Some worker → IsNeededAt board i place
+
+untouched_all : (n i : ℕ) → get_or (replicate n untouched) i untouched ≡ untouched
+untouched_all n i = elim (cases_lt i n) [
+  | inl below ↦ get_or-replicate n i untouched untouched below
+  | inr past ↦ get_or_past (replicate n untouched) i untouched (omega (arith, length-replicate n untouched, past))
+]
+
+pub rows-fresh : (plan : Parts) (docs : List Document) (i : ℕ) → (standing (fresh plan docs) i).rows ≡ None
+rows-fresh plan docs i = ap (λ (s : Standing). s.rows) (untouched_all (item_count plan docs) i)
+
+pub claim-fresh : (plan : Parts) (docs : List Document) (i : ℕ) → (standing (fresh plan docs) i).claim ≡ None
+claim-fresh plan docs i = ap (λ (s : Standing). s.claim) (untouched_all (item_count plan docs) i)
+
+pub sized-fresh : (plan : Parts) (docs : List Document) → IsSized (fresh plan docs)
+sized-fresh plan docs = length-replicate (item_count plan docs) untouched
+
+pub holds-fresh : (plan : Parts) (docs : List Document) → Holds (fresh plan docs)
+holds-fresh plan docs = record {
+  sized = sized-fresh plan docs;
+  values = λ i place list is. absurd (none-some list (sym (rows-fresh plan docs i) ∙ is));
+  published = λ i place list is. absurd (none-some list (sym (rows-fresh plan docs i) ∙ is));
+  claimed = λ i place worker is. absurd (none-some worker (sym (claim-fresh plan docs i) ∙ is));
+}
+
+-- so what is published on a document are the values there
+pub agrees-on : (board : State) (d : ℕ) (doc : Document) → Holds board → slice_get board.docs d ≡ Some doc → Agrees board.plan doc (published_on board d)
+agrees-on board d doc holds doc_is = record {
+  same = λ n list below is. holds.values (d * length board.plan.nodes + n) (place_of board.plan board.docs d n doc doc_is below) list is;
+}
+
+module _ (board : State) (planned : IsPlan board.plan.nodes) (holds : Holds board) where
+  abbrev Needed : Document → ℕ → Type 0
+  Needed doc n = IsNeeded board.plan.lists doc board.plan.nodes (output_nodes board.plan) n
+
+  holds_claim : (worker item : ℕ) → MayClaim board item → Holds (after board (Claim worker item) None)
+  holds_claim worker item may =
+      let below = claimed-below board item holds.sized may in
+      let needed : Needed may.place.doc may.place.n =
+      wanted-needed board.plan may.place.doc planned (published_on board may.place.d) (agrees-on board may.place.d may.place.doc holds may.place.doc_is) may.place.n may.wanted in
+      record {
+        sized = sized-after board (Claim worker item) None holds.sized;
+        values = λ i place list is. holds.values i place list (sym (rows-after_claim board worker item None below i) ∙ is);
+        published = λ i place list is. holds.published i place list (sym (rows-after_claim board worker item None below i) ∙ is);
+        claimed = λ i place who is. elim (claim-after_claim board worker item None below i) [
+          | inl here ↦ at-each board.plan board.docs Needed item i (sym here.0) may.place place needed
+          | inr there ↦ holds.claimed i place who (sym there.1 ∙ is)
+        ];
+      }
+
+  holds_publish : (worker item : ℕ) (rows : RowList) → MayPublish board item rows → Holds (after board (Publish worker item) (Some rows))
+  holds_publish worker item rows may =
+      let below = published-below board item rows holds.sized may in
+      let published = published_on board may.place.d in
+      let agrees = agrees-on board may.place.d may.place.doc holds may.place.doc_is in
+      let needed : Needed may.place.doc may.place.n = wanted-needed board.plan may.place.doc planned published agrees may.place.n may.wanted in
+      let value : SameBag rows.rows (val board.plan.lists may.place.doc board.plan.nodes may.place.n) =
+      SameBag-trans _ _ _ may.bag (ready-value board.plan may.place.doc planned published agrees may.place.n may.place.node may.place.node_is may.ready) in
+      record {
+        sized = sized-after board (Publish worker item) (Some rows) holds.sized;
+        values = λ i place list is. elim (rows-after_publish board worker item (Some rows) below i) [
+          | inl here ↦ subst (λ (l : RowList). SameBag l.rows (val board.plan.lists place.doc board.plan.nodes place.n)) (same_some rows list (sym here.1 ∙ is))
+              (at-each board.plan board.docs (λ doc n. SameBag rows.rows (val board.plan.lists doc board.plan.nodes n)) item i (sym here.0) may.place place value)
+          | inr there ↦ holds.values i place list (sym there.1 ∙ is)
+        ];
+        published = λ i place list is. elim (rows-after_publish board worker item (Some rows) below i) [
+          | inl here ↦ at-each board.plan board.docs Needed item i (sym here.0) may.place place needed
+          | inr there ↦ holds.published i place list (sym there.1 ∙ is)
+        ];
+        claimed = λ i place who is. holds.claimed i place who (sym (claim-after_publish board worker item (Some rows) below i) ∙ is);
+      }
+
+  pub holds-after : (event : Event) (rows : Option RowList) → IsLegal board event rows → Holds (after board event rows)
+  holds-after (Claim worker item) None legal = holds_claim worker item legal
+  holds-after (Claim worker item) (Some rows) legal = absurd legal
+  holds-after (Publish worker item) None legal = absurd legal
+  holds-after (Publish worker item) (Some rows) legal = holds_publish worker item rows legal
+  holds-after (Late worker item) None legal = holds
+  holds-after (Late worker item) (Some rows) legal = absurd legal
+
+-- a legal event takes back no claim and no rows
+pub keeps-after : (board : State) (event : Event) (rows : Option RowList) → IsSized board → IsLegal board event rows → Keeps board (after board event rows)
+keeps-after board (Claim worker item) None sized may =
+    let below = claimed-below board item sized may in
+    record {
+      plan = refl;
+      docs = refl;
+      claims = λ i who is. elim (claim-after_claim board worker item None below i) [
+        | inl here ↦ absurd (none-some who (sym may.unclaimed ∙ (ap (λ (k : ℕ). (standing board k).claim) (sym here.0) ∙ is)))
+        | inr there ↦ there.1 ∙ is
+      ];
+      rows = λ i list is. rows-after_claim board worker item None below i ∙ is;
+    }
+keeps-after board (Claim worker item) (Some rows) sized legal = absurd legal
+keeps-after board (Publish worker item) None sized legal = absurd legal
+keeps-after board (Publish worker item) (Some rows) sized may =
+    let below = published-below board item rows sized may in
+    record {
+      plan = refl;
+      docs = refl;
+      claims = λ i who is. claim-after_publish board worker item (Some rows) below i ∙ is;
+      rows = λ i list is. elim (rows-after_publish board worker item (Some rows) below i) [
+        | inl here ↦ absurd (none-some list (sym may.unpublished ∙ (ap (λ (k : ℕ). (standing board k).rows) (sym here.0) ∙ is)))
+        | inr there ↦ there.1 ∙ is
+      ];
+    }
+keeps-after board (Late worker item) None sized legal = record { plan = refl; docs = refl; claims = λ i who is. is; rows = λ i list is. is }
+keeps-after board (Late worker item) (Some rows) sized legal = absurd legal
