@@ -1,5 +1,5 @@
 -- Where a token begins, by its number.
-use Rattle.std.proofs.Common.{◌≡◌, ℕ, ◌<◌, ◌≤◌, List, map, length, get_or, ap, sym, ◌∙◌, refl, arith}
+use Rattle.std.proofs.Common.{◌≡◌, ℕ, ◌<◌, List, map, length, get_or, ap, ◌∙◌, arith}
 use Rattle.std.proofs.lemmas.List.{get_or-map, length-map}
 use Rattle.aql_lexer.specs.Kinds.{Token, token_of}
 use Rattle.aql_lexer.specs.declared.token.Tok.{Tok}

@@ -1,11 +1,6 @@
 -- From what each step of compiling answers to the program of a text, or its fault.
-use Rattle.std.proofs.Common.{◌≡◌, ℕ, ◌<◌, ◌≤◌, List, [], ◌∷◌, length, get_or, map, ap, sym, subst, ◌∙◌, refl, arith, Some, slice_get, option_map}
-use Rattle.std.proofs.lemmas.List.{length-map}
-use Rattle.std.proofs.lemmas.Option.{slice_get-map}
-use Rattle.aql_regex_extract.specs.Faults.{IsPattern}
-use Rattle.aql_syntax.specs.declared.tree.Statement as seen
-use Rattle.aql_syntax.specs.Views.{statement_of}
-use Rattle.aqlx_top.specs.Run.{Typed, program_of}
+use Rattle.std.proofs.Common.{◌≡◌, ℕ, List, [], ◌∷◌, map, ap, subst, refl}
+use Rattle.aqlx_top.specs.Run.{program_of}
 use Rattle.span_token.specs.declared.refusal.Failure.{Failure}
 use Rattle.span_token.specs.declared.refusal.Failure.TheVariants.{OutOfMemory, Fault}
 use Rattle.aql_lexer.specs.Kinds.{Kind, kind_of, token_of, kinds_of}

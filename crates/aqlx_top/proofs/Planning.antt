@@ -22,7 +22,7 @@ use Rattle.aqlx_top.specs.Planned.{rows_by, line_by}
 use Rattle.aqlx_top.specs.Run.{Typed, program_of, line_of}
 
 -- lists that are the same bags, one by one
-abbrev AreSameBags : List (List (List Datum)) → List (List (List Datum)) → Type 0
+abbrev pub AreSameBags : List (List (List Datum)) → List (List (List Datum)) → Type 0
 AreSameBags xs ys = AllZip SameBag xs ys
 
 -- an output's rows are written alike where they are the same bag
@@ -48,7 +48,7 @@ unfolding views_data
 views_alike doc outputs xs ys same = ap object_of (pairs_alike doc outputs xs ys same)
 
 -- so is the line of a document
-lines_alike : (doc : Doc) (outputs : List OutputNames) (xs ys : List (List (List Datum))) → AreSameBags xs ys → output_line doc outputs xs ≡ output_line doc outputs ys
+pub lines_alike : (doc : Doc) (outputs : List OutputNames) (xs ys : List (List (List Datum))) → AreSameBags xs ys → output_line doc outputs xs ≡ output_line doc outputs ys
 unfolding output_line line_data
 lines_alike doc outputs xs ys same =
     ap (λ (views : Data). compact_text (object_of (label_pair doc.label ++ (codes "views", views) ∷ [])) ++ 10 ∷ []) (views_alike doc outputs xs ys same)

@@ -1,5 +1,5 @@
 -- A program file's bytes have one fault at most: what is found first is the only one.
-use Rattle.std.proofs.Common.{◌≡◌, ℕ, ◌+◌, ◌<◌, ◌≤◌, ◌⊎◌, inl, inr, List, [], Option, Some, unwrap_or, length, ap, ap₂, sym, subst, ◌∙◌, refl, arith}
+use Rattle.std.proofs.Common.{◌≡◌, ℕ, ◌+◌, ◌<◌, ◌≤◌, inl, inr, List, [], Option, Some, unwrap_or, length, ap, ap₂, sym, subst, ◌∙◌, refl, arith}
 use Rattle.std.specs.Str.{IsUtf8, IsValidUpTo}
 use Rattle.std.specs.Str.Lossy.{utf8_valid_len}
 use Rattle.std.proofs.lemmas.Option.{none-some}

@@ -1,16 +1,15 @@
 //! What is written for a line of the corpus.
 
-ghost use Rattle.std.specs.Prelude.{◌≡◌, ◌≤◌, [], ◌∷◌, ◌++◌, All, not, IfOk, OnOk, ◌<◌, length, map, option_map};
-ghost use Rattle.row_values.specs.Rows.{RowsLieIn};
+ghost use Rattle.std.specs.Prelude.{◌≡◌, ◌≤◌, [], ◌∷◌, ◌++◌, All, not, IfOk, OnOk, IsSome, None, ◌<◌, length, map, option_map, slice_index_or};
 ghost use Rattle.corpus_json.specs.Documents.{is_bad_line};
 ghost use Rattle.corpus_json.specs.Inputs.{doc_of};
-ghost use Rattle.plan_operators.specs.Evaluated.{ShowsOutputs, node_rows};
+ghost use Rattle.plan_operators.specs.Boards.{Holds, rows_there};
 ghost use Rattle.aqlx_top.specs.Endings.{written_for};
 ghost use Rattle.aqlx_top.specs.Planned.{line_by, names_in};
 
 use algebra::{Plan, PlanOut};
 use corpus_json::{Input, Layout, NotDocument, append_document, read_document};
-use plan_operators::evaluate;
+use plan_operators::{evaluate, rows_shown};
 use row_values::Rows;
 use scalar_ops::Tools;
 use span_token::{Document, Failure, OutOfMemory};
@@ -64,8 +63,8 @@ fn write_for(
     ensures same { tools.new ≡ tools.old }
 {
     let document = document_of(alloc, with_tokens, input)?;
-    let all = evaluate(alloc, tools, &document, plan)?;
-    append_rows(alloc, plan, layout, &document, all.as_slice(), pending)
+    let board = evaluate(alloc, tools, &document, plan)?;
+    append_rows(alloc, plan, layout, &document, board.as_slice(), pending)
 }
 
 /// The document that was read, with its tokens kept or not.
@@ -93,37 +92,39 @@ fn label_of(input: &Input) -> Option<&str>
     }
 }
 
-/// Puts the line of a document with these rows after what is pending.
+/// Puts the line of a document after what is pending; `board` has the rows of each output's node.
 fn append_rows<'d>(
     alloc: Global,
     plan: &Plan,
     layout: &Layout<'_>,
     document: &Document<'d>,
-    all: &[Rows<'d>],
+    board: &[Option<Rows<'d>>],
     pending: &mut Vec<u8>,
 ) -> Result<(), OutOfMemory>
     requires layout { layout.now ≡ names_in plan.now }
-    requires shows { ShowsOutputs plan.now document.now all.now }
+    requires long { length board.now ≡ length plan.now.nodes }
+    requires shown { All (λ out. Holds plan.now.lists document.now plan.now.nodes out.node (slice_index_or board.now out.node None)) plan.now.outputs }
     ensures bytes { OnOk result (pending.new.items ≡ pending.old.items ++ line_by plan.now document.now) }
 {
-    let shown = shown_rows(alloc, plan.outputs(), all)?;
+    let shown = all_shown(alloc, plan.outputs(), board)?;
     let line = mem::replace(pending, Vec::new(alloc));
     *pending = append_document(alloc, line, document, layout, shown.as_slice())?;
     Ok(())
 }
 
 /// The rows that each output shows.
-fn shown_rows<'r, 'd>(
+fn all_shown<'r, 'd>(
     alloc: Global,
     outputs: &[PlanOut],
-    all: &'r [Rows<'d>],
+    board: &'r [Option<Rows<'d>>],
 ) -> Result<Vec<&'r Rows<'d>>, OutOfMemory>
-    requires there { All (λ out. out.node < length all.now) outputs.now }
-    ensures { IfOk result (λ shown. map (λ list. list.now) shown.items ≡ map (λ out. node_rows all.now out.node) outputs.now) }
+    requires there { All (λ out. out.node < length board.now) outputs.now }
+    requires shown { All (λ out. IsSome (slice_index_or board.now out.node None)) outputs.now }
+    ensures { IfOk result (λ shown. map (λ list. list.now) shown.items ≡ map (λ out. rows_there (slice_index_or board.now out.node None)) outputs.now) }
 {
     let mut shown = Vec::new(alloc);
     for out in outputs {
-        shown.push(&all[out.node as usize])?;
+        shown.push(rows_shown(board, out))?;
     }
     Ok(shown)
 }

@@ -70,11 +70,7 @@ pub(crate) fn run<S: Source, O: Sink>(
     }
 }
 
-fn begin<'p>(
-    alloc: Global,
-    plan: &'p Plan,
-    outputs: &'p [Output],
-) -> Result<Work<'p>, OutOfMemory>
+fn begin<'p>(alloc: Global, plan: &'p Plan, outputs: &'p [Output]) -> Result<Work<'p>, OutOfMemory>
     ensures { IfOk result (λ work. Begins work outputs.now plan.now.lists) }
 {
     Ok(Work {

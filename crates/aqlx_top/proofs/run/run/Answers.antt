@@ -1,13 +1,7 @@
-use Rattle.std.proofs.Common.{◌≡◌, ℕ, ◌+◌, ◌-◌, ◌≤◌, ◌<◌, ap₂, ◌∙◌, refl, List, Option, Result, Ok, Err, arith}
+use Rattle.std.proofs.Common.{◌≡◌, ℕ, ◌+◌, ◌-◌, ◌≤◌, ◌<◌, ◌∙◌, refl, arith}
 use Rattle.corpus_json.specs.Limits.{corpus_limit}
-use Rattle.span_token.specs.declared.refusal.OutOfMemory.{OutOfMemory}
-use Rattle.row_values.specs.Outputs.{OutputNames}
-use Rattle.aqlx_top.specs.declared.run.Work.{Work}
-use Rattle.aqlx_top.specs.declared.run.Turn.{Turn}
-use Rattle.aqlx_top.specs.Devices.{SourceEnds, source_ends}
-use Rattle.aqlx_top.specs.Progress.{Stands}
+use Rattle.aqlx_top.specs.Devices.{source_ends}
 use Rattle.aqlx_top.specs.Planned.{line_by}
-use Rattle.aqlx_top.specs.Turns.{Turned, IsKept}
 use Rattle.aqlx_top.proofs.Turns as law
 use Rattle.aqlx_top.proofs.run.run.Goals as goal
 
