@@ -14,7 +14,6 @@ use Rattle.aql_types.specs.Extractions.{names_found, items_extracted, found_faul
 use Rattle.aql_types.specs.Items.{names_of_items}
 use Rattle.aql_types.specs.Known.{Known}
 use Rattle.aql_types.specs.Queries.{View, view_named, same_column, same_columns, faults_of_sides, mismatch, mismatches, mismatched, first_columns, typing_of_query, typings_of_queries, typing_of_source, typings_of_sources}
-use Rattle.aql_types.specs.Scopes.{Scope}
 use Rattle.aql_types.specs.Selections.{QueryTyping, SourceTyping, visible_in, faults_of_sources, bodies_of, duplicate_aliases, row_of, rows_faults, items_typed}
 use Rattle.aql_types.proofs.FitsLists.{both_none, unbroken}
 use Rattle.aql_types.proofs.FitsNames.{names_in, no_duplicate, names_of_columns, names_given}

@@ -5,7 +5,7 @@ ghost use Rattle.aql_syntax.specs.Views.{name_of};
 ghost use Rattle.aql_typed.specs.Views.{source_of};
 ghost use Rattle.aql_types.specs.Queries as spec;
 ghost use Rattle.aql_types.specs.Programs.{view_seen};
-ghost use Rattle.aql_types.specs.Sources.{source_seen, below_seen};
+ghost use Rattle.aql_types.specs.Sources.{source_seen, columns_seen, below_seen};
 
 use crate::source::CheckedSource;
 use aql_syntax::Ident;
@@ -14,29 +14,33 @@ use scalar_ops::Kind;
 use span_token::{OutOfMemory, OwnedText};
 use std::alloc::Global;
 
+/// The columns of a source: borrowed from a view, or its own.
+#[derive(Debug, Drop)]
+pub(crate) enum Columns<'a> {
+    OfView(&'a [Column]),
+    Own(Vec<Column>),
+}
+
+impl Columns<'_> {
+    pub(crate) fn as_slice(&self) -> &[Column]
+        ensures { result.now ≡ columns_seen self.now }
+    {
+        match self {
+            Columns::OfView(columns) => columns,
+            Columns::Own(columns) => columns.as_slice(),
+        }
+    }
+}
+
 /// What a view's name stands for.
 #[derive(Debug, Drop)]
-pub(crate) struct Below {
-    columns: Vec<Column>,
+pub(crate) struct Below<'a> {
+    columns: Columns<'a>,
     body: TypedSource,
 }
 
-pub(crate) fn copied_columns(alloc: Global, columns: &[Column]) -> Result<Vec<Column>, OutOfMemory>
-    ensures { IfOk result (λ copies. copies.items ≡ columns.now) }
-{
-    let mut copies = Vec::new(alloc);
-    for column in columns {
-        let name = OwnedText::copied(alloc, column.name.as_str())?;
-        copies.push(Column {
-            name,
-            kind: column.kind,
-        })?;
-    }
-    Ok(copies)
-}
-
 /// The document: one column, the span of its text.
-fn document(alloc: Global) -> Result<Below, OutOfMemory>
+fn document<'a>(alloc: Global) -> Result<Below<'a>, OutOfMemory>
     ensures { IfOk result (λ b. below_seen b ≡ spec.document_below) }
 {
     let name = OwnedText::copied(alloc, "text")?;
@@ -46,44 +50,47 @@ fn document(alloc: Global) -> Result<Below, OutOfMemory>
         kind: Kind::Span,
     })?;
     Ok(Below {
-        columns,
+        columns: Columns::Own(columns),
         body: TypedSource::Document,
     })
 }
 
 /// The view with this number.
-fn numbered(alloc: Global, place: usize, view: &TypedView) -> Result<Below, OutOfMemory>
+fn numbered(place: usize, view: &TypedView) -> Result<Below<'_>, OutOfMemory>
     ensures { IfOk result (λ b. below_seen b ≡ spec.view_below place (view_seen view.now)) }
 {
     let Ok(number) = u32::try_from(place) else {
         return Err(OutOfMemory);
     };
-    let columns = copied_columns(alloc, &view.columns)?;
     Ok(Below {
-        columns,
+        columns: Columns::OfView(&view.columns),
         body: TypedSource::View(number),
     })
 }
 
 /// The first view with a name, and the document where there is none.
-fn view_named(alloc: Global, name: &str, below: &[TypedView]) -> Result<Below, OutOfMemory>
+fn view_named<'a>(
+    alloc: Global,
+    name: &str,
+    below: &'a [TypedView],
+) -> Result<Below<'a>, OutOfMemory>
     ensures { IfOk result (λ b. below_seen b ≡ spec.view_named name.now 0 (map view_seen below.now)) }
 {
     for (place, view) in below.iter().enumerate() {
         if view.name.as_str() == name {
-            return numbered(alloc, place, view);
+            return numbered(place, view);
         }
     }
     document(alloc)
 }
 
 /// A view as a source.
-pub(crate) fn view_source(
+pub(crate) fn view_source<'a>(
     alloc: Global,
-    below: &[TypedView],
+    below: &'a [TypedView],
     alias: &Ident,
     name: &str,
-) -> Result<CheckedSource, OutOfMemory>
+) -> Result<CheckedSource<'a>, OutOfMemory>
     ensures { IfOk result (λ s. spec.typing_of_view (name_of alias.now) (spec.view_named name.now 0 (map view_seen below.now)) ≡ source_seen s) }
 {
     let text = OwnedText::copied(alloc, alias.text.as_str())?;

@@ -11,7 +11,7 @@ ghost use Rattle.aql_types.specs.Selections.{selection, faults_of_sources};
 ghost use Rattle.aql_types.specs.Sources.{source_seen, query_seen};
 ghost use Rattle.aql_types.specs.Programs.{view_seen};
 
-use crate::below::view_source;
+use crate::below::{Columns, view_source};
 use crate::fault::Breach;
 use crate::known::Known;
 use crate::sides::{differ, unite};
@@ -118,12 +118,12 @@ fn queries(
 
 #[cycle(query)]
 #[tactic(auto, using(crate::proofs::Firsts::first_here))]
-fn sources(
+fn sources<'a>(
     alloc: Global,
     known: &Known<'_>,
-    below: &[TypedView],
+    below: &'a [TypedView],
     parts: &[FromPart],
-) -> Result<Vec<CheckedSource>, Failure<Breach>>
+) -> Result<Vec<CheckedSource<'a>>, Failure<Breach>>
     ensures ok { IfOk result (λ all. map (spec.typing_of_source (known_of known.now) (map view_seen below.now)) (map see.source_of parts.now) ≡ map source_seen all.items) }
     ensures fault { IfErr result (IsFirst (faults_of_sources (map (spec.typing_of_source (known_of known.now) (map view_seen below.now)) (map see.source_of parts.now)))) }
 {
@@ -136,12 +136,12 @@ fn sources(
 }
 
 #[cycle(query)]
-fn source(
+fn source<'a>(
     alloc: Global,
     known: &Known<'_>,
-    below: &[TypedView],
+    below: &'a [TypedView],
     part: &FromPart,
-) -> Result<CheckedSource, Failure<Breach>>
+) -> Result<CheckedSource<'a>, Failure<Breach>>
     ensures ok { IfOk result (λ s. spec.typing_of_source (known_of known.now) (map view_seen below.now) (see.source_of part.now) ≡ source_seen s) }
     ensures fault { IfErr result (IsFirst (spec.typing_of_source (known_of known.now) (map view_seen below.now) (see.source_of part.now)).faults) }
 {
@@ -169,14 +169,18 @@ fn alias_or<'a>(name: &'a Ident, alias: &'a Option<Ident>) -> &'a Ident
 }
 
 /// A query as a source.
-fn nested(alloc: Global, alias: &Ident, inner: CheckedQuery) -> Result<CheckedSource, OutOfMemory>
+fn nested<'a>(
+    alloc: Global,
+    alias: &Ident,
+    inner: CheckedQuery,
+) -> Result<CheckedSource<'a>, OutOfMemory>
     ensures { IfOk result (λ s. spec.typing_of_nested (see.name_of alias.now) (query_seen inner) ≡ source_seen s) }
 {
     let text = OwnedText::copied(alloc, alias.text.as_str())?;
     let CheckedQuery { columns, body, .. } = inner;
     Ok(CheckedSource {
         alias: Ident { text, at: alias.at },
-        columns,
+        columns: Columns::Own(columns),
         body: TypedSource::Nested(Box::new(alloc, body)?),
     })
 }

@@ -7,13 +7,12 @@ ghost use Rattle.aql_types.specs.Queries as spec;
 ghost use Rattle.aql_types.specs.Refusals.{IsFirst};
 ghost use Rattle.aql_types.specs.Sources.{query_seen};
 
-use crate::below::copied_columns;
 use crate::fault::{Breach, TypeRule};
 use crate::refusal::refusal;
 use crate::source::CheckedQuery;
 use aql_typed::{Column, TypedQuery};
 use scalar_ops::Kind;
-use span_token::{Failure, OutOfMemory};
+use span_token::{Failure, OutOfMemory, OwnedText};
 use std::alloc::Global;
 
 fn same_kind(a: Kind, b: Kind) -> bool
@@ -90,6 +89,20 @@ fn first_at(sides: &[CheckedQuery]) -> u32
         [] => 0,
         [side, ..] => side.at,
     }
+}
+
+fn copied_columns(alloc: Global, columns: &[Column]) -> Result<Vec<Column>, OutOfMemory>
+    ensures { IfOk result (λ copies. copies.items ≡ columns.now) }
+{
+    let mut copies = Vec::new(alloc);
+    for column in columns {
+        let name = OwnedText::copied(alloc, column.name.as_str())?;
+        copies.push(Column {
+            name,
+            kind: column.kind,
+        })?;
+    }
+    Ok(copies)
 }
 
 fn first_columns(alloc: Global, sides: &[CheckedQuery]) -> Result<Vec<Column>, OutOfMemory>

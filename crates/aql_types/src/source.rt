@@ -12,6 +12,7 @@ ghost use Rattle.aql_types.specs.Sources.{source_seen, query_seen};
 ghost use Rattle.aql_types.specs.Views.{visible_of, label_of};
 ghost use Rattle.aql_types.specs.Extractions as extractions;
 
+use crate::below::Columns;
 use crate::extraction::{CheckedFound, found};
 use crate::fault::Breach;
 use crate::known::Known;
@@ -25,9 +26,9 @@ use std::alloc::Global;
 
 /// A source without a fault.
 #[derive(Debug, Drop)]
-pub(crate) struct CheckedSource {
+pub(crate) struct CheckedSource<'a> {
     pub(crate) alias: Ident,
-    pub(crate) columns: Vec<Column>,
+    pub(crate) columns: Columns<'a>,
     pub(crate) body: TypedSource,
 }
 
@@ -39,7 +40,7 @@ pub(crate) struct CheckedQuery {
     pub(crate) body: TypedQuery,
 }
 
-fn label(source: &CheckedSource) -> Label<'_>
+fn label<'a>(source: &'a CheckedSource<'_>) -> Label<'a>
     ensures { label_of result ≡ (source_seen source.now).alias }
 {
     Label {
@@ -48,7 +49,10 @@ fn label(source: &CheckedSource) -> Label<'_>
     }
 }
 
-fn labels<'a>(alloc: Global, sources: &'a [CheckedSource]) -> Result<Vec<Label<'a>>, OutOfMemory>
+fn labels<'a>(
+    alloc: Global,
+    sources: &'a [CheckedSource<'_>],
+) -> Result<Vec<Label<'a>>, OutOfMemory>
     ensures { IfOk result (λ labels. map label_of labels.items ≡ spec.aliases_of (map source_seen sources.now)) }
 {
     let mut labels = Vec::new(alloc);
@@ -59,7 +63,7 @@ fn labels<'a>(alloc: Global, sources: &'a [CheckedSource]) -> Result<Vec<Label<'
 }
 
 /// Refuses an alias that two sources have.
-fn refuse_same(alloc: Global, sources: &[CheckedSource]) -> Result<(), Failure<Breach>>
+fn refuse_same(alloc: Global, sources: &[CheckedSource<'_>]) -> Result<(), Failure<Breach>>
     ensures ok { OnOk result (spec.duplicate_aliases (map source_seen sources.now) ≡ []) }
     ensures fault { IfErr result (IsFirst (spec.duplicate_aliases (map source_seen sources.now))) }
 {
@@ -67,19 +71,19 @@ fn refuse_same(alloc: Global, sources: &[CheckedSource]) -> Result<(), Failure<B
     refuse_aliases(alloc, &labels)
 }
 
-fn visible(source: &CheckedSource) -> Visible<'_>
+fn visible<'a>(source: &'a CheckedSource<'_>) -> Visible<'a>
     ensures { visible_of result ≡ spec.visible_source (source_seen source.now) }
 {
     Visible {
         alias: source.alias.text.as_str(),
-        columns: &source.columns,
+        columns: source.columns.as_slice(),
     }
 }
 
 /// The sources as expressions see them.
 fn visible_in<'a>(
     alloc: Global,
-    sources: &'a [CheckedSource],
+    sources: &'a [CheckedSource<'_>],
 ) -> Result<Vec<Visible<'a>>, OutOfMemory>
     ensures { IfOk result (λ all. map visible_of all.items ≡ spec.visible_in (map source_seen sources.now)) }
 {
@@ -91,8 +95,8 @@ fn visible_in<'a>(
 }
 
 /// What the sources are.
-fn bodies(alloc: Global, sources: Vec<CheckedSource>) -> Result<Vec<TypedSource>, OutOfMemory>
-    ensures { IfOk result (λ bodies. map typed.source_of bodies.items ≡ spec.bodies_of (map source_seen sources.items)) }
+fn bodies(alloc: Global, sources: Vec<CheckedSource<'_>>) -> Result<Vec<TypedSource>, OutOfMemory>
+    ensures { IfOk result (λ bodies. map typed.source_of bodies.items ≡ spec.bodies_of (map source_seen sources.entry.items)) }
 {
     let mut bodies = Vec::new(alloc);
     for source in sources {
@@ -123,7 +127,7 @@ fn rows_over(
 fn rows_of(
     alloc: Global,
     known: &Known<'_>,
-    sources: &[CheckedSource],
+    sources: &[CheckedSource<'_>],
     query: &Select,
 ) -> Result<CheckedRows, Failure<Breach>>
     ensures ok { IfOk result (λ rows. typed.select_clauses_of rows.clauses ≡ spec.rows_clauses (known_of known.now) (spec.row_of (map source_seen sources.now)) (map item_of query.now.items.items) (clauses_of query.now)) }
@@ -154,11 +158,11 @@ fn selected(at: u32, sources: Vec<TypedSource>, rows: CheckedRows) -> CheckedQue
 pub(crate) fn select(
     alloc: Global,
     known: &Known<'_>,
-    sources: Vec<CheckedSource>,
+    sources: Vec<CheckedSource<'_>>,
     query: &Select,
 ) -> Result<CheckedQuery, Failure<Breach>>
-    ensures ok { IfOk result (λ q. spec.selection (known_of known.now) (map source_seen sources.items) (map item_of query.now.items.items) (clauses_of query.now) query.now.at ≡ query_seen q) }
-    ensures fault { IfErr result (IsFirst (spec.selection (known_of known.now) (map source_seen sources.items) (map item_of query.now.items.items) (clauses_of query.now) query.now.at).faults) }
+    ensures ok { IfOk result (λ q. spec.selection (known_of known.now) (map source_seen sources.entry.items) (map item_of query.now.items.items) (clauses_of query.now) query.now.at ≡ query_seen q) }
+    ensures fault { IfErr result (IsFirst (spec.selection (known_of known.now) (map source_seen sources.entry.items) (map item_of query.now.items.items) (clauses_of query.now) query.now.at).faults) }
 {
     refuse_same(alloc, &sources)?;
     let rows = rows_of(alloc, known, &sources, query)?;
@@ -188,7 +192,7 @@ fn found_over(
 fn found_of(
     alloc: Global,
     known: &Known<'_>,
-    source: &CheckedSource,
+    source: &CheckedSource<'_>,
     query: &Extract,
 ) -> Result<CheckedFound, Failure<Breach>>
     ensures ok { IfOk result (λ found. typed.extract_clauses_of found.clauses ≡ extractions.extract_clauses (known_of known.now) (extractions.row_of_one (source_seen source.now)) (map item_of query.now.items.items) (spec_of query.now.spec) (tail_of query.now)) }
@@ -203,11 +207,11 @@ fn found_of(
 pub(crate) fn extract(
     alloc: Global,
     known: &Known<'_>,
-    source: CheckedSource,
+    source: CheckedSource<'_>,
     query: &Extract,
 ) -> Result<CheckedQuery, Failure<Breach>>
-    ensures ok { IfOk result (λ q. extraction (known_of known.now) (source_seen source) (map item_of query.now.items.items) (spec_of query.now.spec) (tail_of query.now) query.now.at ≡ query_seen q) }
-    ensures fault { IfErr result (IsFirst (extraction (known_of known.now) (source_seen source) (map item_of query.now.items.items) (spec_of query.now.spec) (tail_of query.now) query.now.at).faults) }
+    ensures ok { IfOk result (λ q. extraction (known_of known.now) (source_seen source.entry) (map item_of query.now.items.items) (spec_of query.now.spec) (tail_of query.now) query.now.at ≡ query_seen q) }
+    ensures fault { IfErr result (IsFirst (extraction (known_of known.now) (source_seen source.entry) (map item_of query.now.items.items) (spec_of query.now.spec) (tail_of query.now) query.now.at).faults) }
 {
     let found = found_of(alloc, known, &source, query)?;
     let CheckedSource { body, .. } = source;
