@@ -125,7 +125,7 @@ part-none nodes below bodies none document fit = record {
 
 -- a view more
 module _ (old : List Node) (below : Below) (bodies left rest : List Query) (body : Query) (are : left ≡ body ∷ rest) (part : IsPart old below bodies left) where
-  left_fit : AllFit part.widths (body ∷ rest)
+  pub left_fit : AllFit part.widths (body ∷ rest)
   left_fit = subst (AllFit part.widths) are part.fit
 
   abbrev pub next-well : IsWell old below (QueryFits body)

@@ -34,6 +34,10 @@ use Rattle.plan_maker.proofs.Bases.{base-grown}
 use Rattle.plan_maker.proofs.Combining.{IsJoined, joined-first, joined-next, joined-last}
 use Rattle.plan_maker.proofs.Giving.{gives-grown, gives-is, gives-width, valid-union, gives-union, valid-minus, gives-minus}
 
+pub no_item : {X : Type 0} (xs : List X) → length xs ≡ 0 → xs ≡ []
+no_item [] is = refl
+no_item (x ∷ xs) is = absurd (omega (arith, is))
+
 -- the list of what is left, from element i on
 pub sides_left : (sides : List TypedQuery) (i : ℕ) (side : TypedQuery) → i < length sides → side ≡ get_or sides i side
     → sides_seen (drop i sides) ≡ more_queries (query_of side) (sides_seen (drop (i + 1) sides))
@@ -67,10 +71,10 @@ selected-same lists doc xs ys rows same = filter_agree (holding lists doc xs) (h
 module _ (nodes : List Node) (below : Below) (typed : TypedQuery) (s : TypedSelect) (is : typed ≡ query.Select s) (sources : List TypedSource) (seen : sources ≡ s.sources.items) (conds : List Term)
     (same : (lists : Lists) (doc : Doc) (row : List Datum) → holding lists doc conds row ≡ holding lists doc s.clauses.conds row)
     (reads : (width : ℕ) → All (ReadsBelow width) s.clauses.conds → All (ReadsBelow width) conds) where
-  select_is : query_of typed ≡ select (sources_seen sources) (select_clauses_of s.clauses)
+  pub select_is : query_of typed ≡ select (sources_seen sources) (select_clauses_of s.clauses)
   select_is = ap (λ (q : TypedQuery). query_of q) is ∙ (select_view s ∙ ap (λ (ss : List TypedSource). select (sources_seen ss) (select_clauses_of s.clauses)) (sym seen))
 
-  select_fits : (widths : List ℕ) → Fits widths (query_of typed) → Fits widths (select (sources_seen sources) (select_clauses_of s.clauses))
+  pub select_fits : (widths : List ℕ) → Fits widths (query_of typed) → Fits widths (select (sources_seen sources) (select_clauses_of s.clauses))
   select_fits widths fits = subst (Fits widths) select_is fits
 
   abbrev pub join_well : IsWell nodes below (QueryFits (query_of typed)) → IsWell nodes below (JoinFits (sources_seen sources) conds)
@@ -106,7 +110,7 @@ module _ (nodes : List Node) (below : Below) (typed : TypedQuery) (s : TypedSele
 -- ---- extractions
 
 module _ (nodes : List Node) (below : Below) (typed : TypedQuery) (e : TypedExtract) (is : typed ≡ query.Extract e) where
-  extract_is : query_of typed ≡ extract (source_of e.source) (extract_clauses_of e.clauses)
+  pub extract_is : query_of typed ≡ extract (source_of e.source) (extract_clauses_of e.clauses)
   extract_is = ap (λ (q : TypedQuery). query_of q) is
 
   abbrev pub source_well : IsWell nodes below (QueryFits (query_of typed)) → IsWell nodes below (SourceThere (source_of e.source))
@@ -135,7 +139,7 @@ module _ (nodes : List Node) (below : Below) (typed : TypedQuery) (e : TypedExtr
 -- ---- unions
 
 module _ (nodes : List Node) (below : Below) (typed : TypedQuery) (v : Vec TypedQuery Global) (is : typed ≡ query.Union v) (sides : List TypedQuery) (seen : sides ≡ v.items) where
-  union_is : query_of typed ≡ union (sides_seen sides)
+  pub union_is : query_of typed ≡ union (sides_seen sides)
   union_is = ap (λ (q : TypedQuery). query_of q) is ∙ (union_view v ∙ ap (λ (qs : List TypedQuery). union (sides_seen qs)) (sym seen))
 
   abbrev pub sides_well : IsWell nodes below (QueryFits (query_of typed)) → IsWell nodes below (SidesThere (sides_seen sides))
@@ -166,7 +170,7 @@ module _ (below : Below) (sides : Queries) where
 
   -- one side more
   module _ (old : List Node) (widths : List ℕ) (means : Lists → Doc → List Rows) (left rest : Queries) (side : Query) (m : ℕ) (are : left ≡ more_queries side rest) (so_far : IsUnited old below widths means sides left m) where
-    side_fits : SidesFit widths (first_width widths sides) (more_queries side rest)
+    pub side_fits : SidesFit widths (first_width widths sides) (more_queries side rest)
     side_fits = subst (SidesFit widths (first_width widths sides)) are so_far.fit
 
     abbrev pub side_well : IsWell old below (QueryFits side)

@@ -14,4 +14,4 @@ loop-view-preserved c =
     part-next _ _ _ _ _ _ left c.loop-view.invariant _ _ _ c.in_ok-n.ensures.grows refl c.in_ok-push.ensures.items c.in_ok-n.ensures.gives
 
 pub returns : goal.returns
-returns c = part-all _ _ _ _ (ap (map body_of) (drop_all c.loop-view.view-index c.args.views.now (search rules))) c.loop-view.invariant
+returns c = record { base = part-all _ _ _ _ (ap (map body_of) (drop_all c.loop-view.view-index c.args.views.now (search rules))) c.loop-view.invariant }

@@ -1,21 +1,24 @@
-use Rattle.std.proofs.Common.{rules, ◌≡◌, ◌∙◌, ◌+◌, List, [], ◌∷◌, map, length, drop, ap, sym, subst}
+use Rattle.std.proofs.Common.{rules, ◌≡◌, ◌∙◌, ◌+◌, List, [], ◌∷◌, map, length, drop, ap, ap₂, sym, subst}
 use Rattle.std.specs.List.{All}
 use Rattle.std.proofs.lemmas.List.{drop_all}
 use Rattle.scalar_ops.specs.Expressions.{Term, ReadsBelow}
 use Rattle.scalar_ops.specs.Values.{holding}
 use Rattle.aql_typed.specs.declared.tree.TypedQuery.{TypedQuery, the_lemmas}
 use Rattle.aql_typed.specs.declared.tree.TypedSource.{TypedSource}
+use Rattle.aql_typed.specs.Fitting.{width_of}
+use Rattle.aql_typed.specs.Meaning.{meaning_of}
+use Rattle.aql_typed.specs.Trees.{minus, nested}
 use Rattle.aql_typed.specs.Views.{query_of}
 use Rattle.algebra.specs.GrowthLaws.{grows-trans}
-use Rattle.plan_maker.specs.Grounds.{sides_seen, sources_seen, terms_lent}
-use Rattle.plan_maker.proofs.Queries.{sides_left, sources_left, join_well, join_can, select_gives, source_can, extract_gives, sides_well, union_gives, united-first, side_well, union_valid, united-next, united-last, none-united, right_well, minus_valid, minus_gives, none-joined, first_can, first_joined, next_well, left_can, right_can, next_joined, last_can, last_gives}
+use Rattle.plan_maker.specs.Grounds.{Gives, IsWell, SourceThere, sides_seen, sources_seen, terms_lent}
+use Rattle.plan_maker.proofs.Queries.{no_item, sides_left, sources_left, join_well, join_can, select_gives, source_can, extract_gives, sides_well, union_gives, united-first, side_well, union_valid, united-next, united-last, none-united, right_well, minus_valid, minus_gives, none-joined, first_can, first_joined, next_well, left_can, right_can, next_joined, last_can, last_gives}
 use Rattle.plan_maker.proofs.query.+query.Goals as goal
 
 -- ---- products
 
 pub combined-returns-in_default-clause-gives : goal.combined-returns-in_default-clause-gives
 combined-returns-in_default-clause-gives t c =
-    none-joined c.args.below.now c.args.sources.now (terms_lent c.args.conds.items) c.args.nodes.now _ _ _ _ (terms_lent c.as_slice.result.now) (search rules) (ap terms_lent c.as_slice.ensures.value)
+    none-joined c.args.below.now c.args.sources.now (terms_lent c.args.conds.items) c.args.nodes.now _ _ _ _ (terms_lent c.as_slice.result.now) (no_item c.args.sources.now c.in_default.ensures.cases) (ap terms_lent c.as_slice.ensures.value)
     c.in_ok-row.ensures.gives c.in_ok-n.ensures.gives
 
 pub combined-narrowed-requires : goal.combined-narrowed-requires
@@ -119,20 +122,28 @@ query-returns-in_ok-n-in-Union-clause-gives t c =
     union_gives c.args.nodes.now c.args.below.now c.args.typed.now c.in-Union.sides c.in-Union.is c.as_slice-in-Union.result.now c.as_slice-in-Union.ensures.value _ _ c.in_ok-n-in-Union.ensures.gives
 
 pub query-query-requires-in-Minus : goal.query-query-requires-in-Minus
-query-query-requires-in-Minus t c = (
-  search (rules, the_lemmas),
-  right_well c.args.nodes.now c.args.below.now (query_of c.args.typed.now) _ _ (ap (λ (q : TypedQuery). query_of q) c.in-Minus.is) _ c.in_ok-left-in-Minus.ensures.grows c.requires.well,
-)
+query-query-requires-in-Minus t c =
+    let one : ◌≡◌ {A = TypedQuery} c.in-Minus.left.value c.deref.result.now = search rules in
+    let other : ◌≡◌ {A = TypedQuery} c.in-Minus.right.value c.deref-in-Minus.result.now = search rules in
+    let is = ap (λ (q : TypedQuery). query_of q) c.in-Minus.is ∙ ap₂ (λ (a b : TypedQuery). minus (query_of a) (query_of b)) one other in
+    (search (rules, the_lemmas), right_well c.args.nodes.now c.args.below.now (query_of c.args.typed.now) _ _ is _ c.in_ok-left-in-Minus.ensures.grows c.requires.well)
 
 pub query-add-requires : goal.query-add-requires
-query-add-requires t c = record {
-  valid = minus_valid c.args.nodes.now c.args.below.now (query_of c.args.typed.now) _ _ (ap (λ (q : TypedQuery). query_of q) c.in-Minus.is) _ c.in_ok-left-in-Minus.ensures.grows _ c.in_ok-left-in-Minus.ensures.gives
-      _ c.in_ok-right-in-Minus.ensures.grows _ c.in_ok-right-in-Minus.ensures.gives c.requires.well;
-}
+query-add-requires t c =
+    let one : ◌≡◌ {A = TypedQuery} c.in-Minus.left.value c.deref.result.now = search rules in
+    let other : ◌≡◌ {A = TypedQuery} c.in-Minus.right.value c.deref-in-Minus.result.now = search rules in
+    let is = ap (λ (q : TypedQuery). query_of q) c.in-Minus.is ∙ ap₂ (λ (a b : TypedQuery). minus (query_of a) (query_of b)) one other in
+    record {
+      valid = minus_valid c.args.nodes.now c.args.below.now (query_of c.args.typed.now) _ _ is _ c.in_ok-left-in-Minus.ensures.grows _ c.in_ok-left-in-Minus.ensures.gives
+          _ c.in_ok-right-in-Minus.ensures.grows _ c.in_ok-right-in-Minus.ensures.gives c.requires.well;
+    }
 
 pub query-returns-in_ok-n-in-Minus-clause-gives : goal.query-returns-in_ok-n-in-Minus-clause-gives
 query-returns-in_ok-n-in-Minus-clause-gives t c =
-    minus_gives c.args.nodes.now c.args.below.now (query_of c.args.typed.now) _ _ (ap (λ (q : TypedQuery). query_of q) c.in-Minus.is) _ c.in_ok-left-in-Minus.ensures.grows _ c.in_ok-left-in-Minus.ensures.gives
+    let one : ◌≡◌ {A = TypedQuery} c.in-Minus.left.value c.deref.result.now = search rules in
+    let other : ◌≡◌ {A = TypedQuery} c.in-Minus.right.value c.deref-in-Minus.result.now = search rules in
+    let is = ap (λ (q : TypedQuery). query_of q) c.in-Minus.is ∙ ap₂ (λ (a b : TypedQuery). minus (query_of a) (query_of b)) one other in
+    minus_gives c.args.nodes.now c.args.below.now (query_of c.args.typed.now) _ _ is _ c.in_ok-left-in-Minus.ensures.grows _ c.in_ok-left-in-Minus.ensures.gives
     _ c.in_ok-right-in-Minus.ensures.grows _ c.in_ok-right-in-Minus.ensures.gives _ _ c.in_ok-n-in-Minus.ensures.stands
 
 -- ---- sources
@@ -142,12 +153,16 @@ source-returns-in-Document-clause-gives t c = rw c.in-Document.is (λ well. well
 
 pub source-returns-in_ok-n-in-Nested-clause-gives : goal.source-returns-in_ok-n-in-Nested-clause-gives
 source-returns-in_ok-n-in-Nested-clause-gives t c =
-    rw c.in-Nested.is (λ well. c.in_ok-n-in-Nested.ensures.gives (record { widths = well.widths; means = well.means; base = well.base; wanted = well.wanted }))
+    let is : ◌≡◌ {A = TypedQuery} c.deref.result.now c.in-Nested.nested.value = search rules in
+    rw c.in-Nested.is
+    (subst (λ (q : TypedQuery). (well : IsWell c.args.nodes.now c.args.below.now (SourceThere (nested (query_of q))))
+    → Gives c.query.new.nodes c.in_ok-n-in-Nested.n (width_of well.widths (query_of q)) (λ lists doc. meaning_of lists doc (well.means lists doc) (query_of q))) is
+    (λ well. c.in_ok-n-in-Nested.ensures.gives (record { widths = well.widths; means = well.means; base = well.base; wanted = well.wanted })))
 
 -- ---- unions
 
 pub union-returns-in_default-clause-gives : goal.union-returns-in_default-clause-gives
-union-returns-in_default-clause-gives t c = none-united c.args.below.now (sides_seen c.args.sides.now) c.args.nodes.now _ _ (ap sides_seen (search rules)) c.in_ok-n.ensures.gives
+union-returns-in_default-clause-gives t c = none-united c.args.below.now (sides_seen c.args.sides.now) c.args.nodes.now _ _ (ap sides_seen (no_item c.args.sides.now c.in_default.ensures.cases)) c.in_ok-n.ensures.gives
 
 pub union-loop-side-init : goal.union-loop-side-init
 union-loop-side-init t c = record {
