@@ -34,10 +34,6 @@ use Rattle.plan_maker.proofs.Bases.{base-grown}
 use Rattle.plan_maker.proofs.Combining.{IsJoined, joined-first, joined-next, joined-last}
 use Rattle.plan_maker.proofs.Giving.{gives-grown, gives-is, gives-width, valid-union, gives-union, valid-minus, gives-minus}
 
-pub no_item : {X : Type 0} (xs : List X) → length xs ≡ 0 → xs ≡ []
-no_item [] is = refl
-no_item (x ∷ xs) is = absurd (omega (arith, is))
-
 -- the list of what is left, from element i on
 pub sides_left : (sides : List TypedQuery) (i : ℕ) (side : TypedQuery) → i < length sides → side ≡ get_or sides i side
     → sides_seen (drop i sides) ≡ more_queries (query_of side) (sides_seen (drop (i + 1) sides))

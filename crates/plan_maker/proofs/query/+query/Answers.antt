@@ -11,7 +11,8 @@ use Rattle.aql_typed.specs.Trees.{minus, nested}
 use Rattle.aql_typed.specs.Views.{query_of}
 use Rattle.algebra.specs.GrowthLaws.{grows-trans}
 use Rattle.plan_maker.specs.Grounds.{Gives, IsWell, SourceThere, sides_seen, sources_seen, terms_lent}
-use Rattle.plan_maker.proofs.Queries.{no_item, sides_left, sources_left, join_well, join_can, select_gives, source_can, extract_gives, sides_well, union_gives, united-first, side_well, union_valid, united-next, united-last, none-united, right_well, minus_valid, minus_gives, none-joined, first_can, first_joined, next_well, left_can, right_can, next_joined, last_can, last_gives}
+use Rattle.plan_maker.proofs.Combining.{no_item}
+use Rattle.plan_maker.proofs.Queries.{sides_left, sources_left, join_well, join_can, select_gives, source_can, extract_gives, sides_well, union_gives, united-first, side_well, union_valid, united-next, united-last, none-united, right_well, minus_valid, minus_gives, none-joined, first_can, first_joined, next_well, left_can, right_can, next_joined, last_can, last_gives}
 use Rattle.plan_maker.proofs.query.+query.Goals as goal
 
 -- ---- products
