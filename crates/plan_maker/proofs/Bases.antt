@@ -40,7 +40,7 @@ base-grown old new below widths means grows base = record {
   counted = base.counted;
 }
 
-pub well-grown : (old new : List Node) (below : Below) (Wants Others : List ℕ → Type 0) → Grows old new → (well : IsWell old below Wants) → Others well.widths → IsWell new below Others
+abbrev pub well-grown : (old new : List Node) (below : Below) (Wants Others : List ℕ → Type 0) → Grows old new → (well : IsWell old below Wants) → Others well.widths → IsWell new below Others
 well-grown old new below Wants Others grows well others = record {
   widths = well.widths;
   means = well.means;
@@ -125,10 +125,10 @@ part-none nodes below bodies none document fit = record {
 
 -- a view more
 module _ (old : List Node) (below : Below) (bodies left rest : List Query) (body : Query) (are : left ≡ body ∷ rest) (part : IsPart old below bodies left) where
-  left_fit : AllFit part.widths (body ∷ rest)
+  pub left_fit : AllFit part.widths (body ∷ rest)
   left_fit = subst (AllFit part.widths) are part.fit
 
-  pub next-well : IsWell old below (QueryFits body)
+  abbrev pub next-well : IsWell old below (QueryFits body)
   next-well = record { widths = part.widths; means = part.means; base = part.base; wanted = left_fit.0 }
 
   pub part-next : (new : List Node) (after : Below) (n : ℕ) → Grows old new → after.document ≡ below.document → after.views.items ≡ below.views.items ++ n ∷ []

@@ -29,12 +29,12 @@ use Rattle.plan_maker.proofs.Numbers.{columns_read}
 -- ---- a selection
 
 module _ (a : List Node) (i : ℕ) (clauses : declared_select.SelectClauses) where
-  pub can_keep : CanRead a i (ClausesFit (select_clauses_of clauses)) → CanRead a i (TargetFits (option_map consolidation_of clauses.consolidate))
+  abbrev pub can_keep : CanRead a i (ClausesFit (select_clauses_of clauses)) → CanRead a i (TargetFits (option_map consolidation_of clauses.consolidate))
   can_keep can = record { width = can.width; rows = can.rows; gives = can.gives; wanted = can.wanted.0.target }
 
   module _ (b : List Node) (j : ℕ) (given : (can : CanRead a i (TargetFits (option_map consolidation_of clauses.consolidate)))
       → Gives b j can.width (λ lists doc. kept lists doc (option_map consolidation_of clauses.consolidate) (can.rows lists doc))) where
-    pub can_project : CanRead a i (ClausesFit (select_clauses_of clauses)) → CanRead b j (ColumnsFit (projection_of clauses.projection))
+    abbrev pub can_project : CanRead a i (ClausesFit (select_clauses_of clauses)) → CanRead b j (ColumnsFit (projection_of clauses.projection))
     can_project can = record {
       width = can.width;
       rows = λ lists doc. kept lists doc (option_map consolidation_of clauses.consolidate) (can.rows lists doc);
@@ -45,7 +45,7 @@ module _ (a : List Node) (i : ℕ) (clauses : declared_select.SelectClauses) whe
     module _ (d : List Node) (k : ℕ) (made : (can : CanRead b j (ColumnsFit (projection_of clauses.projection)))
         → Gives d k (projection_width (projection_of clauses.projection)) (λ lists doc. projected lists doc (projection_of clauses.projection) (can.rows lists doc)))
         (order : List ℕ) (seen : order ≡ clauses.order.items) where
-      pub can_limit : CanRead a i (ClausesFit (select_clauses_of clauses)) → CanRead d k (KeysFit order)
+      abbrev pub can_limit : CanRead a i (ClausesFit (select_clauses_of clauses)) → CanRead d k (KeysFit order)
       can_limit can = record {
         width = projection_width (projection_of clauses.projection);
         rows = λ lists doc. projected lists doc (projection_of clauses.projection) (kept lists doc (option_map consolidation_of clauses.consolidate) (can.rows lists doc));
@@ -66,7 +66,7 @@ module _ (a : List Node) (i : ℕ) (clauses : declared_select.SelectClauses) whe
 module _ (a : List Node) (i : ℕ) (clauses : declared_extract.ExtractClauses) (b : List Node) (j : ℕ)
     (given : (can : CanRead a i (ExtractFits (extract_clauses_of clauses))) → Gives b j (extract_width (extract_clauses_of clauses)) (λ lists doc. extracted lists doc clauses.items (extraction_of clauses.extraction) (can.rows lists doc)))
     (conds : List (Bor Expr)) (are : terms_lent conds ≡ clauses.conds) where
-  pub can_select : CanRead a i (ExtractFits (extract_clauses_of clauses)) → CanRead b j (AllRead (terms_lent conds))
+  abbrev pub can_select : CanRead a i (ExtractFits (extract_clauses_of clauses)) → CanRead b j (AllRead (terms_lent conds))
   can_select can = record {
     width = extract_width (extract_clauses_of clauses);
     rows = λ lists doc. extracted lists doc clauses.items (extraction_of clauses.extraction) (can.rows lists doc);
@@ -75,7 +75,7 @@ module _ (a : List Node) (i : ℕ) (clauses : declared_extract.ExtractClauses) (
   }
 
   module _ (d : List Node) (k : ℕ) (held : (can : CanRead b j (AllRead (terms_lent conds))) → Gives d k can.width (λ lists doc. selected lists doc (terms_lent conds) (can.rows lists doc))) where
-    pub can_keep_found : CanRead a i (ExtractFits (extract_clauses_of clauses)) → CanRead d k (TargetFits (option_map consolidation_of clauses.consolidate))
+    abbrev pub can_keep_found : CanRead a i (ExtractFits (extract_clauses_of clauses)) → CanRead d k (TargetFits (option_map consolidation_of clauses.consolidate))
     can_keep_found can = record {
       width = extract_width (extract_clauses_of clauses);
       rows = λ lists doc. selected lists doc (terms_lent conds) (extracted lists doc clauses.items (extraction_of clauses.extraction) (can.rows lists doc));
@@ -85,7 +85,7 @@ module _ (a : List Node) (i : ℕ) (clauses : declared_extract.ExtractClauses) (
 
     module _ (e : List Node) (l : ℕ) (stay : (can : CanRead d k (TargetFits (option_map consolidation_of clauses.consolidate)))
         → Gives e l can.width (λ lists doc. kept lists doc (option_map consolidation_of clauses.consolidate) (can.rows lists doc))) where
-      pub can_limit_found : CanRead a i (ExtractFits (extract_clauses_of clauses)) → CanRead e l (KeysFit [])
+      abbrev pub can_limit_found : CanRead a i (ExtractFits (extract_clauses_of clauses)) → CanRead e l (KeysFit [])
       can_limit_found can = record {
         width = extract_width (extract_clauses_of clauses);
         rows = λ lists doc. kept lists doc (option_map consolidation_of clauses.consolidate) (selected lists doc (terms_lent conds) (extracted lists doc clauses.items (extraction_of clauses.extraction) (can.rows lists doc)));
@@ -104,20 +104,21 @@ module _ (a : List Node) (i : ℕ) (clauses : declared_extract.ExtractClauses) (
 -- ---- what is extracted
 
 one_by_one : (lists : Lists) (doc : Doc) (items : List Term) (e : Extraction) → IsSearched e → (rows : Rows) → flat_map (extracted_from lists doc items e) rows ≡ extracted lists doc items e rows
-one_by_one lists doc items (regex column p groups) is rows = refl
-one_by_one lists doc items (token_regex column low high p groups) is rows = refl
-one_by_one lists doc items (dict column d) is rows = refl
-one_by_one lists doc items (blocks column low high from to tokens) is rows = absurd is
+one_by_one lists doc items (regex col p groups) is rows = refl
+one_by_one lists doc items (token_regex col low high p groups) is rows = refl
+one_by_one lists doc items (dict col d) is rows = refl
+one_by_one lists doc items (blocks col low high from to tokens) is rows = absurd is
 
 module _ (a : List Node) (i : ℕ) (clauses : ExtractClauses) where
-  pub blocks_gives : (column low high : ℕ) (from to : ℤ) (tokens : Bool) → clauses.extraction ≡ blocks column low high from to tokens → (new : List Node) (n : ℕ) → Stands a new n (Blocks i column low high from to tokens)
-      → (can : CanRead a i (ExtractFits clauses)) → Gives new n (extract_width clauses) (λ lists doc. extracted lists doc clauses.items clauses.extraction (can.rows lists doc))
-  blocks_gives column low high from to tokens is new n stands can =
+  pub blocks_gives : (col low high : ℕ) (from upto first last : ℤ) (tokens : Bool) → clauses.extraction ≡ blocks col low high from upto tokens → (new : List Node) (n : ℕ) → Stands a new n (Blocks i col low high first last tokens)
+      → first ≡ from → last ≡ upto → (can : CanRead a i (ExtractFits clauses)) → Gives new n (extract_width clauses) (λ lists doc. extracted lists doc clauses.items clauses.extraction (can.rows lists doc))
+  blocks_gives col low high from upto first last tokens is new n stands one other can =
       let none : clauses.items ≡ [] = subst (FitsExtraction clauses) is can.wanted.0 in
+      let same : clauses.extraction ≡ blocks col low high first last tokens = is ∙ ap₂ (λ (f t : ℤ). blocks col low high f t tokens) (sym one) (sym other) in
       gives-width new n 1 (extract_width clauses) _ (omega (arith, ap length none, ap found_width is))
       (gives-is new n 1 _ (λ lists doc. extracted lists doc clauses.items clauses.extraction (can.rows lists doc))
-      (λ lists doc. ap (λ (e : Extraction). extracted lists doc clauses.items e (can.rows lists doc)) (sym is))
-      (gives-blocks a i can.width can.rows can.gives column low high from to tokens new n stands))
+      (λ lists doc. ap (λ (e : Extraction). extracted lists doc clauses.items e (can.rows lists doc)) (sym same))
+      (gives-blocks a i can.width can.rows can.gives col low high first last tokens new n stands))
 
   pub each_gives : (FitsExtraction clauses clauses.extraction → IsSearched clauses.extraction) → (new : List Node) (n : ℕ)
       → ((can : CanRead a i (MatchesFit clauses)) → Gives new n (extract_width clauses) (λ lists doc. flat_map (extracted_from lists doc clauses.items clauses.extraction) (can.rows lists doc)))
@@ -127,7 +128,7 @@ module _ (a : List Node) (i : ℕ) (clauses : ExtractClauses) where
       (λ lists doc. one_by_one lists doc clauses.items clauses.extraction (searched can.wanted.0) (can.rows lists doc))
       (made (record { width = can.width; rows = can.rows; gives = can.gives; wanted = (searched can.wanted.0, can.wanted.1) }))
 
-  pub can_search : CanRead a i (MatchesFit clauses) → CanRead a i (SearchFits clauses.extraction)
+  abbrev pub can_search : CanRead a i (MatchesFit clauses) → CanRead a i (SearchFits clauses.extraction)
   can_search can = record { width = can.width; rows = can.rows; gives = can.gives; wanted = (can.wanted.0, can.wanted.1.column) }
 
   module _ (b : List Node) (j : ℕ) (given : (can : CanRead a i (SearchFits clauses.extraction)) → Gives b j (can.width + found_width clauses.extraction) (λ lists doc. with_found lists doc clauses.extraction (can.rows lists doc)))

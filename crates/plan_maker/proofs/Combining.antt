@@ -23,6 +23,10 @@ use Rattle.plan_maker.specs.declared.below.Below.{Below}
 use Rattle.plan_maker.specs.Grounds.{Gives, Narrows, IsBase}
 use Rattle.plan_maker.proofs.Giving.{gives-is, gives-width}
 
+pub no_item : {X : Type 0} (xs : List X) → length xs ≡ 0 → xs ≡ []
+no_item [] is = refl
+no_item (x ∷ xs) is = absurd (omega (arith, is))
+
 -- ---- products
 
 pub product-append : (xs ys right : Rows) → product (xs ++ ys) right ≡ product xs right ++ product ys right
@@ -150,6 +154,6 @@ module _ (nodes : List Node) (below : Below) (widths : List ℕ) (means : Lists 
       }
 
   -- no source is left
-  pub joined-last : (sources : Sources) (last : List Term) (n : ℕ) (done : IsJoined nodes below widths means sources no_sources conds last n)
-      → (lists : Lists) (doc : Doc) → selected lists doc last (done.rows lists doc) ≡ selected lists doc conds (combinations lists doc (means lists doc) sources)
-  joined-last sources last n done lists doc = ap (selected lists doc last) (sym (product-ends (done.rows lists doc))) ∙ done.same lists doc
+  pub joined-last : (all : Sources) (last : List Term) (n : ℕ) (done : IsJoined nodes below widths means all no_sources conds last n)
+      → (lists : Lists) (doc : Doc) → selected lists doc last (done.rows lists doc) ≡ selected lists doc conds (combinations lists doc (means lists doc) all)
+  joined-last all last n done lists doc = ap (selected lists doc last) (sym (product-ends (done.rows lists doc))) ∙ done.same lists doc

@@ -54,10 +54,12 @@ fn push_parts<'t>(cond: &'t Expr, into: &mut Vec<&'t Expr>) -> Result<(), OutOfM
     ensures same { OnOk result ((lists : Lists) (doc : Doc) (row : List Datum) → holding lists doc (terms_lent into.new.items) row ≡ (holding lists doc (terms_lent into.old.items) row && is_true (value lists doc row (term_of cond.now)))) }
     ensures reads { OnOk result ((width : ℕ) → All (ReadsBelow width) (terms_lent into.old.items) → ReadsBelow width (term_of cond.now) → All (ReadsBelow width) (terms_lent into.new.items)) }
 {
-    if let Expr::Call { op: Op::And, args } = cond {
-        if !args.is_empty() {
-            push_all(args.as_slice(), into)?;
-            return Ok(());
+    if let Expr::Call { op, args } = cond {
+        if let Op::And = op {
+            if !args.is_empty() {
+                push_all(args.as_slice(), into)?;
+                return Ok(());
+            }
         }
     }
     into.push(cond)?;

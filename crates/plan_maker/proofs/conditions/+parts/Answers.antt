@@ -21,15 +21,15 @@ push_all-loop-cond-preserved t c = record {
 
 pub push_parts-returns-then-not-is_empty-clause-same : goal.push_parts-returns-then-not-is_empty-clause-same
 push_parts-returns-then-not-is_empty-clause-same t c = λ lists doc row.
-    let args = c.in-Call-And-default.args in
-    let is : c.args.cond.now ≡ expr.Call And args = c.in-Call-And-default.is ∙ ap (λ (o : Op). expr.Call o args) c.in-Call-And-default.op-is in
+    let args = c.in-Call.args in
+    let is : c.args.cond.now ≡ expr.Call And args = c.in-Call.is ∙ ap (λ (o : Op). expr.Call o args) c.in-And.is in
     c.in_ok-push_all.ensures.same lists doc row
     ∙ ap (λ (b : Bool). holding lists doc (terms_lent c.args.into.now.items) row && b)
     (ap (λ (es : List Expr). holding lists doc (map term_of es) row) c.as_slice.ensures.value ∙ parts_hold c.args.cond.now args is lists doc row (search (rules, arith)))
 
 pub push_parts-returns-then-not-is_empty-clause-reads : goal.push_parts-returns-then-not-is_empty-clause-reads
 push_parts-returns-then-not-is_empty-clause-reads t c = λ width old reads.
-    let args = c.in-Call-And-default.args in
-    let is : c.args.cond.now ≡ expr.Call And args = c.in-Call-And-default.is ∙ ap (λ (o : Op). expr.Call o args) c.in-Call-And-default.op-is in
+    let args = c.in-Call.args in
+    let is : c.args.cond.now ≡ expr.Call And args = c.in-Call.is ∙ ap (λ (o : Op). expr.Call o args) c.in-And.is in
     c.in_ok-push_all.ensures.reads width old
     (subst (λ (es : List Expr). All (ReadsBelow width) (map term_of es)) (sym c.as_slice.ensures.value) (parts_read c.args.cond.now args is width reads))

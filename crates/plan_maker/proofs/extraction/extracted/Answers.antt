@@ -1,4 +1,4 @@
-use Rattle.std.proofs.Common.{ap, sym, subst}
+use Rattle.std.proofs.Common.{rules, ap, sym, subst}
 use Rattle.aql_typed.specs.Fitting.{FitsExtraction}
 use Rattle.aql_typed.specs.Views.{extraction_of, extract_clauses_of}
 use Rattle.plan_maker.specs.Grounds.{IsSearched}
@@ -7,7 +7,7 @@ use Rattle.plan_maker.proofs.extraction.extracted.Goals as goal
 
 pub returns-in_ok-n-in-Blocks-clause-gives : goal.returns-in_ok-n-in-Blocks-clause-gives
 returns-in_ok-n-in-Blocks-clause-gives c =
-    blocks_gives c.args.nodes.now c.args.input (extract_clauses_of c.args.clauses.now) _ _ _ _ _ _ (ap extraction_of c.in-Blocks.is) _ _ c.in_ok-n-in-Blocks.ensures.stands
+    blocks_gives c.args.nodes.now c.args.input (extract_clauses_of c.args.clauses.now) _ _ _ _ _ _ _ _ (ap extraction_of c.in-Blocks.is) _ _ c.in_ok-n-in-Blocks.ensures.stands (search rules) (search rules)
 
 pub returns-in_ok-n-in-Regex-clause-gives : goal.returns-in_ok-n-in-Regex-clause-gives
 returns-in_ok-n-in-Regex-clause-gives c =

@@ -3,17 +3,13 @@ use Rattle.scalar_ops.specs.declared.expr.Expr.{Expr}
 use Rattle.scalar_ops.specs.Expressions.{Term}
 use Rattle.aql_typed.specs.Meaning.{selected}
 use Rattle.plan_maker.specs.Grounds.{terms_lent}
-use Rattle.plan_maker.proofs.Combining.{selected-none}
+use Rattle.plan_maker.proofs.Combining.{no_item, selected-none}
 use Rattle.plan_maker.proofs.Giving.{valid-select, gives-select, gives-is}
 use Rattle.plan_maker.proofs.joining.selected.Goals as goal
 
-none : (xs : List (Bor Expr)) → length xs ≡ 0 → xs ≡ []
-none [] is = refl
-none (x ∷ xs) is = absurd (omega (arith, is))
-
 pub returns-then-is_empty-clause-gives : goal.returns-then-is_empty-clause-gives
 returns-then-is_empty-clause-gives c = λ can.
-    let are : c.args.conds.now ≡ [] = none c.args.conds.now (search rules) in
+    let are : c.args.conds.now ≡ [] = no_item c.args.conds.now (search rules) in
     gives-is _ _ _ _ _ (λ lists doc. sym (selected-none lists doc (can.rows lists doc)) ∙ ap (λ (cs : List (Bor Expr)). selected lists doc (terms_lent cs) (can.rows lists doc)) (sym are)) can.gives
 
 pub add-requires : goal.add-requires
