@@ -1,4 +1,4 @@
-ghost use Rattle.std.specs.Prelude.{◌≡◌, ◌≤◌, ◌++◌, map, IfOk, OnOk, IfSome, All};
+ghost use Rattle.std.specs.Prelude.{◌≡◌, ◌≤◌, ◌++◌, ℕ, map, IfOk, OnOk, IfSome, All};
 ghost use Rattle.span_token.specs.Documents.{LiesIn};
 ghost use Rattle.span_token.specs.Extents.{extent_of};
 ghost use Rattle.span_token.specs.Relations.{ContainsExtent};
@@ -104,6 +104,28 @@ impl<'t> Tools<'t> {
             .pass
             .append_matches(doc, source, &mut self.scratch, &mut self.found)?;
         push_for(self.found.as_slice(), dict as usize, into)
+    }
+
+    /// The matches of all dictionaries in `source`, by one walk, in place of what `into` held. Those of one
+    /// dictionary stand by begin and then by end, those of several among one another.
+    ///
+    /// After want of memory no clause says what `into` holds.
+    pub fn find_dict_matches(
+        &mut self,
+        doc: &Document<'_>,
+        source: Span,
+        into: &mut Vec<DictMatch>,
+    ) -> Result<(), OutOfMemory>
+        requires in_document { LiesIn (extent_of source) doc.now }
+        ensures matches { OnOk result ((dict : ℕ) → extents_for dict (map dict_and_extent into.new.items) ≡ of_dict self.old dict (λ the. dict_matches the doc.now (extent_of source))) }
+        ensures within { OnOk result (All (λ m. ContainsExtent (extent_of source) m.1) (map dict_and_extent into.new.items)) }
+        ensures same { self.new ≡ self.old }
+    {
+        let tables = self.tables;
+        into.clear();
+        tables
+            .pass
+            .append_matches(doc, source, &mut self.scratch, into)
     }
 }
 

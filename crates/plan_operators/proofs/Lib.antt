@@ -1,0 +1,10 @@
+-- rows that are gone through one by one
+pub mod Going
+-- rows with the place of a dictionary
+pub mod Placing
+-- where rows lie
+pub mod Lying
+-- the rows of nodes
+pub mod Boards
+-- nodes that are needed
+pub mod Needing

@@ -1,0 +1,8 @@
+-- Words of public clauses
+-- what an operator is given
+pub mod Given
+-- what the nodes of a plan have, so far as they are evaluated
+pub mod Boards
+-- Words of private clauses
+-- rows with the place of a dictionary
+pub mod Places

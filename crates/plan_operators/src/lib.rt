@@ -1,0 +1,21 @@
+//! The operators of plans: what each node gives of the rows of its inputs, and a whole plan on one document.
+//!
+//! `apply` gives the bag of rows that a node means (`op` of `algebra`) for lists of rows that are given up or
+//! lent, and `evaluate` the rows of each output of a plan (`val`). Stands on `algebra` for plans, on
+//! `row_operators` for what is done to rows, and on `span_joins` for joins.
+#![tactic(auto)]
+
+mod board;
+mod dicts;
+mod extract;
+mod input;
+mod join;
+mod keep;
+mod needed;
+mod operator;
+mod select;
+mod sides;
+
+pub use board::{evaluate, rows_shown};
+pub use input::Input;
+pub use operator::apply;
