@@ -54,6 +54,10 @@ pub record IsSameSeat (old new : Seated) : Type 0 where
   pub number : new.view.number ≡ old.view.number
   pub parts : new.view.parts ≡ old.view.parts
 
+-- the seat fits the table, and stands for itself alone
+abbrev pub SitsAt : TableId → Seated → Type 0
+SitsAt table seat = (seat.table ≡ table) × (seat.view.parts ≡ 1)
+
 -- the n seats of a table, in the order of their numbers from 0
 pub record AreNewSeats (table : TableId) (n : ℕ) (seats : List Seated) : Type 0 where
   pub all : length seats ≡ n

@@ -1,7 +1,7 @@
-ghost use Rattle.std.specs.Prelude.{◌≡◌, ◌≢◌, ◌<◌, ◌≤◌, ◌+◌, ◌-◌, [], length, MatchBool, IfOk};
+ghost use Rattle.std.specs.Prelude.{◌≡◌, ◌≢◌, ◌<◌, ◌≤◌, ◌+◌, ◌-◌, [], length, All, MatchBool, IfOk};
 ghost use Rattle.std.specs.Mem.Slots.{slots_items, slots_len, IsFull};
 ghost use Rattle.run_tables.specs.ClaimWords.{AreWords, AreWonOnce};
-ghost use Rattle.run_tables.specs.Seats.{dealer, newcomer, with_win, with_read, with_joined, IsSameSeat, AreNewSeats};
+ghost use Rattle.run_tables.specs.Seats.{dealer, newcomer, with_win, with_read, with_joined, IsSameSeat, SitsAt, AreNewSeats};
 
 use crate::rule::{ClaimRule, Counts, Gives, Merges, Reads, Sizes, Tries, View};
 use atomic_table::{Closed, Seat, Table};
@@ -74,6 +74,7 @@ impl Claims {
         requires some_seats { 1 ≤ seats }
         ensures sizes { IfOk result (λ made. made.0.sizes ≡ record { items = items; seats = seats }) }
         ensures seats { IfOk result (λ made. AreNewSeats made.0.table seats made.1.items) }
+        ensures sit { IfOk result (λ made. All (SitsAt made.0.table) made.1.items) }
     {
         let words = Vec::from_elem(alloc, 0, items as usize)?;
         let sizes = Sizes { items, seats };
