@@ -5,6 +5,8 @@ pub mod Seats
 pub mod ClaimWords
 -- items, and what they are worth
 pub mod Items
+-- laws of them for the crates above
+pub mod ItemLaws
 -- what watches know of cells
 pub mod Cells
 -- Words of private clauses

@@ -1,0 +1,2 @@
+-- the result of the one node of the tests' plan
+pub mod DocumentPlans
