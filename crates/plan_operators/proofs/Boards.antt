@@ -1,11 +1,15 @@
 -- The rows of nodes, made of those of their inputs.
-use Rattle.std.proofs.Common.{◌≡◌, ◌∙◌, ◌<◌, ◌≤◌, ℕ, Bool, List, [], Option, Some, None, length, refl, sym, ap, subst, arith}
-use Rattle.std.specs.Prelude.{slice_index_or, IsTrue, IsSome}
+use Rattle.std.proofs.Common.{◌≡◌, ◌∙◌, ◌<◌, ◌≤◌, ◌+◌, ◌^◌, ◌++◌, ◌∷◌, ℕ, List, [], Option, Some, None, length, refl, sym, ap, subst, arith, ⊎_elim}
+use Rattle.std.specs.Prelude.{slice_index_or, IsSome}
+use Rattle.std.proofs.lemmas.Bool.{cases_lt}
+use Rattle.std.proofs.lemmas.List.{length-append}
+use Rattle.std.proofs.Math.ListN.{get_or-append}
+use Rattle.std.proofs.Math.Seq.{get_or-append_seam}
 use Rattle.std.proofs.lemmas.List.Elements.{All-nil, All-weaker}
 use Rattle.aql_base.specs.Bags.{SameBag}
 use Rattle.aql_base.specs.BagLaws.{SameBag-refl, SameBag-sym, SameBag-trans}
 use Rattle.span_token.specs.Documents.{Doc}
-use Rattle.row_values.specs.Datums.{Datum, IsOfDocument}
+use Rattle.row_values.specs.Datums.{IsOfDocument}
 use Rattle.row_values.specs.Rows.{RowList, RowsLieIn}
 use Rattle.scalar_ops.specs.Tables.{Lists}
 use Rattle.std.specs.List.{All}
@@ -21,17 +25,11 @@ use Rattle.algebra.specs.OperatorLaws.{op-SameBag}
 use Rattle.algebra.specs.Operators.{op}
 use Rattle.algebra.specs.Shapes.{no_shape, shapes_of, shape_by}
 use Rattle.algebra.specs.Values.{all_values, val}
-use Rattle.plan_operators.specs.Boards.{IsOf, Holds, is_needed, IsInputNeeded, IsBoard, no_rows, rows_there, input_on}
+use Rattle.plan_operators.specs.Boards.{IsOf, Holds, IsInput, IsOnBoard, read_until, IsKeptFor, IsBoard, rows_there}
 use Rattle.plan_operators.specs.Given.{MayRead}
 
 module _ (lists : Lists) (doc : Doc) (nodes : List Node) where
-  -- the list is what an input has
-  pub record IsInput (o : Option ℕ) (list : RowList) : Type 0 where
-    pub same : SameBag list.rows (of_input [] (all_values lists doc nodes) o)
-    pub wide : list.width ≡ (of_input no_shape (shapes_of nodes) o).width
-    pub lies : RowsLieIn doc list.rows
-
-  held : (i : ℕ) (o : Option RowList) → Holds lists doc nodes i o → IsInput (Some i) (rows_there o)
+  held : (i : ℕ) (o : Option RowList) → Holds lists doc nodes i o → IsInput lists doc nodes (Some i) (rows_there o)
   held i None h = absurd h
   held i (Some list) h = record { same = h.same; wide = h.wide; lies = h.lies }
 
@@ -39,16 +37,49 @@ module _ (lists : Lists) (doc : Doc) (nodes : List Node) where
   there i None h = absurd h
   there i (Some list) h = refl
 
-  module _ (needed : List Bool) (board : List (Option RowList)) (has : IsBoard lists doc nodes needed board) where
-    -- an input that is needed and stands before has its rows on the board
-    pub input_there : (i : ℕ) → i < length board → IsInputNeeded needed (Some i) → IsSome (slice_index_or board i None)
-    input_there i below marked = there i (slice_index_or board i None) (has.each i below marked)
+  module _ (untils : List ℕ) (board : List (Option RowList)) (has : IsBoard lists doc nodes untils board) where
+    -- an input that is kept for the next node has its rows on the board
+    pub on_board : (o : Option ℕ) → IsAmong (length board) o → IsKeptFor (length board) untils o → IsOnBoard lists doc nodes board o
+    on_board None among kept = record { among = tt; present = tt; has = record { same = SameBag-refl []; wide = refl; lies = All-nil (All (IsOfDocument doc)) } }
+    on_board (Some i) among kept = record {
+      among = among;
+      present = there i (slice_index_or board i None) (has.each i among kept);
+      has = held i (slice_index_or board i None) (has.each i among kept);
+    }
 
-    pub input_is : (o : Option ℕ) → IsAmong (length board) o → IsInputNeeded needed o → IsInput o (input_on board o)
-    input_is None among marked = record { same = SameBag-refl []; wide = refl; lies = All-nil (All (IsOfDocument doc)) }
-    input_is (Some i) among marked = held i (slice_index_or board i None) (has.each i among marked)
+  -- an input whose rows stand as they stood is on the board
+  pub still_there : (old new : List (Option RowList)) (o : Option ℕ) → length new ≡ length old
+      → ((m : ℕ) → o ≡ Some m → slice_index_or new m None ≡ slice_index_or old m None) → IsOnBoard lists doc nodes old o → IsOnBoard lists doc nodes new o
+  still_there old new None long same on = record { among = tt; present = tt; has = on.has }
+  still_there old new (Some i) long same on =
+      let e = same i refl in
+      record {
+        among = subst (λ (k : ℕ). i < k) (sym long) on.among;
+        present = subst IsSome (sym e) on.present;
+        has = subst (λ (o : Option RowList). IsInput lists doc nodes (Some i) (rows_there o)) (sym e) on.has;
+      }
 
-  module _ (n : ℕ) (node : Node) (at : IsAt nodes n node) (left right : RowList) (l : IsInput (left_input node) left) (r : IsInput (right_input node) right) where
+  -- the board after one more node
+  pub board_next : (untils : List ℕ) (old new : List (Option RowList)) (o : Option RowList) → length new ≡ length old → IsBoard lists doc nodes untils old
+      → ((m : ℕ) → length old + 1 < read_until untils m → slice_index_or new m None ≡ slice_index_or old m None)
+      → (0 < read_until untils (length old) → Holds lists doc nodes (length old) o) → IsBoard lists doc nodes untils (new ++ o ∷ [])
+  board_next untils old new o long has same now = record { each = each }
+    where
+      each : (m : ℕ) → m < length (new ++ o ∷ []) → length (new ++ o ∷ []) < read_until untils m → Holds lists doc nodes m (slice_index_or (new ++ o ∷ []) m None)
+      each m below read =
+          let size : length (new ++ o ∷ []) ≡ length old + 1 = length-append new (o ∷ []) ∙ ap (λ (k : ℕ). k + 1) long in
+          ⊎_elim
+          (λ (before : m < length old).
+          subst (Holds lists doc nodes m) (sym (get_or-append new (o ∷ []) None m (omega (arith, before, long)) ∙ same m (subst (λ (k : ℕ). k < read_until untils m) size read)))
+          (has.each m before (omega (arith, size, read))))
+          (λ (last : length old ≤ m).
+          let is : m ≡ length old = omega (arith, last, below, size) in
+          let at : slice_index_or (new ++ o ∷ []) (length old) None ≡ o = subst (λ (k : ℕ). slice_index_or (new ++ o ∷ []) k None ≡ o) long (get_or-append_seam new o [] None) in
+          subst (λ (k : ℕ). Holds lists doc nodes k (slice_index_or (new ++ o ∷ []) k None)) (sym is)
+          (subst (Holds lists doc nodes (length old)) (sym at) (now (subst (λ (k : ℕ). 0 < read_until untils k) is (omega (arith, size, read))))))
+          (cases_lt m (length old))
+
+  module _ (n : ℕ) (node : Node) (at : IsAt nodes n node) (left right : RowList) (l : IsInput lists doc nodes (left_input node) left) (r : IsInput lists doc nodes (right_input node) right) where
     -- the node may read them
     pub may_read : MayRead node left right
     may_read = record {
@@ -80,12 +111,13 @@ outputs-there nodes outs valid =
     All-weaker (IsOutput (shapes_of nodes)) (λ (out : PlanOut). out.node < length nodes) (λ out is. omega (arith, is.there, length-each no_shape shape_by nodes)) outs valid.each
 
 -- and their rows are on the board
-pub all-shown : (lists lists' : Lists) (doc : Doc) (nodes nodes' : List Node) (needed needed' : List Bool) (board : List (Option RowList)) (outs outs' : List PlanOut)
-    → lists' ≡ lists → nodes' ≡ nodes → outs' ≡ outs → needed' ≡ needed → length board ≡ length nodes → All (λ (out : PlanOut). out.node < length nodes) outs
-    → IsBoard lists' doc nodes' needed' board → All (λ (out : PlanOut). IsTrue (is_needed needed out.node)) outs' → All (λ (out : PlanOut). Holds lists doc nodes out.node (slice_index_or board out.node None)) outs
-all-shown lists lists' doc nodes nodes' needed needed' board outs outs' same_lists same_nodes same_outs same_needed long there has shown = λ k d below.
-    let all : IsBoard lists doc nodes needed board =
-    subst (λ (l : Lists). IsBoard l doc nodes needed board) same_lists (subst (λ (ns : List Node). IsBoard lists' doc ns needed board) same_nodes (subst (λ (marks : List Bool). IsBoard lists' doc nodes' marks board) same_needed has)) in
-    let marked : All (λ (out : PlanOut). IsTrue (is_needed needed out.node)) outs = subst (All (λ (out : PlanOut). IsTrue (is_needed needed out.node))) same_outs shown in
+pub all-shown : (lists lists' : Lists) (doc : Doc) (nodes nodes' : List Node) (untils untils' : List ℕ) (board : List (Option RowList)) (outs outs' : List PlanOut)
+    → lists' ≡ lists → nodes' ≡ nodes → outs' ≡ outs → untils' ≡ untils → length board ≡ length nodes → length nodes < 2 ^ 32 → All (λ (out : PlanOut). out.node < length nodes) outs
+    → IsBoard lists' doc nodes' untils' board → All (λ (out : PlanOut). 2 ^ 32 ≤ read_until untils out.node) outs' → All (λ (out : PlanOut). Holds lists doc nodes out.node (slice_index_or board out.node None)) outs
+all-shown lists lists' doc nodes nodes' untils untils' board outs outs' same_lists same_nodes same_outs same_untils long few there has shown = λ k d below.
+    let all : IsBoard lists doc nodes untils board =
+    subst (λ (l : Lists). IsBoard l doc nodes untils board) same_lists (subst (λ (ns : List Node). IsBoard lists' doc ns untils board) same_nodes (subst (λ (us : List ℕ). IsBoard lists' doc nodes' us board) same_untils has)) in
+    let kept : All (λ (out : PlanOut). 2 ^ 32 ≤ read_until untils out.node) outs = subst (All (λ (out : PlanOut). 2 ^ 32 ≤ read_until untils out.node)) same_outs shown in
     let inside = there k d below in
-    all.each (slice_index_or outs k d).node (omega (arith, inside, long)) (marked k d below)
+    let late = kept k d below in
+    all.each (slice_index_or outs k d).node (omega (arith, inside, long)) (omega (arith, late, few, long))

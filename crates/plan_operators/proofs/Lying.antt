@@ -1,5 +1,5 @@
 -- Where rows lie.
-use Rattle.std.proofs.Common.{◌≡◌, ◌-◌, ℕ, List, Option, Some, None, map, length, subst, sym}
+use Rattle.std.proofs.Common.{◌-◌, ℕ, List, Option, Some, None, length}
 use Rattle.std.specs.List.{All, filter}
 use Rattle.std.proofs.lemmas.List.Elements.{All-map, All-append, All-take, All-drop, All-filter, All-weaker}
 use Rattle.std.proofs.Common.{take, drop}

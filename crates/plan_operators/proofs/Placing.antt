@@ -1,5 +1,5 @@
 -- Rows with the place of a dictionary.
-use Rattle.std.proofs.Common.{◌≡◌, ◌∙◌, ◌<◌, ◌+◌, ◌-◌, ◌++◌, ◌∷◌, [], ℕ, zero, suc, pos, List, Option, Some, None, map, length, get_or, take, drop, slice_get, refl, sym, ap, ap₂, subst, append_assoc, arith, flat_map}
+use Rattle.std.proofs.Common.{◌≡◌, ◌∙◌, ◌<◌, ◌+◌, ◌-◌, ◌++◌, ◌∷◌, [], ℕ, zero, suc, pos, List, Option, Some, None, map, length, get_or, take, drop, slice_get, refl, sym, ap, ap₂, append_assoc, arith, flat_map}
 use Rattle.std.specs.List.{All, filter, range_with_len}
 use Rattle.std.proofs.lemmas.List.{append-nil, map-append, take_more, take_all, take-map, drop-map, length-map, length-drop}
 use Rattle.std.proofs.lemmas.List.Elements.{All-map, All-append, All-cons, All-nil, All-weaker, All-filter, filter-append}

@@ -1,13 +1,14 @@
 -- What the nodes of a plan have, so far as they are evaluated.
-use Rattle.std.specs.Prelude.{ℕ, ◌≡◌, ◌<◌, ◌≤◌, Bool, false, IsTrue, List, [], Option, Some, None, length, slice_index_or, IsSome}
+use Rattle.std.specs.Prelude.{ℕ, ◌≡◌, ◌<◌, ◌≤◌, List, [], Option, Some, None, length, slice_index_or, IsSome}
 use Rattle.aql_base.specs.Bags.{SameBag}
 use Rattle.span_token.specs.Documents.{Doc}
 use Rattle.row_values.specs.Rows.{RowList, RowsLieIn}
 use Rattle.scalar_ops.specs.Tables.{Lists}
 use Rattle.algebra.specs.declared.node.Node.{Node}
-use Rattle.algebra.specs.Inputs.{left_input, right_input}
+use Rattle.algebra.specs.Folds.{of_input}
+use Rattle.algebra.specs.Inputs.{left_input, right_input, IsAmong}
 use Rattle.algebra.specs.Shapes.{no_shape, shapes_of}
-use Rattle.algebra.specs.Values.{val}
+use Rattle.algebra.specs.Values.{all_values, val}
 
 -- the list has the rows of node n, in any order
 pub record IsOf (lists : Lists) (doc : Doc) (nodes : List Node) (n : ℕ) (list : RowList) : Type 0 where
@@ -20,23 +21,23 @@ abbrev pub Holds : Lists → Doc → List Node → ℕ → Option RowList → Ty
 Holds lists doc nodes n None = ⊥
 Holds lists doc nodes n (Some list) = IsOf lists doc nodes n list
 
--- whether a node is needed
-abbrev pub is_needed : List Bool → ℕ → Bool
-is_needed needed n = slice_index_or needed n false
+-- the number from which on nobody reads a node, 0 where nobody does
+abbrev pub read_until : List ℕ → ℕ → ℕ
+read_until untils n = slice_index_or untils n 0
 
--- so is an input, where there is one
-abbrev pub IsInputNeeded : List Bool → Option ℕ → Type 0
-IsInputNeeded needed None = Unit {0}
-IsInputNeeded needed (Some i) = IsTrue (is_needed needed i)
+-- an input, where there is one, is kept for node n
+abbrev pub IsKeptFor : ℕ → List ℕ → Option ℕ → Type 0
+IsKeptFor n untils None = Unit {0}
+IsKeptFor n untils (Some i) = n < read_until untils i
 
--- what a needed node from number `first` on reads is needed
-abbrev pub IsClosedFrom : ℕ → List Node → List Bool → Type 0
-IsClosedFrom first nodes needed = (n : ℕ) (node : Node) → first ≤ n → n < length nodes → node ≡ slice_index_or nodes n node → IsTrue (is_needed needed n)
-    → IsInputNeeded needed (left_input node) × IsInputNeeded needed (right_input node)
+-- each node from number `first` on that somebody reads has its inputs kept for it
+abbrev pub IsClosedFrom : ℕ → List Node → List ℕ → Type 0
+IsClosedFrom first nodes untils = (n : ℕ) (node : Node) → first ≤ n → n < length nodes → node ≡ slice_index_or nodes n node → 0 < read_until untils n
+    → IsKeptFor n untils (left_input node) × IsKeptFor n untils (right_input node)
 
--- the board has the rows of each node with a lower number that is needed
-pub record IsBoard (lists : Lists) (doc : Doc) (nodes : List Node) (needed : List Bool) (board : List (Option RowList)) : Type 0 where
-  pub each : (n : ℕ) → n < length board → IsTrue (is_needed needed n) → Holds lists doc nodes n (slice_index_or board n None)
+-- the board has the rows of each node with a lower number that somebody still reads
+pub record IsBoard (lists : Lists) (doc : Doc) (nodes : List Node) (untils : List ℕ) (board : List (Option RowList)) : Type 0 where
+  pub each : (n : ℕ) → n < length board → length board < read_until untils n → Holds lists doc nodes n (slice_index_or board n None)
 
 -- an input, where there is one, has rows on a board
 abbrev pub IsThere : List (Option RowList) → Option ℕ → Type 0
@@ -54,3 +55,20 @@ rows_there (Some list) = list
 abbrev pub input_on : List (Option RowList) → Option ℕ → RowList
 input_on board None = no_rows
 input_on board (Some i) = rows_there (slice_index_or board i None)
+
+-- the list is what an input has
+pub record IsInput (lists : Lists) (doc : Doc) (nodes : List Node) (input : Option ℕ) (list : RowList) : Type 0 where
+  pub same : SameBag list.rows (of_input [] (all_values lists doc nodes) input)
+  pub wide : list.width ≡ (of_input no_shape (shapes_of nodes) input).width
+  pub lies : RowsLieIn doc list.rows
+
+-- an input, where there is one, stands before and has its rows on the board
+pub record IsOnBoard (lists : Lists) (doc : Doc) (nodes : List Node) (board : List (Option RowList)) (input : Option ℕ) : Type 0 where
+  pub among : IsAmong (length board) input
+  pub present : IsThere board input
+  pub has : IsInput lists doc nodes input (input_on board input)
+
+-- rows that were taken off a board: those of the left input, which the right one isn't
+pub record IsTaken (left right : Option ℕ) (rows : RowList) (board : List (Option RowList)) : Type 0 where
+  pub rows_are : rows ≡ input_on board left
+  pub other : right ≡ left → ⊥

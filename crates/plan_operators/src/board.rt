@@ -1,9 +1,10 @@
-ghost use Rattle.std.specs.Prelude.{◌≡◌, ◌<◌, IsTrue, IfOk, IsSome, All, Some, None, length, slice_index_or, vec_len};
-ghost use Rattle.algebra.specs.Inputs.{IsAmong};
+ghost use Rattle.std.specs.Prelude.{◌≡◌, ◌↔◌, ℕ, ◌+◌, ◌<◌, ◌≤◌, ◌^◌, IfOk, IfSome, IfNone, IsTrue, IsSome, All, Some, None, length, slice_index_or, vec_len};
+ghost use Rattle.algebra.specs.declared.node.Node as declared_node;
+ghost use Rattle.algebra.specs.Inputs.{left_input, right_input, IsAmong};
 ghost use Rattle.plan_operators.specs.Given.{input_rows};
-ghost use Rattle.plan_operators.specs.Boards.{Holds, IsBoard, IsClosedFrom, IsThere, is_needed, input_on};
+ghost use Rattle.plan_operators.specs.Boards.{IsOf, Holds, IsBoard, IsClosedFrom, IsInput, IsOnBoard, IsTaken, IsThere, read_until, input_on};
 
-use crate::needed::needed_nodes;
+use crate::readers::read_untils;
 use crate::{Input, apply};
 use algebra::{Nodes, Plan, PlanOut};
 use row_values::Rows;
@@ -14,7 +15,9 @@ use std::alloc::Global;
 /// The rows of the nodes that the outputs of a plan need, on a document, by the nodes' numbers.
 ///
 /// Each node that an output shows, and each that a needed node reads, is evaluated once, in the order of
-/// their numbers; others have no rows here. `tools` are made of the plan's tables.
+/// their numbers. Rows are given up to the last node that reads them as its left input, so that what only
+/// passes through isn't copied; what is given up and what nobody needs has no rows here. `tools` are made of
+/// the plan's tables.
 ///
 /// Meaning: `val`, `specs/Values.antt` of `algebra`.
 pub fn evaluate<'d>(
@@ -29,8 +32,8 @@ pub fn evaluate<'d>(
     ensures same { tools.new ≡ tools.old }
 {
     let nodes = plan.nodes();
-    let needed = needed_nodes(alloc, nodes, plan.outputs())?;
-    let board = board_of(alloc, tools, doc, nodes, needed.as_slice())?;
+    let untils = read_untils(alloc, nodes, plan.outputs())?;
+    let board = board_of(alloc, tools, doc, nodes, untils.as_slice())?;
     Ok(board)
 }
 
@@ -46,55 +49,151 @@ pub fn rows_shown<'r, 'd>(board: &'r [Option<Rows<'d>>], out: &PlanOut) -> &'r R
     }
 }
 
-/// The rows of each node that is needed, in the order of the numbers.
+/// The rows of each node that somebody reads, in the order of the numbers.
 fn board_of<'d>(
     alloc: Global,
     tools: &mut Tools<'_>,
     doc: &Document<'d>,
     nodes: &'d Nodes,
-    needed: &[bool],
+    untils: &[u64],
 ) -> Result<Vec<Option<Rows<'d>>>, OutOfMemory>
-    requires long { length needed.now ≡ length nodes.now }
-    requires closed { IsClosedFrom 0 nodes.now needed.now }
+    requires long { length untils.now ≡ length nodes.now }
+    requires closed { IsClosedFrom 0 nodes.now untils.now }
     ensures long { IfOk result (λ board. vec_len board ≡ length nodes.now) }
-    ensures board { IfOk result (λ board. IsBoard tools.old doc.now nodes.now needed.now board.items) }
+    ensures board { IfOk result (λ board. IsBoard tools.old doc.now nodes.now untils.now board.items) }
+    ensures few { IfOk result (λ _. length nodes.now < 2 ^ 32) }
     ensures same { tools.new ≡ tools.old }
 {
     let mut board = Vec::new(alloc);
     for n in 0..nodes.len() {
-        let rows = rows_if_needed(alloc, tools, doc, nodes, n, needed, board.as_slice())?;
+        let rows = rows_if_read(alloc, tools, doc, nodes, n, untils, &mut board)?;
         board.push(rows)?;
     }
     Ok(board)
 }
 
-/// The rows of a node, where it is needed; the board has those of the nodes before it.
-fn rows_if_needed<'d>(
+/// The rows of a node, where somebody reads it; the board has those of the nodes before it, and gives up
+/// those of its left input where nobody reads them later.
+fn rows_if_read<'d>(
     alloc: Global,
     tools: &mut Tools<'_>,
     doc: &Document<'d>,
     nodes: &'d Nodes,
     n: u32,
-    needed: &[bool],
-    board: &[Option<Rows<'d>>],
+    untils: &[u64],
+    board: &mut Vec<Option<Rows<'d>>>,
 ) -> Result<Option<Rows<'d>>, OutOfMemory>
     requires there { n < length nodes.now }
-    requires long { length needed.now ≡ length nodes.now }
-    requires before { length board.now ≡ n }
-    requires closed { IsClosedFrom 0 nodes.now needed.now }
-    requires board { IsBoard tools.old doc.now nodes.now needed.now board.now }
-    ensures rows { IsTrue (is_needed needed.now n) → IfOk result (Holds tools.old doc.now nodes.now n) }
+    requires long { length untils.now ≡ length nodes.now }
+    requires before { vec_len board.old ≡ n }
+    requires closed { IsClosedFrom 0 nodes.now untils.now }
+    requires board { IsBoard tools.old doc.now nodes.now untils.now board.old.items }
+    ensures rows { 0 < read_until untils.now n → IfOk result (Holds tools.old doc.now nodes.now n) }
+    ensures long { vec_len board.new ≡ vec_len board.old }
+    ensures kept { (m : ℕ) → n + 1 < read_until untils.now m → slice_index_or board.new.items m None ≡ slice_index_or board.old.items m None }
     ensures same { tools.new ≡ tools.old }
 {
-    if !needed[n as usize] {
+    if untils[n as usize] == 0 {
         return Ok(None);
     }
+    let (left, right) = nodes.get(n).inputs();
+    match given_up(board, left, right, n, untils) {
+        Some(rows) => {
+            let rows = rows_of_given(alloc, tools, doc, nodes, n, rows, board.as_slice())?;
+            Ok(Some(rows))
+        }
+        None => {
+            let rows = rows_of_lent(alloc, tools, doc, nodes, n, board.as_slice())?;
+            Ok(Some(rows))
+        }
+    }
+}
+
+/// Takes the rows of the left input of node `n` off the board, where no later node reads them and the
+/// right input is another one.
+fn given_up<'d>(
+    board: &mut Vec<Option<Rows<'d>>>,
+    left: Option<u32>,
+    right: Option<u32>,
+    n: u32,
+    untils: &[u64],
+) -> Option<Rows<'d>>
+    requires among { IsAmong (vec_len board.old) left }
+    requires long { vec_len board.old ≤ length untils.now }
+    ensures given { IfSome result (λ rows. IsTaken left right rows board.old.items) }
+    ensures none { IfNone result ((m : ℕ) → slice_index_or board.new.items m None ≡ slice_index_or board.old.items m None) }
+    ensures long { vec_len board.new ≡ vec_len board.old }
+    ensures others { (m : ℕ) → (left ≡ Some m → ⊥) → slice_index_or board.new.items m None ≡ slice_index_or board.old.items m None }
+    ensures kept { (m : ℕ) → n + 1 < read_until untils.now m → slice_index_or board.new.items m None ≡ slice_index_or board.old.items m None }
+{
+    match left {
+        Some(i) => {
+            if untils[i as usize] == u64::from(n) + 1 && !is_node(right, i) {
+                board[i as usize].take()
+            } else {
+                None
+            }
+        }
+        None => None,
+    }
+}
+
+/// Whether an input is node `i`.
+fn is_node(input: Option<u32>, i: u32) -> bool
+    ensures { IsTrue result ↔ (input ≡ Some i) }
+{
+    match input {
+        Some(j) => j == i,
+        None => false,
+    }
+}
+
+/// The rows of a node whose left input is given up; its right one has its rows on the board.
+fn rows_of_given<'d>(
+    alloc: Global,
+    tools: &mut Tools<'_>,
+    doc: &Document<'d>,
+    nodes: &'d Nodes,
+    n: u32,
+    left: Rows<'d>,
+    board: &[Option<Rows<'d>>],
+) -> Result<Rows<'d>, OutOfMemory>
+    requires there { n < length nodes.now }
+    requires before { length board.now ≡ n }
+    requires left { (node : declared_node.Node) → node ≡ slice_index_or nodes.now n node → IsInput tools.old doc.now nodes.now (left_input node) left }
+    requires right { (node : declared_node.Node) → node ≡ slice_index_or nodes.now n node → IsOnBoard tools.old doc.now nodes.now board.now (right_input node) }
+    ensures rows { IfOk result (IsOf tools.old doc.now nodes.now n) }
+    ensures same { tools.new ≡ tools.old }
+{
+    let node = nodes.get(n);
+    let (_left, right) = node.inputs();
+    let right_rows = lent(alloc, board, right);
+    let rows = apply(alloc, tools, doc, node, Input::Given(left), right_rows)?;
+    Ok(rows)
+}
+
+/// The rows of a node whose inputs have their rows on the board.
+fn rows_of_lent<'d>(
+    alloc: Global,
+    tools: &mut Tools<'_>,
+    doc: &Document<'d>,
+    nodes: &'d Nodes,
+    n: u32,
+    board: &[Option<Rows<'d>>],
+) -> Result<Rows<'d>, OutOfMemory>
+    requires there { n < length nodes.now }
+    requires before { length board.now ≡ n }
+    requires left { (node : declared_node.Node) → node ≡ slice_index_or nodes.now n node → IsOnBoard tools.old doc.now nodes.now board.now (left_input node) }
+    requires right { (node : declared_node.Node) → node ≡ slice_index_or nodes.now n node → IsOnBoard tools.old doc.now nodes.now board.now (right_input node) }
+    ensures rows { IfOk result (IsOf tools.old doc.now nodes.now n) }
+    ensures same { tools.new ≡ tools.old }
+{
     let node = nodes.get(n);
     let (left, right) = node.inputs();
     let left_rows = lent(alloc, board, left);
     let right_rows = lent(alloc, board, right);
     let rows = apply(alloc, tools, doc, node, left_rows, right_rows)?;
-    Ok(Some(rows))
+    Ok(rows)
 }
 
 /// The rows of an input, which are lent; none, of no column, where there is no input.

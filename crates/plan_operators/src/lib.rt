@@ -11,8 +11,8 @@ mod extract;
 mod input;
 mod join;
 mod keep;
-mod needed;
 mod operator;
+mod readers;
 mod select;
 mod sides;
 

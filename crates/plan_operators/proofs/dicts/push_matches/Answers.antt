@@ -1,9 +1,8 @@
-use Rattle.std.proofs.Common.{rules, ◌≡◌, ◌∙◌, ◌++◌, ◌∷◌, [], ℕ, List, Some, None, Option, map, ap, sym, subst, option_map}
+use Rattle.std.proofs.Common.{rules, ◌≡◌, ◌∙◌, ◌++◌, ℕ, List, Some, None, map, ap, sym, subst, option_map}
 use Rattle.std.specs.List.{All}
 use Rattle.std.proofs.lemmas.List.{append-nil}
 use Rattle.std.proofs.lemmas.List.Elements.{All-append}
 use Rattle.span_token.specs.Extents.{Extent, extent_of}
-use Rattle.span_token.specs.declared.span.Span.{Span}
 use Rattle.dict_match.specs.declared.walk.DictMatch.{DictMatch}
 use Rattle.dict_match.specs.Rows.{dict_and_extent}
 use Rattle.row_values.specs.Datums.{Datum, IsOfDocument}

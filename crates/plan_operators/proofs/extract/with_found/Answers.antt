@@ -1,5 +1,4 @@
-use Rattle.std.proofs.Common.{rules, ◌≡◌, ◌∙◌, ◌++◌, List, ap}
-use Rattle.row_values.specs.Datums.{Datum}
+use Rattle.std.proofs.Common.{◌∙◌, ◌++◌, ap}
 use Rattle.row_values.specs.Rows.{RowList}
 use Rattle.scalar_ops.specs.Tables.{Lists}
 use Rattle.algebra.specs.Operators.{followed}

@@ -1,4 +1,3 @@
-use Rattle.std.proofs.Common.{List}
 use Rattle.aql_base.specs.BagLaws.{SameBag-sym}
 use Rattle.row_values.specs.RowBags.{RowsLieIn-SameBag}
 use Rattle.span_joins.specs.JoinLaws.{RowsLieIn-joined_where}

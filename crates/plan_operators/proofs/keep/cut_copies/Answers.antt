@@ -1,6 +1,5 @@
-use Rattle.std.proofs.Common.{◌≡◌, ◌∙◌, Some, Option, ℕ, List, ap, sym, subst}
-use Rattle.row_values.specs.Datums.{Datum}
-use Rattle.row_values.specs.Rows.{RowList, RowsLieIn, sorted}
+use Rattle.std.proofs.Common.{◌∙◌, Some, Option, ℕ, ap, sym, subst}
+use Rattle.row_values.specs.Rows.{RowList, RowsLieIn}
 use Rattle.row_values.specs.SortedRows.{sorted-SameBag}
 use Rattle.group_agg.specs.Limits.{limited}
 use Rattle.aql_typed.specs.Meaning.{cut}

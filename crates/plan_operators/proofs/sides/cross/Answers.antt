@@ -1,4 +1,4 @@
-use Rattle.std.proofs.Common.{◌≡◌, ◌∙◌, ◌+◌, List, ap, sym, subst}
+use Rattle.std.proofs.Common.{◌∙◌, ◌+◌, List, ap, sym, subst}
 use Rattle.std.proofs.lemmas.List.{take_all}
 use Rattle.row_values.specs.Datums.{Datum}
 use Rattle.row_values.specs.Rows.{RowList, RowsLieIn, product}

@@ -1,7 +1,7 @@
-use Rattle.std.proofs.Common.{◌≡◌, List, sym, subst}
+use Rattle.std.proofs.Common.{◌≡◌, sym, subst}
 use Rattle.std.specs.List.{All}
 use Rattle.std.proofs.lemmas.Result.{IfOk-weaker}
-use Rattle.row_values.specs.Datums.{Datum, IsOfDocument}
+use Rattle.row_values.specs.Datums.{IsOfDocument}
 use Rattle.row_values.specs.Rows.{RowList, RowsLieIn, minus}
 use Rattle.row_values.specs.RowBags.{All-minus}
 use Rattle.plan_operators.specs.declared.input.Input.{Input}
