@@ -1,5 +1,5 @@
 -- The rows of nodes, made of those of their inputs.
-use Rattle.std.proofs.Common.{◌≡◌, ◌∙◌, ◌<◌, ◌≤◌, ◌+◌, ◌^◌, ◌++◌, ◌∷◌, ℕ, List, [], Option, Some, None, length, refl, sym, ap, subst, arith, ⊎_elim}
+use Rattle.std.proofs.Common.{◌≡◌, ◌∙◌, ◌<◌, ◌≤◌, ◌+◌, ◌^◌, ◌++◌, ◌∷◌, ℕ, List, [], Option, Some, None, length, refl, sym, ap, ap₂, subst, arith, ⊎_elim, Bool}
 use Rattle.std.specs.Prelude.{slice_index_or, IsSome}
 use Rattle.std.proofs.lemmas.Bool.{cases_lt}
 use Rattle.std.proofs.lemmas.List.{length-append}
@@ -7,13 +7,17 @@ use Rattle.std.proofs.Math.ListN.{get_or-append}
 use Rattle.std.proofs.Math.Seq.{get_or-append_seam}
 use Rattle.std.proofs.lemmas.List.Elements.{All-nil, All-weaker}
 use Rattle.aql_base.specs.Bags.{SameBag}
-use Rattle.aql_base.specs.BagLaws.{SameBag-refl, SameBag-sym, SameBag-trans}
+use Rattle.aql_base.specs.BagLaws.{SameBag-is, SameBag-refl, SameBag-sym, SameBag-trans}
 use Rattle.span_token.specs.Documents.{Doc}
 use Rattle.row_values.specs.Datums.{IsOfDocument}
-use Rattle.row_values.specs.Rows.{RowList, RowsLieIn}
+use Rattle.row_values.specs.Rows.{RowList, RowsLieIn, product}
+use Rattle.row_values.specs.RowBags.{RowsLieIn-product}
+use Rattle.scalar_ops.specs.Expressions.{Term}
+use Rattle.aql_typed.specs.Meaning.{selected}
 use Rattle.scalar_ops.specs.Tables.{Lists}
 use Rattle.std.specs.List.{All}
 use Rattle.algebra.specs.declared.node.Node.{Node}
+use Rattle.algebra.specs.declared.node.Node.TheVariants.{Cross, Select}
 use Rattle.algebra.specs.declared.shape.Shape.{Shape}
 use Rattle.algebra.specs.declared.output.PlanOut.{PlanOut}
 use Rattle.algebra.specs.FoldLaws.{length-each}
@@ -25,7 +29,7 @@ use Rattle.algebra.specs.OperatorLaws.{op-SameBag}
 use Rattle.algebra.specs.Operators.{op}
 use Rattle.algebra.specs.Shapes.{no_shape, shapes_of, shape_by}
 use Rattle.algebra.specs.Values.{all_values, val}
-use Rattle.plan_operators.specs.Boards.{IsOf, Holds, IsInput, IsOnBoard, read_until, IsKeptFor, IsBoard, rows_there}
+use Rattle.plan_operators.specs.Boards.{IsOf, Holds, IsInput, IsOnBoard, read_until, IsKeptFor, IsBoard, no_rows, rows_there}
 use Rattle.plan_operators.specs.Given.{MayRead}
 
 module _ (lists : Lists) (doc : Doc) (nodes : List Node) where
@@ -104,6 +108,29 @@ module _ (lists : Lists) (doc : Doc) (nodes : List Node) where
           wide = wide ∙ sym (ap (λ (s : Shape). s.width) at.stands.has.shaped);
           lies = lies;
         }
+
+  -- a selection on a product has those of the pairs of the product's sides on which its conditions hold
+  pub narrowed_is : (n : ℕ) (p s : Node) (l r i : ℕ) (c : Bool) (conds : List Term) → p ≡ Cross l r c → s ≡ Select i conds → left_input s ≡ Some n → IsAt nodes n p → IsAt nodes (n + 1) s
+      → (left right : RowList) → IsInput lists doc nodes (left_input p) left → IsInput lists doc nodes (right_input p) right
+      → (out : RowList) → out.rows ≡ selected lists doc conds (product left.rows right.rows) → out.width ≡ left.width + right.width → RowsLieIn doc out.rows → IsOf lists doc nodes (n + 1) out
+  narrowed_is n p s l r i c conds p_is s_is from_it at_p at_s left right lin rin out rows width lies =
+      let pairs : RowList = record { width = left.width + right.width; rows = product left.rows right.rows } in
+      let a = of_input no_shape (shapes_of nodes) (left_input p) in
+      let b = of_input no_shape (shapes_of nodes) (right_input p) in
+      let is : IsOf lists doc nodes n pairs =
+      node_is n p at_p left right lin rin pairs
+      (subst (λ (x : Node). SameBag (product left.rows right.rows) (op lists doc x left.rows right.rows)) (sym p_is) (SameBag-refl (product left.rows right.rows)))
+      (subst (λ (x : Node). left.width + right.width ≡ (shape_by x a b).width) (sym p_is) (ap₂ (λ (v w : ℕ). v + w) lin.wide rin.wide))
+      (RowsLieIn-product doc left.rows right.rows lin.lies rin.lies) in
+      let in_pairs : IsInput lists doc nodes (Some n) pairs = record { same = is.same; wide = is.wide; lies = is.lies } in
+      let none : IsInput lists doc nodes (right_input s) no_rows =
+      subst (λ (x : Node). IsInput lists doc nodes (right_input x) no_rows) (sym s_is) (record { same = SameBag-refl []; wide = refl; lies = All-nil (All (IsOfDocument doc)) }) in
+      let w = of_input no_shape (shapes_of nodes) (left_input s) in
+      let wide_pairs : pairs.width ≡ w.width = subst (λ (o : Option ℕ). pairs.width ≡ (of_input no_shape (shapes_of nodes) o).width) (sym from_it) in_pairs.wide in
+      node_is (n + 1) s at_s pairs no_rows (subst (λ (o : Option ℕ). IsInput lists doc nodes o pairs) (sym from_it) in_pairs) none out
+      (subst (λ (x : Node). SameBag out.rows (op lists doc x pairs.rows [])) (sym s_is) (SameBag-is out.rows (selected lists doc conds (product left.rows right.rows)) rows))
+      (subst (λ (x : Node). out.width ≡ (shape_by x w (of_input no_shape (shapes_of nodes) (right_input s))).width) (sym s_is) (width ∙ wide_pairs))
+      lies
 
 -- the nodes of outputs are there
 pub outputs-there : (nodes : List Node) (outs : List PlanOut) → AreOutputs nodes outs → All (λ (out : PlanOut). out.node < length nodes) outs

@@ -8,3 +8,5 @@ pub mod Lying
 pub mod Boards
 -- nodes that are needed
 pub mod Needing
+-- pairs of rows
+pub mod Pairing

@@ -1,10 +1,11 @@
 -- What the nodes of a plan have, so far as they are evaluated.
-use Rattle.std.specs.Prelude.{ℕ, ◌≡◌, ◌<◌, ◌≤◌, List, [], Option, Some, None, length, slice_index_or, IsSome}
+use Rattle.std.specs.Prelude.{ℕ, ◌≡◌, ◌+◌, ◌<◌, ◌≤◌, Bool, true, false, IsTrue, List, [], Option, Some, None, length, slice_index_or, IsSome}
 use Rattle.aql_base.specs.Bags.{SameBag}
 use Rattle.span_token.specs.Documents.{Doc}
 use Rattle.row_values.specs.Rows.{RowList, RowsLieIn}
 use Rattle.scalar_ops.specs.Tables.{Lists}
 use Rattle.algebra.specs.declared.node.Node.{Node}
+use Rattle.algebra.specs.declared.node.Node.TheVariants.{Cross, Select}
 use Rattle.algebra.specs.Folds.{of_input}
 use Rattle.algebra.specs.Inputs.{left_input, right_input, IsAmong}
 use Rattle.algebra.specs.Shapes.{no_shape, shapes_of}
@@ -72,3 +73,21 @@ pub record IsOnBoard (lists : Lists) (doc : Doc) (nodes : List Node) (board : Li
 pub record IsTaken (left right : Option ℕ) (rows : RowList) (board : List (Option RowList)) : Type 0 where
   pub rows_are : rows ≡ input_on board left
   pub other : right ≡ left → ⊥
+
+-- a product; a selection
+abbrev pub is_product : Node → Bool
+is_product (Cross left right conditional) = true
+is_product node = false
+
+abbrev pub is_selection : Node → Bool
+is_selection (Select input conds) = true
+is_selection node = false
+
+-- node n is a product that somebody reads, nobody behind the next node, which is a selection from it
+pub record IsNarrowed (nodes : List Node) (n : ℕ) (untils : List ℕ) : Type 0 where
+  pub there : n + 1 < length nodes
+  pub read : 0 < read_until untils n
+  pub until : read_until untils n ≤ n + 2
+  pub product : (node : Node) → node ≡ slice_index_or nodes n node → IsTrue (is_product node)
+  pub selection : (node : Node) → node ≡ slice_index_or nodes (n + 1) node → IsTrue (is_selection node)
+  pub from_it : (node : Node) → node ≡ slice_index_or nodes (n + 1) node → left_input node ≡ Some n

@@ -1,12 +1,13 @@
-ghost use Rattle.std.specs.Prelude.{◌≡◌, ◌↔◌, ℕ, ◌+◌, ◌<◌, ◌≤◌, ◌^◌, IfOk, IfSome, IfNone, IsTrue, IsSome, All, Some, None, length, slice_index_or, vec_len};
+ghost use Rattle.std.specs.Prelude.{◌≡◌, ◌↔◌, ℕ, ◌+◌, ◌<◌, ◌≤◌, ◌^◌, IfOk, IfSome, IfNone, OnOk, IsTrue, IsSome, All, Some, None, length, slice_index_or, vec_len};
 ghost use Rattle.algebra.specs.declared.node.Node as declared_node;
 ghost use Rattle.algebra.specs.Inputs.{left_input, right_input, IsAmong};
 ghost use Rattle.plan_operators.specs.Given.{input_rows};
-ghost use Rattle.plan_operators.specs.Boards.{IsOf, Holds, IsBoard, IsClosedFrom, IsInput, IsOnBoard, IsTaken, IsThere, read_until, input_on};
+ghost use Rattle.plan_operators.specs.Boards.{IsOf, Holds, IsBoard, IsClosedFrom, IsInput, IsNarrowed, IsOnBoard, IsTaken, IsThere, is_product, is_selection, read_until, input_on};
 
 use crate::readers::read_untils;
+use crate::select::selected_pairs;
 use crate::{Input, apply};
-use algebra::{Nodes, Plan, PlanOut};
+use algebra::{Node, Nodes, Plan, PlanOut};
 use row_values::Rows;
 use scalar_ops::Tools;
 use span_token::{Document, OutOfMemory};
@@ -65,11 +66,103 @@ fn board_of<'d>(
     ensures same { tools.new ≡ tools.old }
 {
     let mut board = Vec::new(alloc);
-    for n in 0..nodes.len() {
-        let rows = rows_if_read(alloc, tools, doc, nodes, n, untils, &mut board)?;
-        board.push(rows)?;
+    'nodes: while board.len() < nodes.len() as usize {
+        push_next(alloc, tools, doc, nodes, untils, &mut board)?;
     }
     Ok(board)
+}
+
+/// Puts the rows of the next node on the board, and those of the node behind it, where the next one is a
+/// product that the other alone reads, a selection: no list of all pairs is kept then.
+fn push_next<'d>(
+    alloc: Global,
+    tools: &mut Tools<'_>,
+    doc: &Document<'d>,
+    nodes: &'d Nodes,
+    untils: &[u64],
+    board: &mut Vec<Option<Rows<'d>>>,
+) -> Result<(), OutOfMemory>
+    requires there { vec_len board.old < length nodes.now }
+    requires long { length untils.now ≡ length nodes.now }
+    requires closed { IsClosedFrom 0 nodes.now untils.now }
+    requires board { IsBoard tools.old doc.now nodes.now untils.now board.old.items }
+    ensures board { OnOk result (IsBoard tools.old doc.now nodes.now untils.now board.new.items) }
+    ensures longer { OnOk result (vec_len board.old < vec_len board.new) }
+    ensures within { OnOk result (vec_len board.new ≤ length nodes.now) }
+    ensures same { tools.new ≡ tools.old }
+{
+    let _number = nodes.len();
+    let n = board.len() as u32;
+    if is_narrowed(nodes, n, untils) {
+        let _product = nodes.get(n);
+        let rows = rows_of_narrowed(alloc, tools, doc, nodes, n, board.as_slice())?;
+        board.push(None)?;
+        board.push(Some(rows))?;
+    } else {
+        let rows = rows_if_read(alloc, tools, doc, nodes, n, untils, board)?;
+        board.push(rows)?;
+    }
+    Ok(())
+}
+
+/// Whether node `n` is a product that somebody reads, the node behind it alone, and that one is a selection.
+fn is_narrowed(nodes: &Nodes, n: u32, untils: &[u64]) -> bool
+    requires there { n < length nodes.now }
+    requires long { length untils.now ≡ length nodes.now }
+    ensures { IsTrue result → IsNarrowed nodes.now n untils.now }
+{
+    let until = untils[n as usize];
+    if until == 0 || until > u64::from(n) + 2 || u64::from(n) + 1 >= u64::from(nodes.len()) {
+        return false;
+    }
+    match (nodes.get(n), nodes.get(n + 1)) {
+        (Node::Cross { .. }, Node::Select { input, .. }) => *input == n,
+        _ => false,
+    }
+}
+
+/// The rows of a selection on a product, of the product's sides.
+fn rows_of_narrowed<'d>(
+    alloc: Global,
+    tools: &mut Tools<'_>,
+    doc: &Document<'d>,
+    nodes: &'d Nodes,
+    n: u32,
+    board: &[Option<Rows<'d>>],
+) -> Result<Rows<'d>, OutOfMemory>
+    requires there { n + 1 < length nodes.now }
+    requires before { length board.now ≡ n }
+    requires product { (node : declared_node.Node) → node ≡ slice_index_or nodes.now n node → IsTrue (is_product node) }
+    requires selection { (node : declared_node.Node) → node ≡ slice_index_or nodes.now (n + 1) node → IsTrue (is_selection node) }
+    requires from_it { (node : declared_node.Node) → node ≡ slice_index_or nodes.now (n + 1) node → left_input node ≡ Some n }
+    requires left { (node : declared_node.Node) → node ≡ slice_index_or nodes.now n node → IsOnBoard tools.old doc.now nodes.now board.now (left_input node) }
+    requires right { (node : declared_node.Node) → node ≡ slice_index_or nodes.now n node → IsOnBoard tools.old doc.now nodes.now board.now (right_input node) }
+    ensures rows { IfOk result (IsOf tools.old doc.now nodes.now (n + 1)) }
+    ensures same { tools.new ≡ tools.old }
+{
+    let _number = nodes.len();
+    let product = nodes.get(n);
+    let selection = nodes.get(n + 1);
+    let (left, right) = product.inputs();
+    let left_rows = lent(alloc, board, left);
+    let right_rows = lent(alloc, board, right);
+    match product {
+        Node::Cross { .. } => match selection {
+            Node::Select { conds, .. } => {
+                let rows = selected_pairs(
+                    alloc,
+                    tools,
+                    doc,
+                    left_rows.rows(),
+                    right_rows.rows(),
+                    conds,
+                )?;
+                Ok(rows)
+            }
+            _ => unreachable!(),
+        },
+        _ => unreachable!(),
+    }
 }
 
 /// The rows of a node, where somebody reads it; the board has those of the nodes before it, and gives up

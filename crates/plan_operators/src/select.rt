@@ -1,12 +1,14 @@
-ghost use Rattle.std.specs.Prelude.{◌≡◌, ◌++◌, ◌∷◌, [], cond, length, IfOk, OnOk};
-ghost use Rattle.row_values.specs.Rows.{RowsLieIn};
+ghost use Rattle.std.specs.Prelude.{◌≡◌, ◌+◌, ◌++◌, ◌∷◌, [], All, cond, length, map, IfOk, OnOk};
+ghost use Rattle.row_values.specs.Datums.{IsOfDocument};
+ghost use Rattle.row_values.specs.Rows.{RowsLieIn, product};
+ghost use Rattle.scalar_ops.specs.Views.{term_of};
 ghost use Rattle.aql_typed.specs.Meaning.{selected};
 ghost use Rattle.plan_operators.specs.Given.{input_rows};
 
 use crate::Input;
-use row_operators::selected;
+use row_operators::{columns_of_both, push_if, selected};
 use row_values::{Row, Rows};
-use scalar_ops::{Exprs, Tools, holds};
+use scalar_ops::{Expr, Exprs, Tools, holds};
 use span_token::{Document, OutOfMemory};
 use std::alloc::Global;
 
@@ -65,6 +67,59 @@ pub(crate) fn copy_if<'d>(
 {
     if stays {
         into.push(row.copy(alloc)?)?;
+    }
+    Ok(())
+}
+
+/// `Select` on a `Cross`: the pairs of a left and a right row on which every condition holds. No other pair
+/// is kept.
+pub(crate) fn selected_pairs<'d>(
+    alloc: Global,
+    tools: &mut Tools<'_>,
+    doc: &Document<'d>,
+    left: &Rows<'d>,
+    right: &Rows<'d>,
+    conds: &'d Exprs,
+) -> Result<Rows<'d>, OutOfMemory>
+    requires left_in_document { RowsLieIn doc.now left.now.rows }
+    requires right_in_document { RowsLieIn doc.now right.now.rows }
+    ensures rows { IfOk result (λ out. out.rows ≡ selected tools.old doc.now conds.now (product left.now.rows right.now.rows)) }
+    ensures width { IfOk result (λ out. out.width ≡ left.now.width + right.now.width) }
+    ensures lies { IfOk result (λ out. RowsLieIn doc.now out.rows) }
+    ensures same { tools.new ≡ tools.old }
+{
+    let width = columns_of_both(left.width() as usize, right.width() as usize)?;
+    let conds = conds.as_slice();
+    let mut out = Rows::new(alloc, width);
+    for row in left.as_slice() {
+        push_pairs(alloc, tools, doc, row, right, conds, &mut out)?;
+    }
+    Ok(out)
+}
+
+/// Puts the row, followed by each of the others with which every condition holds, after the rows that are
+/// there.
+fn push_pairs<'d>(
+    alloc: Global,
+    tools: &mut Tools<'_>,
+    doc: &Document<'d>,
+    row: &Row<'d>,
+    others: &Rows<'d>,
+    conds: &'d [Expr],
+    into: &mut Rows<'d>,
+) -> Result<(), OutOfMemory>
+    requires in_document { All (IsOfDocument doc.now) row.now }
+    requires others_in_document { RowsLieIn doc.now others.now.rows }
+    requires width { length row.now + others.now.width ≡ into.old.width }
+    ensures rows { OnOk result (into.new.rows ≡ into.old.rows ++ selected tools.old doc.now (map term_of conds.now) (map (λ other. row.now ++ other) others.now.rows)) }
+    ensures width { OnOk result (into.new.width ≡ into.old.width) }
+    ensures same { tools.new ≡ tools.old }
+{
+    let _width = others.width();
+    for other in others.as_slice() {
+        let pair = row.followed_by(alloc, other.values())?;
+        let stays = holds(tools, doc, &pair, conds)?;
+        push_if(stays, pair, into)?;
     }
     Ok(())
 }
