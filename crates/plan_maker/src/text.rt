@@ -2,7 +2,6 @@
 
 ghost use Rattle.std.specs.Prelude.{◌≡◌, ◌++◌, OnOk, IfOk, string_bytes};
 ghost use Rattle.std.specs.List.{flat_map};
-ghost use Rattle.algebra.specs.Inputs.{left_input, right_input};
 ghost use Rattle.plan_maker.specs.PlanTexts.{operator_name, input_text, node_line, node_lines, output_line, text_of};
 
 use algebra::{Node, Plan, PlanOut};
@@ -47,7 +46,7 @@ fn line_of_node(alloc: Global, n: usize, node: &Node) -> Result<String, OutOfMem
     ensures { IfOk result (λ line. string_bytes line ≡ node_line n node.now) }
 {
     let name = name_of_operator(node);
-    let (left, right) = inputs(node);
+    let (left, right) = node.inputs();
     let left = text_of_input(alloc, left)?;
     let right = text_of_input(alloc, right)?;
     let (left, right) = (left.as_str(), right.as_str());
@@ -91,30 +90,5 @@ fn name_of_operator(node: &Node) -> &'static str
         Node::Consolidate { .. } => "Consolidate",
         Node::Group { .. } => "Group",
         Node::OrderLimit { .. } => "OrderLimit",
-    }
-}
-
-/// The inputs of a node: its only one is the left one.
-fn inputs(node: &Node) -> (Option<u32>, Option<u32>)
-    ensures left { result.0 ≡ left_input node.now }
-    ensures right { result.1 ≡ right_input node.now }
-{
-    match node {
-        Node::Doc => (None, None),
-        Node::Regex { input, .. }
-        | Node::TokenRegex { input, .. }
-        | Node::Dict { input, .. }
-        | Node::DictPart { input, .. }
-        | Node::Blocks { input, .. }
-        | Node::Select { input, .. }
-        | Node::Project { input, .. }
-        | Node::Consolidate { input, .. }
-        | Node::Group { input, .. }
-        | Node::OrderLimit { input, .. } => (Some(*input), None),
-        Node::Cross { left, right, .. }
-        | Node::SpanJoin { left, right, .. }
-        | Node::Union { left, right }
-        | Node::Minus { left, right } => (Some(*left), Some(*right)),
-        Node::Restricted { outer, source, .. } => (Some(*outer), Some(*source)),
     }
 }
