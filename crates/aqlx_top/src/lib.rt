@@ -3,8 +3,8 @@
 //! `aqlx` writes exactly the bytes that the program means on the corpus, in the corpus's order, and
 //! answers each other status only for its named cause; whatever it answers, what it wrote is a prefix
 //! of the defined output. Stands on `aql_io` for files, sources and sinks, on `corpus_json` for lines
-//! and documents, on `aql_lexer`, `aql_parser` and `aql_syntax` for programs, and on
-//! `aql_regex_extract` for patterns.
+//! and documents, on `aql_lexer`, `aql_parser`, `view_graph` and `aql_types` for programs, and on
+//! `plan_maker` and `plan_operators` for the plans that are run.
 #![tactic(auto)]
 
 mod answer;

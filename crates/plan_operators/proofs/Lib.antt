@@ -6,7 +6,7 @@ pub mod Placing
 pub mod Lying
 -- the rows of nodes
 pub mod Boards
--- nodes that are needed
+-- until when the rows of nodes are read
 pub mod Needing
 -- pairs of rows
 pub mod Pairing
