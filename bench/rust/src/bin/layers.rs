@@ -4,6 +4,7 @@
 #[path = "../filters.rs"]
 mod filters;
 
+use extract::tokens::{CLASSES, Class, class_of};
 use smallvec::{SmallVec, smallvec};
 use std::collections::HashMap;
 use std::time::{Duration, Instant};
@@ -24,44 +25,6 @@ enum Value<'d> {
     Bool(bool),
     Text(&'d str),
     Span(Span),
-}
-
-#[derive(Clone, Copy, PartialEq, Eq)]
-enum Class {
-    Space,
-    Word,
-    Other,
-}
-
-const fn class_of_byte(byte: u8) -> Class {
-    match byte {
-        b' ' | b'\t' | b'\n' | b'\r' | 0x0b | 0x0c => Class::Space,
-        b'0'..=b'9' | b'A'..=b'Z' | b'a'..=b'z' => Class::Word,
-        _ => Class::Other,
-    }
-}
-
-const CLASSES: [Class; 128] = {
-    let mut classes = [Class::Other; 128];
-    let mut byte = 0;
-    while byte < 128 {
-        classes[byte] = class_of_byte(byte as u8);
-        byte += 1;
-    }
-    classes
-};
-
-/// std's own tables: alphabetic, numeric and white space; it has none for marks.
-fn class_of_char(c: char) -> Class {
-    if c.is_ascii() {
-        CLASSES[c as usize]
-    } else if c.is_alphanumeric() {
-        Class::Word
-    } else if c.is_whitespace() {
-        Class::Space
-    } else {
-        Class::Other
-    }
 }
 
 fn ascii_tokens(bytes: &[u8]) -> Vec<Span> {
@@ -91,7 +54,7 @@ fn decoded_tokens(text: &str) -> Vec<Span> {
     let mut word = None;
     let mut place = 0;
     for c in text.chars() {
-        match (class_of_char(c), word) {
+        match (class_of(c), word) {
             (Class::Word, None) => word = Some(place),
             (Class::Word, Some(_)) => {}
             (class, before) => {
