@@ -42,6 +42,7 @@ struct Author<'d> {
 struct Views<'d> {
     authors: Vec<Author<'d>>,
     change: Vec<Change<'d>>,
+    entry: Vec<Change<'d>>,
     record: Vec<Record<'d>>,
     sources: Vec<Source<'d>>,
 }
@@ -51,34 +52,49 @@ fn group(captures: &Captures<'_>, number: usize) -> Span {
     captures.get(number).map_or(Span { begin: 0, end: 0 }, |at| Span { begin: at.start(), end: at.end() })
 }
 
-fn views<'d>(doc: &Document<'d>, records: &Regex, changes: &Regex) -> Views<'d> {
+/// The matches of a pattern with groups for a name, a mail address, a date and its year, which are counted by address.
+fn changes<'d>(
+    doc: &Document<'d>,
+    regex: &Regex,
+    [name, mail, date, year]: [usize; 4],
+    authors: &mut BTreeMap<&'d str, Author<'d>>,
+) -> Vec<Change<'d>> {
+    let mut rows = Vec::new();
+    for found in regex.captures_iter(doc.text) {
+        let shown = |number| doc.shown(group(&found, number));
+        rows.push(Change { name: shown(name), mail: shown(mail), date: shown(date), year: shown(year) });
+        let (mail, year) = (doc.text_of(group(&found, mail)), doc.text_of(group(&found, year)));
+        let author = authors.entry(mail).or_insert(Author { changes: 0, first: year, last: year, mail });
+        author.changes += 1;
+        author.first = author.first.min(year);
+        author.last = author.last.max(year);
+    }
+    rows
+}
+
+fn views<'d>(doc: &Document<'d>, records: &Regex, lasts: &Regex, firsts: &Regex) -> Views<'d> {
     let (mut record, mut sources) = (Vec::new(), BTreeMap::new());
     for found in records.captures_iter(doc.text) {
         let shown = |number| doc.shown(group(&found, number));
         record.push(Record { date: shown(1), time: shown(2), source: shown(3), message: shown(4) });
         *sources.entry(doc.text_of(group(&found, 3))).or_insert(0) += 1;
     }
-    let (mut change, mut authors) = (Vec::new(), BTreeMap::new());
-    for found in changes.captures_iter(doc.text) {
-        let shown = |number| doc.shown(group(&found, number));
-        change.push(Change { name: shown(1), mail: shown(2), date: shown(3), year: shown(4) });
-        let (mail, year) = (doc.text_of(group(&found, 2)), doc.text_of(group(&found, 4)));
-        let author = authors.entry(mail).or_insert(Author { changes: 0, first: year, last: year, mail });
-        author.changes += 1;
-        author.first = author.first.min(year);
-        author.last = author.last.max(year);
-    }
+    let mut authors = BTreeMap::new();
+    let change = changes(doc, lasts, [1, 2, 3, 4], &mut authors);
+    let entry = changes(doc, firsts, [3, 4, 1, 2], &mut authors);
     let sources = sources.into_iter().map(|(source, records)| Source { records, source }).collect();
-    Views { authors: authors.into_values().collect(), change, record, sources }
+    Views { authors: authors.into_values().collect(), change, entry, record, sources }
 }
 
 pub fn run() -> io::Result<()> {
     let records = Regex::new(
         r"(?m)^([0-9]{4}-[0-9]{2}-[0-9]{2}|[A-Z][a-z]{2} [ 0-9][0-9]) ([0-9]{2}:[0-9]{2}:[0-9]{2}) (\S+) ([^\n]*)",
     );
-    let changes = Regex::new(
+    let lasts = Regex::new(
         r"(?m)^ ?-- ([^<\n]+) <([^>\n]+)>  ([A-Z][a-z]{2}, [ 0-9]{2} [A-Z][a-z]{2} ([0-9]{4}) [0-9:]{8} [+-][0-9]{4})",
     );
-    let (records, changes) = (records.map_err(io::Error::other)?, changes.map_err(io::Error::other)?);
-    corpus::run(false, |doc, out| write(out, &views(doc, &records, &changes)))
+    let firsts = Regex::new(r"(?m)^(([0-9]{4})-[0-9]{2}-[0-9]{2})  ([^<\n]+)  <([^>\n]+)>");
+    let compiled = |regex: Result<Regex, regex::Error>| regex.map_err(io::Error::other);
+    let (records, lasts, firsts) = (compiled(records)?, compiled(lasts)?, compiled(firsts)?);
+    corpus::run(false, |doc, out| write(out, &views(doc, &records, &lasts, &firsts)))
 }

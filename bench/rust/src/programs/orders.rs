@@ -71,9 +71,9 @@ fn views<'d>(doc: &Document<'d>, numbers: &[Span], customers: &[Span], amounts: 
 }
 
 pub fn run() -> io::Result<()> {
-    let number = Regex::new("#[0-9]{4,7}").map_err(io::Error::other)?;
+    let number = Regex::new("[0-9]{4,7}").map_err(io::Error::other)?;
     let customer = whole("[A-Z][a-z]+( [A-Z][a-z]+)*");
-    let amount = Regex::new(r"[0-9]+(\.[0-9]+)+").map_err(io::Error::other)?;
+    let amount = Regex::new("[0-9]+[.,][0-9]+").map_err(io::Error::other)?;
     corpus::run(true, |doc, out| {
         let customers = token_runs(&customer, doc, 1, 3);
         write(out, &views(doc, &matches(&number, doc), &customers, &matches(&amount, doc)))
