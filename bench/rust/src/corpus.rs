@@ -1,8 +1,14 @@
 //! JSON lines from standard input, and for each document a JSON line with its views.
 use crate::document::Document;
-use serde::Serialize;
-use serde_json::Value;
+use serde::{Deserialize, Serialize};
 use std::io::{self, BufRead, BufReader, BufWriter, StdoutLock, Write};
+
+/// What is read of a line.
+#[derive(Deserialize)]
+struct Line {
+    label: Option<String>,
+    text: String,
+}
 
 /// Where lines are written.
 pub type Output = BufWriter<StdoutLock<'static>>;
@@ -25,18 +31,15 @@ pub fn run(with_tokens: bool, mut views: impl FnMut(&Document<'_>, &mut Output) 
         if line.iter().all(|byte| matches!(byte, b' ' | b'\t' | b'\r' | b'\n')) {
             continue;
         }
-        let value: Value = serde_json::from_slice(&line)?;
-        let Some(text) = value.get("text").and_then(Value::as_str) else {
-            return Err(io::Error::other("not a document"));
-        };
+        let document: Line = serde_json::from_slice(&line)?;
         out.write_all(b"{")?;
-        if let Some(label) = value.get("label").and_then(Value::as_str) {
+        if let Some(label) = &document.label {
             out.write_all(b"\"label\":")?;
-            write(&mut out, &label)?;
+            write(&mut out, label)?;
             out.write_all(b",")?;
         }
         out.write_all(b"\"views\":")?;
-        views(&Document::new(text, with_tokens), &mut out)?;
+        views(&Document::new(&document.text, with_tokens), &mut out)?;
         out.write_all(b"}\n")?;
     }
 }
