@@ -1,14 +1,14 @@
 -- A plan that shows the matches of a pattern, and events by two workers that claim and publish its items in the order of
 -- their numbers.
 use Rattle.std.specs.Prelude.{ℕ, ◌≡◌, ◌++◌, List, [], ◌∷◌, Option, Some, None, IsSome, Contains, length, map, refl}
-use Rattle.std.proofs.Common.{inl, inr, ap₂, sym, subst, arith}
+use Rattle.std.proofs.Common.{inl, inr, ap, ap₂, sym, subst, arith, ◌∙◌}
 use Rattle.std.proofs.lemmas.List.{append-nil}
 use Rattle.std.proofs.lemmas.Option.{none-some, same_Some}
 use Rattle.aql_base.specs.BagLaws.{SameBag-refl, SameBag-is}
 use Rattle.span_token.specs.Documents.{Doc as Document, whole_of}
 use Rattle.row_values.specs.Datums.{Datum, span}
 use Rattle.row_values.specs.Rows.{RowList}
-use Rattle.scalar_ops.specs.Expressions.{column}
+use Rattle.scalar_ops.specs.Expressions.{Term, column}
 use Rattle.scalar_ops.specs.Tables.{Lists}
 use Rattle.aql_typed.specs.Meaning.{Rows, group_value, found_in, row_of}
 use Rattle.aql_typed.specs.Trees.{regex}
@@ -52,6 +52,15 @@ matched_events lists doc =
 -- a list of rows by its parts
 pub list_by : (list : RowList) (width : ℕ) (rows : Rows) → list.width ≡ width → list.rows ≡ rows → list ≡ record { width = width; rows = rows }
 list_by list width rows wide are = ap₂ (λ (w : ℕ) (rs : Rows). let made : RowList = record { width = w; rows = rs } in made) wide are
+
+-- the values of the second column of all matches
+pub alone-is : (lists : Lists) (doc : Document) (matches list : RowList) (rows : Rows) (items : List Term) → matches ≡ match_list lists doc → rows ≡ matches.rows → items ≡ column 1 ∷ []
+    → list.width ≡ length items → list.rows ≡ map (row_of lists doc items) rows → list ≡ alone_list lists doc
+alone-is lists doc matches list rows items matches_are rows_are items_are wide are =
+    list_by list 1 (alone_list lists doc).rows (wide ∙ ap (λ (is : List Term). length is) items_are)
+    (are ∙ (ap (λ (is : List Term). map (row_of lists doc is) rows) items_are
+    ∙ (ap (λ (rs : Rows). map (row_of lists doc (column 1 ∷ [])) rs) rows_are
+    ∙ ap (λ (m : RowList). map (row_of lists doc (column 1 ∷ [])) m.rows) matches_are)))
 
 module _ (lists : Lists) (outputs : List PlanOut) (shown : Contains (map (λ out. out.node) outputs) 2) (doc : Document) where
   abbrev plan : Parts

@@ -363,7 +363,7 @@ fn numbers_are_published_in_node_order_by_two_workers(rt: HostRuntime) -> Result
             spans.push((span.begin, span.end))?;
         }
     }
-    assert!(rt; spans.as_slice() == [(2, 4), (5, 8)], "the two numbers");
+    assert!(rt; spans.as_slice() == [(2, 4), (5, 8)].as_slice(), "the two numbers");
     Ok(())
 }
 
