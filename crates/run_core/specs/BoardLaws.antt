@@ -1,5 +1,5 @@
 -- Laws of boards that keep their promise, for the crates above: what is wanted and ready on them, and what may come next.
-use Rattle.std.proofs.Common.{◌≡◌, ℕ, ◌<◌, List, [], ◌∷◌, refl, ap, subst, ◌∙◌, sym, map, Option, Some, None}
+use Rattle.std.proofs.Common.{◌≡◌, ℕ, ◌<◌, List, [], ◌∷◌, subst, ◌∙◌, sym, map, Some, None}
 use Rattle.std.specs.Prelude.{IsSome, slice_get}
 use Rattle.std.specs.List.{AllZip}
 use Rattle.aql_base.specs.Bags.{SameBag}
@@ -7,7 +7,6 @@ use Rattle.span_token.specs.Documents.{Doc as Document}
 use Rattle.row_values.specs.Rows.{RowList}
 use Rattle.aql_typed.specs.Meaning.{Rows}
 use Rattle.algebra.specs.declared.output.PlanOut.{PlanOut}
-use Rattle.algebra.specs.ItemLaws.{place_of}
 use Rattle.algebra.specs.Items.{Place, output_nodes, item_at}
 use Rattle.algebra.specs.Needed.{IsNeeded}
 use Rattle.algebra.specs.Plans.{Parts}

@@ -1,5 +1,5 @@
 -- Boards: what is claimed and what is published, for each node of a plan on each document.
-use Rattle.std.specs.Prelude.{ℕ, ◌≡◌, List, Option, Some, None, length, replicate, slice_index_or}
+use Rattle.std.specs.Prelude.{ℕ, ◌≡◌, List, Option, None, length, replicate, slice_index_or}
 use Rattle.span_token.specs.Documents.{Doc}
 use Rattle.row_values.specs.Rows.{RowList}
 use Rattle.algebra.specs.Items.{item_count, item_at}
