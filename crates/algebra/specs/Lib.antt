@@ -14,6 +14,8 @@ pub mod Plans
 pub mod Growth
 -- which nodes are needed on a document
 pub mod Needed
+-- items, and what is known of the rows of nodes and of their inputs
+pub mod Items
 -- which new nodes stand for old ones
 pub mod Mapping
 -- laws of them for the crates above
@@ -33,3 +35,4 @@ pub mod SelectionLaws
 pub mod ExtractionLaws
 pub mod DictLaws
 pub mod JoiningLaws
+pub mod ItemLaws

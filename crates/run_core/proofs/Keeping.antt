@@ -2,13 +2,14 @@
 use Rattle.std.proofs.Common.{◌≡◌, ℕ, ◌<◌, List, length, get_or, refl, sym, subst, ◌∙◌, arith, Option, Some, None, IfSome, IfNone, option_map}
 use Rattle.std.proofs.lemmas.List.{get_or_default}
 use Rattle.row_values.specs.Rows.{RowList}
+use Rattle.algebra.specs.Items.{item_count}
 use Rattle.run_core.specs.declared.event.Event.{Event}
-use Rattle.run_core.specs.Boards.{Standing, State, Place, untouched, item_count, standing}
+use Rattle.run_core.specs.Boards.{Standing, State, IsSized, untouched, standing}
 use Rattle.run_core.specs.Events.{IsLegal, after, item_of}
 use Rattle.run_core.specs.Histories.{IsBoard}
 use Rattle.run_core.specs.HistoryLaws.{holds-reached, reached-after, sound-reached}
 use Rattle.run_core.specs.Promises.{IsNeededAt, IsValueAt, IsSound, MayGoOn}
-use Rattle.run_core.specs.StepLaws.{IsSized, legal-below}
+use Rattle.run_core.specs.StepLaws.{legal-below}
 
 sized_of : (board : State) → IsBoard board → IsSized board
 sized_of board is = (holds-reached board is.reached.events is.planned is.reached.by).sized
@@ -28,23 +29,23 @@ pub read : (items : List Standing) (i : ℕ) (found : Standing) → i < length i
 read items i found below is = is ∙ get_or_default items i found untouched below
 
 pub claim_needed : (board : State) (i : ℕ) (found : Option ℕ) → IsSound board → found ≡ (standing board i).claim
-    → IfSome found (λ worker. (place : Place board.plan board.docs i) → IsNeededAt board i place)
+    → IfSome found (λ worker. IsNeededAt board.plan board.docs i)
 claim_needed board i None promise is = tt
-claim_needed board i (Some worker) promise is = λ place. promise.claimed i place worker (sym is)
+claim_needed board i (Some worker) promise is = promise.holds.claimed i worker (sym is)
 
 pub rows_needed : {A : Type 0} (seen : A → RowList) (board : State) (i : ℕ) (found : Option A) → IsSound board → option_map seen found ≡ (standing board i).rows
-    → IfSome found (λ x. (place : Place board.plan board.docs i) → IsNeededAt board i place)
+    → IfSome found (λ x. IsNeededAt board.plan board.docs i)
 rows_needed seen board i None promise is = tt
-rows_needed seen board i (Some x) promise is = λ place. promise.published i place (seen x) (sym is)
+rows_needed seen board i (Some x) promise is = promise.holds.published i (seen x) (sym is)
 
 pub rows_value : {A : Type 0} (seen : A → RowList) (board : State) (i : ℕ) (found : Option A) → IsSound board → option_map seen found ≡ (standing board i).rows
-    → IfSome found (λ x. (place : Place board.plan board.docs i) → IsValueAt board i place (seen x))
+    → IfSome found (λ x. IsValueAt board.plan board.docs i (seen x))
 rows_value seen board i None promise is = tt
-rows_value seen board i (Some x) promise is = λ place. promise.values i place (seen x) (sym is)
+rows_value seen board i (Some x) promise is = promise.holds.values i (seen x) (sym is)
 
 pub rows_lacking : {A : Type 0} (seen : A → RowList) (board : State) (i : ℕ) (found : Option A) → IsSound board → option_map seen found ≡ (standing board i).rows
-    → IfNone found ((place : Place board.plan board.docs i) → IsNeededAt board i place → MayGoOn board)
-rows_lacking seen board i None promise is = λ place needed. promise.goes_on i place needed (sym is)
+    → IfNone found (IsNeededAt board.plan board.docs i → MayGoOn board)
+rows_lacking seen board i None promise is = λ needed. promise.goes_on i needed (sym is)
 rows_lacking seen board i (Some x) promise is = tt
 
 -- one legal event more

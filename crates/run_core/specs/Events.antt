@@ -3,10 +3,11 @@ use Rattle.std.specs.Prelude.{ℕ, ◌≡◌, List, Option, Some, None, IsSome, 
 use Rattle.aql_base.specs.Bags.{SameBag}
 use Rattle.row_values.specs.Rows.{RowList}
 use Rattle.algebra.specs.Inputs.{left_input, right_input}
+use Rattle.algebra.specs.Items.{Place}
 use Rattle.algebra.specs.Operators.{op}
 use Rattle.run_core.specs.declared.event.Event.{Event}
 use Rattle.run_core.specs.declared.event.Event.TheVariants.{Claim, Publish, Late}
-use Rattle.run_core.specs.Boards.{Standing, State, Place, untouched, standing, published_on}
+use Rattle.run_core.specs.Boards.{Standing, State, untouched, standing, published_on}
 use Rattle.run_core.specs.Wanted.{given, IsWanted, IsReady}
 
 -- an item may be claimed where it is wanted, ready and unclaimed

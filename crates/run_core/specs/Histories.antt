@@ -1,11 +1,12 @@
 -- Lists of events on a board, from the first to the last.
 use Rattle.std.specs.Prelude.{ℕ, ◌≡◌, ◌<◌, ◌^◌, List, [], ◌∷◌, Option, Some, None, if◌then◌else◌, ◌==◌, filter_map, option_map}
 use Rattle.row_values.specs.Rows.{RowList}
+use Rattle.algebra.specs.Items.{item_count}
 use Rattle.algebra.specs.Nodes.{IsPlan}
 use Rattle.algebra.specs.Plans.{AreOutputs}
 use Rattle.run_core.specs.declared.event.Event.{Event}
 use Rattle.run_core.specs.declared.event.Event.TheVariants.{Claim, Publish}
-use Rattle.run_core.specs.Boards.{State, fresh, item_count}
+use Rattle.run_core.specs.Boards.{State, fresh}
 use Rattle.run_core.specs.Events.{IsLegal, after}
 
 -- an event, with the rows that it publishes

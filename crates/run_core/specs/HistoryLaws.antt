@@ -1,5 +1,5 @@
 -- Laws of legal lists of events: what holds of every board that one reaches.
-use Rattle.std.proofs.Common.{◌≡◌, inl, inr, ℕ, ◌+◌, ◌*◌, ◌<◌, eqb, Bool, true, false, if◌then◌else◌, List, [], ◌∷◌, ◌++◌, length, refl, sym, ap, subst, ◌∙◌, arith, Option, Some, None, true≢false}
+use Rattle.std.proofs.Common.{◌≡◌, inl, inr, ℕ, ◌<◌, eqb, Bool, true, false, if◌then◌else◌, List, [], ◌∷◌, ◌++◌, length, refl, sym, ap, subst, ◌∙◌, arith, Option, Some, None, true≢false}
 use Rattle.std.specs.Prelude.{IsSome, IsSomeAnd, All, option_to_list}
 use Rattle.std.specs.List.{AllZip, AllByRecursion, cons_option}
 use Rattle.std.proofs.lemmas.Bool.Decides.{eqb_tells}
@@ -12,19 +12,20 @@ use Rattle.row_values.specs.Rows.{RowList}
 use Rattle.aql_typed.specs.Meaning.{Rows}
 use Rattle.algebra.specs.declared.output.PlanOut.{PlanOut}
 use Rattle.algebra.specs.FoldLaws.{length-each}
+use Rattle.algebra.specs.Items.{Place, item_at}
 use Rattle.algebra.specs.Nodes.{IsPlan}
 use Rattle.algebra.specs.Plans.{Parts, AreOutputs}
 use Rattle.algebra.specs.Shapes.{shape_by, no_shape}
 use Rattle.algebra.specs.Values.{val}
 use Rattle.run_core.specs.declared.event.Event.{Event}
 use Rattle.run_core.specs.declared.event.Event.TheVariants.{Claim, Publish, Late}
-use Rattle.run_core.specs.Boards.{Standing, State, Place, fresh, standing, published_on}
+use Rattle.run_core.specs.Boards.{Standing, State, IsSized, fresh, standing, published_on}
 use Rattle.run_core.specs.Wanted.{IsWanted, IsReady}
-use Rattle.run_core.specs.Events.{MayClaim, MayPublish, IsLegal, after}
+use Rattle.run_core.specs.Events.{MayPublish, IsLegal, after}
 use Rattle.run_core.specs.Histories.{Happening, AreLegal, after_all, IsReachedBy, IsReached, claim_in, rows_in, claims_in_all, rows_in_all}
-use Rattle.run_core.specs.Promises.{IsNeededAt, IsValueAt, MayGoOn, IsSound, HasOnce}
-use Rattle.run_core.specs.StepLaws.{IsSized, Holds, holds-fresh, holds-after, sized-after, sized-fresh, agrees-on, rows-fresh, claim-fresh, claimed-below, published-below, rows-after_claim, claim-after_claim, rows-after_publish, claim-after_publish}
-use Rattle.run_core.specs.WantedLaws.{needed-wanted, ready-value, lowest-ready, some-ready, Ready}
+use Rattle.run_core.specs.Promises.{IsNeededAt, IsValueAt, MayGoOn, Keeps, HoldsValues, IsSound, HasOnce}
+use Rattle.run_core.specs.StepLaws.{holds-fresh, holds-after, keeps-after, sized-after, sized-fresh, value-at, agrees-holding, rows-fresh, claim-fresh, claimed-below, published-below, rows-after_claim, claim-after_claim, rows-after_publish, claim-after_publish}
+use Rattle.run_core.specs.WantedLaws.{Agrees, Ready, needed-wanted, ready-value, some-ready}
 
 -- lists one after the other
 pub after_all-append : (board : State) (xs ys : List Happening) → after_all board (xs ++ ys) ≡ after_all (after_all board xs) ys
@@ -75,14 +76,33 @@ reached-after board event rows reached legal =
       };
     }
 
-holds-all : (board : State) → IsPlan board.plan.nodes → Holds board → (events : List Happening) → AreLegal board events → Holds (after_all board events)
+holds-all : (board : State) → IsPlan board.plan.nodes → HoldsValues board → (events : List Happening) → AreLegal board events → HoldsValues (after_all board events)
 holds-all board planned holds [] legal = holds
 holds-all board planned holds (h ∷ events) legal =
     holds-all (after board h.event h.rows) planned (holds-after board planned holds h.event h.rows legal.0) events legal.1
 
-pub holds-reached : (board : State) (events : List Happening) → IsPlan board.plan.nodes → IsReachedBy board events → Holds board
+pub holds-reached : (board : State) (events : List Happening) → IsPlan board.plan.nodes → IsReachedBy board events → HoldsValues board
 holds-reached board events planned by =
-    subst Holds (sym by.is) (holds-all (fresh board.plan board.docs) planned (holds-fresh board.plan board.docs) events by.legal)
+    subst HoldsValues (sym by.is) (holds-all (fresh board.plan board.docs) planned (holds-fresh board.plan board.docs) events by.legal)
+
+-- legal events take back no claim and no rows
+keeps_same : (board : State) → Keeps board board
+keeps_same board = record { plan = refl; docs = refl; claims = λ i who is. is; rows = λ i list is. is }
+
+keeps_trans : (a b c : State) → Keeps a b → Keeps b c → Keeps a c
+keeps_trans a b c one more = record {
+  plan = more.plan ∙ one.plan;
+  docs = more.docs ∙ one.docs;
+  claims = λ i who is. more.claims i who (one.claims i who is);
+  rows = λ i list is. more.rows i list (one.rows i list is);
+}
+
+pub keeps-all : (board : State) (events : List Happening) → IsSized board → AreLegal board events → Keeps board (after_all board events)
+keeps-all board [] sized legal = keeps_same board
+keeps-all board (h ∷ events) sized legal =
+    let next = after board h.event h.rows in
+    keeps_trans board next (after_all next events) (keeps-after board h.event h.rows sized legal.0)
+    (keeps-all next events (sized-after board h.event h.rows sized) legal.1)
 
 -- an event adds the rows that it publishes, and its claim
 module _ (i : ℕ) where
@@ -182,42 +202,22 @@ has-once board events by =
     }
 
 -- a wanted, ready and unpublished item may be published with its value
-pub may-publish : (board : State) (item : ℕ) (place : Place board.plan board.docs item) → IsPlan board.plan.nodes → Holds board
+pub publish-holding : (board : State) (item : ℕ) (place : Place board.plan board.docs item) → IsPlan board.plan.nodes → HoldsValues board
     → IsWanted board.plan (published_on board place.d) place.n → IsReady board.plan (published_on board place.d) place.node → (standing board item).rows ≡ None
-    → (list : RowList) → IsValueAt board item place list → MayPublish board item list
-may-publish board item place planned holds wanted ready none list value = record {
+    → (list : RowList) → IsValueAt board.plan board.docs item list → MayPublish board item list
+publish-holding board item place planned holds wanted ready none list value = record {
   place = place;
   wanted = wanted;
   ready = ready;
   unpublished = none;
-  bag = SameBag-trans _ _ _ value (SameBag-sym _ _
-      (ready-value board.plan place.doc planned (published_on board place.d) (agrees-on board place.d place.doc holds place.doc_is) place.n place.node place.node_is ready));
+  bag = SameBag-trans _ _ _ (value-at board.plan board.docs item list value place) (SameBag-sym _ _
+      (ready-value board.plan place.doc planned (published_on board place.d) (agrees-holding board holds place.d place.doc place.doc_is) place.n place.node place.node_is ready));
 }
 
--- the wanted, unpublished item of the lowest number on its document may be claimed where nobody did
-pub lowest-claim : (board : State) (item : ℕ) (place : Place board.plan board.docs item) → IsPlan board.plan.nodes
-    → IsWanted board.plan (published_on board place.d) place.n
-    → ((m : ℕ) → m < place.n → IsWanted board.plan (published_on board place.d) m → IsSome (published_on board place.d m))
-    → (standing board item).claim ≡ None → MayClaim board item
-lowest-claim board item place planned wanted lower none = record {
-  place = place;
-  wanted = wanted;
-  ready = lowest-ready board.plan planned (published_on board place.d) place.n place.node place.node_is wanted lower;
-  unclaimed = none;
-}
-
--- and published with its value
-pub lowest-publish : (board : State) (item : ℕ) (place : Place board.plan board.docs item) → IsPlan board.plan.nodes → Holds board
-    → IsWanted board.plan (published_on board place.d) place.n
-    → ((m : ℕ) → m < place.n → IsWanted board.plan (published_on board place.d) m → IsSome (published_on board place.d m))
-    → (standing board item).rows ≡ None → (list : RowList) → IsValueAt board item place list → MayPublish board item list
-lowest-publish board item place planned holds wanted lower none list value =
-    may-publish board item place planned holds wanted (lowest-ready board.plan planned (published_on board place.d) place.n place.node place.node_is wanted lower) none list value
-
--- of the ready item of a document
-goes_by : (board : State) (i : ℕ) (place : Place board.plan board.docs i) → IsPlan board.plan.nodes → Holds board → Ready board.plan (published_on board place.d) → MayGoOn board
+-- so may the ready item of a document
+goes_by : (board : State) (i : ℕ) (place : Place board.plan board.docs i) → IsPlan board.plan.nodes → HoldsValues board → Ready board.plan (published_on board place.d) → MayGoOn board
 goes_by board i place planned holds ready =
-    let item = place.d * length board.plan.nodes + ready.n in
+    let item = item_at board.plan place.d ready.n in
     let here : Place board.plan board.docs item = record {
       d = place.d;
       n = ready.n;
@@ -230,15 +230,16 @@ goes_by board i place planned holds ready =
     record {
       item = item;
       place = here;
-      legal = may-publish board item here planned holds ready.wanted ready.ready ready.unpublished;
+      legal = publish-holding board item here planned holds ready.wanted ready.ready ready.unpublished;
     }
 
-goes-on : (board : State) → IsPlan board.plan.nodes → AreOutputs board.plan.nodes board.plan.outputs → Holds board
-    → (i : ℕ) (place : Place board.plan board.docs i) → IsNeededAt board i place → (standing board i).rows ≡ None → MayGoOn board
-goes-on board planned valid holds i place needed none =
+goes-on : (board : State) → IsPlan board.plan.nodes → AreOutputs board.plan.nodes board.plan.outputs → HoldsValues board
+    → (i : ℕ) → IsNeededAt board.plan board.docs i → (standing board i).rows ≡ None → MayGoOn board
+goes-on board planned valid holds i needed none =
+    let place = needed.place in
     let published = published_on board place.d in
     let here : published place.n ≡ None = ap (λ (k : ℕ). (standing board k).rows) (sym place.is) ∙ none in
-    elim (needed-wanted board.plan place.doc planned published (agrees-on board place.d place.doc holds place.doc_is) place.n needed) [
+    elim (needed-wanted board.plan place.doc planned published (agrees-holding board holds place.d place.doc place.doc_is) place.n needed.needed) [
       | inl wanted ↦ goes_by board i place planned holds (some-ready board.plan planned valid published place.n wanted here)
       | inr gap ↦ goes_by board i place planned holds (some-ready board.plan planned valid published gap.0 gap.1 gap.2)
     ]
@@ -247,29 +248,30 @@ some_list : (found : Option RowList) (rows worth : Rows) → IsSome found → ((
 some_list None rows worth there value meant = absurd (true≢false (sym there))
 some_list (Some list) rows worth there value meant = SameBag-trans _ _ _ (value list refl) meant
 
-shown_all : (board : State) (d : ℕ) (doc : Document) → ((n : ℕ) (list : RowList) → n < length board.plan.nodes → published_on board d n ≡ Some list → SameBag list.rows (val board.plan.lists doc board.plan.nodes n))
-    → (outs : List PlanOut) (meant : List Rows) → AllByRecursion (λ out. out.node < length board.plan.nodes) outs → AllByRecursion (λ out. IsSome (published_on board d out.node)) outs
-    → AllZip (λ out rows. SameBag (val board.plan.lists doc board.plan.nodes out.node) rows) outs meant
-    → AllZip (λ out rows. IsSomeAnd (published_on board d out.node) (λ list. SameBag list.rows rows)) outs meant
+shown_all : (board : State) (d : ℕ) (doc : Document) → Agrees board.plan doc (published_on board d)
+    → (meant : List Rows) (outs : List PlanOut) → AllByRecursion (λ out. out.node < length board.plan.nodes) outs → AllByRecursion (λ out. IsSome (published_on board d out.node)) outs
+    → AllZip (λ rows out. SameBag (val board.plan.lists doc board.plan.nodes out.node) rows) meant outs
+    → AllZip (λ rows out. IsSomeAnd (published_on board d out.node) (λ list. SameBag list.rows rows)) meant outs
 shown_all board d doc agrees [] [] below there are = are
-shown_all board d doc agrees [] (rows ∷ meant) below there are = are
-shown_all board d doc agrees (out ∷ outs) [] below there are = are
-shown_all board d doc agrees (out ∷ outs) (rows ∷ meant) below there are = (
-  some_list (published_on board d out.node) rows (val board.plan.lists doc board.plan.nodes out.node) there.0 (λ list is. agrees out.node list below.0 is) are.0,
-  shown_all board d doc agrees outs meant below.1 there.1 are.1,
+shown_all board d doc agrees (rows ∷ meant) [] below there are = are
+shown_all board d doc agrees [] (out ∷ outs) below there are = are
+shown_all board d doc agrees (rows ∷ meant) (out ∷ outs) below there are = (
+  some_list (published_on board d out.node) rows (val board.plan.lists doc board.plan.nodes out.node) there.0 (λ list is. agrees.same out.node list below.0 is) are.0,
+  shown_all board d doc agrees meant outs below.1 there.1 are.1,
 )
 
 -- the promise of a board whose items hold their values
-pub sound-holding : (board : State) → IsPlan board.plan.nodes → AreOutputs board.plan.nodes board.plan.outputs → Holds board → IsSound board
+pub sound-holding : (board : State) → IsPlan board.plan.nodes → AreOutputs board.plan.nodes board.plan.outputs → HoldsValues board → IsSound board
 sound-holding board planned valid holds = record {
-  sized = holds.sized;
-  values = holds.values;
-  published = holds.published;
-  claimed = holds.claimed;
+  planned = planned;
+  valid = valid;
+  holds = holds;
+  once = has-once board;
+  lasting = λ events legal. keeps-all board events holds.sized legal;
   goes_on = goes-on board planned valid holds;
   outputs = λ d doc meant doc_is there are.
       let below : All (λ (out : PlanOut). out.node < length board.plan.nodes) board.plan.outputs = λ i d within. omega (arith, (valid.each i d within).there, length-each no_shape shape_by board.plan.nodes) in
-      shown_all board d doc (agrees-on board d doc holds doc_is).same board.plan.outputs meant
+      shown_all board d doc (agrees-holding board holds d doc doc_is) meant board.plan.outputs
       (recursion_from_All (λ out. out.node < length board.plan.nodes) board.plan.outputs below)
       (recursion_from_All (λ out. IsSome (published_on board d out.node)) board.plan.outputs there) are;
 }

@@ -9,6 +9,6 @@ pub mod Histories
 pub mod Promises
 -- laws of them for the crates above
 pub mod WantedLaws
-pub mod PlaceLaws
 pub mod StepLaws
 pub mod HistoryLaws
+pub mod BoardLaws

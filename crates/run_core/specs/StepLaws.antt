@@ -1,29 +1,26 @@
 -- Laws of one event: a legal one keeps what is claimed and published, and that each is needed and each published item
 -- holds its value.
-use Rattle.std.proofs.Common.{◌≡◌, ◌≢◌, ◌⊎◌, inl, inr, ℕ, ◌+◌, ◌*◌, ◌<◌, List, length, get_or, set, refl, sym, ap, subst, ◌∙◌, arith, Option, Some, None, true≢false}
+use Rattle.std.proofs.Common.{◌≡◌, ◌≢◌, ◌⊎◌, inl, inr, ℕ, ◌<◌, List, length, get_or, set, refl, sym, ap, subst, ◌∙◌, arith, Option, Some, None, true≢false}
 use Rattle.std.specs.Prelude.{IsSome, is_some, slice_get, replicate}
 use Rattle.std.proofs.lemmas.Bool.{cases_eq, cases_lt}
 use Rattle.std.proofs.lemmas.List.{length-set, length-replicate, get_or-set_same, get_or-set_other, get_or-replicate, get_or_past}
-use Rattle.std.proofs.lemmas.Option.{none-some}
+use Rattle.std.proofs.lemmas.Option.{none-some, same_Some}
 use Rattle.aql_base.specs.Bags.{SameBag}
 use Rattle.aql_base.specs.BagLaws.{SameBag-trans}
 use Rattle.span_token.specs.Documents.{Doc as Document}
 use Rattle.row_values.specs.Rows.{RowList}
-use Rattle.algebra.specs.Needed.{IsNeeded}
+use Rattle.algebra.specs.ItemLaws.{place_of, place-below, at-each}
+use Rattle.algebra.specs.Items.{Place, item_count, item_at}
 use Rattle.algebra.specs.Nodes.{IsPlan}
 use Rattle.algebra.specs.Plans.{Parts}
 use Rattle.algebra.specs.Values.{val}
 use Rattle.run_core.specs.declared.event.Event.{Event}
 use Rattle.run_core.specs.declared.event.Event.TheVariants.{Claim, Publish, Late}
-use Rattle.run_core.specs.Boards.{Standing, State, Place, untouched, output_nodes, item_count, fresh, standing, published_on}
+use Rattle.run_core.specs.Boards.{Standing, State, IsSized, untouched, fresh, standing, published_on}
 use Rattle.run_core.specs.Events.{MayClaim, MayPublish, IsLegal, item_of, after}
-use Rattle.run_core.specs.PlaceLaws.{same_some, place_of, place-below, at-each}
-use Rattle.run_core.specs.Promises.{IsNeededAt, IsValueAt, Keeps}
+use Rattle.run_core.specs.Promises.{IsNeededAt, IsValueAt, HoldsValues, Keeps}
+use Rattle.run_core.specs.Wanted.{IsWanted}
 use Rattle.run_core.specs.WantedLaws.{Agrees, wanted-needed, ready-value}
-
--- there is a standing for each item
-abbrev pub IsSized : State → Type 0
-IsSized board = length board.items ≡ item_count board.plan board.docs
 
 -- an item of the list that was written, or another one
 set_cases : (items : List Standing) (i j : ℕ) (put : Standing) → j < length items
@@ -62,6 +59,31 @@ module _ (board : State) (worker item : ℕ) (rows : Option RowList) (below : it
     | inr there ↦ inr (there.0, ap (λ (s : Standing). s.rows) there.1)
   ]
 
+-- an event changes no item but its own
+pub standing-after : (board : State) (event : Event) (rows : Option RowList) (i : ℕ) → i ≢ item_of event → standing (after board event rows) i ≡ standing board i
+standing-after board (Claim worker item) rows i other = get_or-set_other board.items item i (record (standing board item) { claim = Some worker }) untouched other
+standing-after board (Publish worker item) rows i other = get_or-set_other board.items item i (record (standing board item) { rows = rows }) untouched other
+standing-after board (Late worker item) rows i other = refl
+
+-- at its own a claim sets the claim, and a publication the rows
+pub claim-here : (board : State) (worker item : ℕ) (rows : Option RowList) → item < length board.items
+    → standing (after board (Claim worker item) rows) item ≡ record (standing board item) { claim = Some worker }
+claim-here board worker item rows below = get_or-set_same board.items item (record (standing board item) { claim = Some worker }) untouched below
+
+pub publish-here : (board : State) (worker item : ℕ) (rows : Option RowList) → item < length board.items
+    → standing (after board (Publish worker item) rows) item ≡ record (standing board item) { rows = rows }
+publish-here board worker item rows below = get_or-set_same board.items item (record (standing board item) { rows = rows }) untouched below
+
+-- what is published after it: the same as before, but of its own item
+pub published-after : (board : State) (event : Event) (rows : Option RowList) (d n : ℕ) → item_at board.plan d n ≢ item_of event
+    → published_on (after board event rows) d n ≡ published_on board d n
+published-after board event rows d n other = ap (λ (s : Standing). s.rows) (standing-after board event rows (item_at board.plan d n) other)
+
+-- and what is claimed
+pub claimed-after : (board : State) (event : Event) (rows : Option RowList) (i : ℕ) → i ≢ item_of event
+    → (standing (after board event rows) i).claim ≡ (standing board i).claim
+claimed-after board event rows i other = ap (λ (s : Standing). s.claim) (standing-after board event rows i other)
+
 -- the item of a legal event is one of the items
 pub claimed-below : (board : State) (item : ℕ) → IsSized board → MayClaim board item → item < length board.items
 claimed-below board item sized may = omega (arith, sized, place-below board.plan board.docs item may.place)
@@ -88,13 +110,6 @@ sized-after board (Claim worker item) rows sized = length-set board.items item (
 sized-after board (Publish worker item) rows sized = length-set board.items item (record (standing board item) { rows = rows }) ∙ sized
 sized-after board (Late worker item) rows sized = sized
 
--- what is kept by each event: each published item holds its value and is needed, and each claimed one is needed
-pub record Holds (board : State) : Type 0 where
-  pub sized : IsSized board
-  pub values : (i : ℕ) (place : Place board.plan board.docs i) (list : RowList) → (standing board i).rows ≡ Some list → IsValueAt board i place list
-  pub published : (i : ℕ) (place : Place board.plan board.docs i) (list : RowList) → (standing board i).rows ≡ Some list → IsNeededAt board i place
-  pub claimed : (i : ℕ) (place : Place board.plan board.docs i) (worker : ℕ) → (standing board i).claim ≡ Some worker → IsNeededAt board i place
-
 untouched_all : (n i : ℕ) → get_or (replicate n untouched) i untouched ≡ untouched
 untouched_all n i = elim (cases_lt i n) [
   | inl below ↦ get_or-replicate n i untouched untouched below
@@ -110,62 +125,69 @@ claim-fresh plan docs i = ap (λ (s : Standing). s.claim) (untouched_all (item_c
 pub sized-fresh : (plan : Parts) (docs : List Document) → IsSized (fresh plan docs)
 sized-fresh plan docs = length-replicate (item_count plan docs) untouched
 
-pub holds-fresh : (plan : Parts) (docs : List Document) → Holds (fresh plan docs)
+pub holds-fresh : (plan : Parts) (docs : List Document) → HoldsValues (fresh plan docs)
 holds-fresh plan docs = record {
   sized = sized-fresh plan docs;
-  values = λ i place list is. absurd (none-some list (sym (rows-fresh plan docs i) ∙ is));
-  published = λ i place list is. absurd (none-some list (sym (rows-fresh plan docs i) ∙ is));
-  claimed = λ i place worker is. absurd (none-some worker (sym (claim-fresh plan docs i) ∙ is));
+  values = λ i list is. absurd (none-some list (sym (rows-fresh plan docs i) ∙ is));
+  published = λ i list is. absurd (none-some list (sym (rows-fresh plan docs i) ∙ is));
+  claimed = λ i worker is. absurd (none-some worker (sym (claim-fresh plan docs i) ∙ is));
 }
+
+-- the value of an item, at its place
+pub value-at : (plan : Parts) (docs : List Document) (i : ℕ) (list : RowList) → IsValueAt plan docs i list → (place : Place plan docs i)
+    → SameBag list.rows (val plan.lists place.doc plan.nodes place.n)
+value-at plan docs i list value place = at-each plan docs (λ doc n. SameBag list.rows (val plan.lists doc plan.nodes n)) i i refl value.place place value.same
 
 -- so what is published on a document are the values there
-pub agrees-on : (board : State) (d : ℕ) (doc : Document) → Holds board → slice_get board.docs d ≡ Some doc → Agrees board.plan doc (published_on board d)
-agrees-on board d doc holds doc_is = record {
-  same = λ n list below is. holds.values (d * length board.plan.nodes + n) (place_of board.plan board.docs d n doc doc_is below) list is;
+pub agrees-holding : (board : State) → HoldsValues board → (d : ℕ) (doc : Document) → slice_get board.docs d ≡ Some doc → Agrees board.plan doc (published_on board d)
+agrees-holding board holds d doc doc_is = record {
+  same = λ n list below is.
+      value-at board.plan board.docs (item_at board.plan d n) list (holds.values (item_at board.plan d n) list is) (place_of board.plan board.docs d n doc doc_is below);
 }
 
-module _ (board : State) (planned : IsPlan board.plan.nodes) (holds : Holds board) where
-  abbrev Needed : Document → ℕ → Type 0
-  Needed doc n = IsNeeded board.plan.lists doc board.plan.nodes (output_nodes board.plan) n
+module _ (board : State) (planned : IsPlan board.plan.nodes) (holds : HoldsValues board) where
+  -- a wanted item is needed
+  needed_at : (item : ℕ) (place : Place board.plan board.docs item) → IsWanted board.plan (published_on board place.d) place.n → IsNeededAt board.plan board.docs item
+  needed_at item place wanted = record {
+    place = place;
+    needed = wanted-needed board.plan place.doc planned (published_on board place.d) (agrees-holding board holds place.d place.doc place.doc_is) place.n wanted;
+  }
 
-  holds_claim : (worker item : ℕ) → MayClaim board item → Holds (after board (Claim worker item) None)
+  holds_claim : (worker item : ℕ) → MayClaim board item → HoldsValues (after board (Claim worker item) None)
   holds_claim worker item may =
       let below = claimed-below board item holds.sized may in
-      let needed : Needed may.place.doc may.place.n =
-      wanted-needed board.plan may.place.doc planned (published_on board may.place.d) (agrees-on board may.place.d may.place.doc holds may.place.doc_is) may.place.n may.wanted in
       record {
         sized = sized-after board (Claim worker item) None holds.sized;
-        values = λ i place list is. holds.values i place list (sym (rows-after_claim board worker item None below i) ∙ is);
-        published = λ i place list is. holds.published i place list (sym (rows-after_claim board worker item None below i) ∙ is);
-        claimed = λ i place who is. elim (claim-after_claim board worker item None below i) [
-          | inl here ↦ at-each board.plan board.docs Needed item i (sym here.0) may.place place needed
-          | inr there ↦ holds.claimed i place who (sym there.1 ∙ is)
+        values = λ i list is. holds.values i list (sym (rows-after_claim board worker item None below i) ∙ is);
+        published = λ i list is. holds.published i list (sym (rows-after_claim board worker item None below i) ∙ is);
+        claimed = λ i who is. elim (claim-after_claim board worker item None below i) [
+          | inl here ↦ subst (λ (k : ℕ). IsNeededAt board.plan board.docs k) (sym here.0) (needed_at item may.place may.wanted)
+          | inr there ↦ holds.claimed i who (sym there.1 ∙ is)
         ];
       }
 
-  holds_publish : (worker item : ℕ) (rows : RowList) → MayPublish board item rows → Holds (after board (Publish worker item) (Some rows))
+  holds_publish : (worker item : ℕ) (rows : RowList) → MayPublish board item rows → HoldsValues (after board (Publish worker item) (Some rows))
   holds_publish worker item rows may =
       let below = published-below board item rows holds.sized may in
-      let published = published_on board may.place.d in
-      let agrees = agrees-on board may.place.d may.place.doc holds may.place.doc_is in
-      let needed : Needed may.place.doc may.place.n = wanted-needed board.plan may.place.doc planned published agrees may.place.n may.wanted in
-      let value : SameBag rows.rows (val board.plan.lists may.place.doc board.plan.nodes may.place.n) =
-      SameBag-trans _ _ _ may.bag (ready-value board.plan may.place.doc planned published agrees may.place.n may.place.node may.place.node_is may.ready) in
+      let agrees = agrees-holding board holds may.place.d may.place.doc may.place.doc_is in
+      let value : IsValueAt board.plan board.docs item rows = record {
+        place = may.place;
+        same = SameBag-trans _ _ _ may.bag (ready-value board.plan may.place.doc planned (published_on board may.place.d) agrees may.place.n may.place.node may.place.node_is may.ready);
+      } in
       record {
         sized = sized-after board (Publish worker item) (Some rows) holds.sized;
-        values = λ i place list is. elim (rows-after_publish board worker item (Some rows) below i) [
-          | inl here ↦ subst (λ (l : RowList). SameBag l.rows (val board.plan.lists place.doc board.plan.nodes place.n)) (same_some rows list (sym here.1 ∙ is))
-              (at-each board.plan board.docs (λ doc n. SameBag rows.rows (val board.plan.lists doc board.plan.nodes n)) item i (sym here.0) may.place place value)
-          | inr there ↦ holds.values i place list (sym there.1 ∙ is)
+        values = λ i list is. elim (rows-after_publish board worker item (Some rows) below i) [
+          | inl here ↦ subst (λ (l : RowList). IsValueAt board.plan board.docs i l) (same_Some rows list (sym here.1 ∙ is)) (subst (λ (k : ℕ). IsValueAt board.plan board.docs k rows) (sym here.0) value)
+          | inr there ↦ holds.values i list (sym there.1 ∙ is)
         ];
-        published = λ i place list is. elim (rows-after_publish board worker item (Some rows) below i) [
-          | inl here ↦ at-each board.plan board.docs Needed item i (sym here.0) may.place place needed
-          | inr there ↦ holds.published i place list (sym there.1 ∙ is)
+        published = λ i list is. elim (rows-after_publish board worker item (Some rows) below i) [
+          | inl here ↦ subst (λ (k : ℕ). IsNeededAt board.plan board.docs k) (sym here.0) (needed_at item may.place may.wanted)
+          | inr there ↦ holds.published i list (sym there.1 ∙ is)
         ];
-        claimed = λ i place who is. holds.claimed i place who (sym (claim-after_publish board worker item (Some rows) below i) ∙ is);
+        claimed = λ i who is. holds.claimed i who (sym (claim-after_publish board worker item (Some rows) below i) ∙ is);
       }
 
-  pub holds-after : (event : Event) (rows : Option RowList) → IsLegal board event rows → Holds (after board event rows)
+  pub holds-after : (event : Event) (rows : Option RowList) → IsLegal board event rows → HoldsValues (after board event rows)
   holds-after (Claim worker item) None legal = holds_claim worker item legal
   holds-after (Claim worker item) (Some rows) legal = absurd legal
   holds-after (Publish worker item) None legal = absurd legal

@@ -4,8 +4,8 @@ use Rattle.row_values.specs.Rows.{RowList}
 use Rattle.aql_typed.specs.Meaning.{Rows}
 use Rattle.algebra.specs.declared.node.Node.{Node}
 use Rattle.algebra.specs.Inputs.{left_input, right_input, is_conditional}
+use Rattle.algebra.specs.Items.{output_nodes}
 use Rattle.algebra.specs.Plans.{Parts}
-use Rattle.run_core.specs.Boards.{output_nodes}
 
 -- published rows: none where nothing is published
 abbrev pub rows_of : Option RowList → Rows

@@ -1,12 +1,12 @@
 -- Laws of what is wanted and ready on a document: where what is published holds its values, only needed nodes are wanted, a
 -- ready node gives its value, and where a needed node isn't published some wanted one is ready.
 use Rattle.std.proofs.Common.{◌≡◌, ◌≢◌, ◌⊎◌, inl, inr, ℕ, zero, suc, ◌<◌, Bool, true, false, List, [], ◌∷◌, length, get_or, refl, sym, ap, subst, ◌∙◌, arith, Option, Some, None, true≢false}
-use Rattle.std.specs.Prelude.{IsSome, is_some, All, slice_get}
+use Rattle.std.specs.Prelude.{IsSome, is_some, All, Contains, slice_get}
 use Rattle.std.proofs.lemmas.List.Elements.{All-contains, All-map}
 use Rattle.std.proofs.lemmas.List.Sorted.{length_permutation}
-use Rattle.std.proofs.lemmas.Option.{none-some, slice_get_within, get_or_from_slice_get, slice_get-get_or}
+use Rattle.std.proofs.lemmas.Option.{none-some, same_Some, slice_get_within, get_or_from_slice_get, slice_get-get_or}
 use Rattle.aql_base.specs.Bags.{SameBag}
-use Rattle.aql_base.specs.BagLaws.{SameBag-refl, SameBag-trans, SameBag-is}
+use Rattle.aql_base.specs.BagLaws.{SameBag-refl}
 use Rattle.span_token.specs.Documents.{Doc as Document}
 use Rattle.row_values.specs.Rows.{RowList}
 use Rattle.aql_typed.specs.Meaning.{Rows}
@@ -16,19 +16,17 @@ use Rattle.algebra.specs.declared.output.PlanOut.{PlanOut}
 use Rattle.algebra.specs.FoldLaws.{length-each}
 use Rattle.algebra.specs.Folds.{of_input}
 use Rattle.algebra.specs.Growth.{IsAt}
-use Rattle.algebra.specs.GrowthLaws.{is-at, val-is}
+use Rattle.algebra.specs.GrowthLaws.{is-at}
 use Rattle.algebra.specs.Inputs.{left_input, right_input, is_conditional, IsAmong}
-use Rattle.algebra.specs.JoiningLaws.{conditional-nil}
+use Rattle.algebra.specs.ItemLaws.{value-given}
+use Rattle.algebra.specs.Items.{output_nodes}
 use Rattle.algebra.specs.Needed.{Asks, IsNeeded}
 use Rattle.algebra.specs.Needed as needs
 use Rattle.algebra.specs.Nodes.{IsPlan}
-use Rattle.algebra.specs.OperatorLaws.{op-SameBag}
 use Rattle.algebra.specs.Operators.{op}
 use Rattle.algebra.specs.Plans.{Parts, AreOutputs}
 use Rattle.algebra.specs.Shapes.{shape_by, no_shape, shapes_of}
-use Rattle.algebra.specs.Values.{all_values, val, value_after}
-use Rattle.run_core.specs.Boards.{output_nodes}
-use Rattle.run_core.specs.PlaceLaws.{same_some}
+use Rattle.algebra.specs.Values.{all_values, val}
 use Rattle.run_core.specs.Wanted.{rows_of, given, AsksFor, IsWanted, output, input, IsReady}
 
 no_rows : (rows : Rows) → SameBag rows [] → rows ≡ []
@@ -51,7 +49,7 @@ Lacks published o = (i : ℕ) × (o ≡ Some i) × (published i ≡ None)
 
 there_or_lacks : (published : ℕ → Option RowList) (i : ℕ) (found : Option RowList) → published i ≡ found → IsThere published (Some i) ⊎ Lacks published (Some i)
 there_or_lacks published i None is = inr (i, refl, is)
-there_or_lacks published i (Some list) is = inl (λ j e. subst (λ (k : ℕ). IsSome (published k)) (same_some i j e) (rw is refl))
+there_or_lacks published i (Some list) is = inl (λ j e. subst (λ (k : ℕ). IsSome (published k)) (same_Some i j e) (rw is refl))
 
 is_there : (published : ℕ → Option RowList) (o : Option ℕ) → IsThere published o ⊎ Lacks published o
 is_there published None = inl (λ i e. absurd (none-some i e))
@@ -78,6 +76,52 @@ pub record Ready (plan : Parts) (published : ℕ → Option RowList) : Type 0 wh
 -- each published list of rows is the node's value, as a bag
 pub record Agrees (plan : Parts) (doc : Document) (published : ℕ → Option RowList) : Type 0 where
   pub same : (n : ℕ) (list : RowList) → n < length plan.nodes → published n ≡ Some list → SameBag list.rows (val plan.lists doc plan.nodes n)
+
+-- what is wanted is the least set with its rules: any other one with them has it all
+pub wanted-least : (plan : Parts) (published : ℕ → Option RowList) (P : ℕ → Type 0)
+    → ((n : ℕ) → Contains (output_nodes plan) n → P n) → ((k n : ℕ) (node : Node) → slice_get plan.nodes k ≡ Some node → AsksFor plan published node n → P k → P n)
+    → (n : ℕ) → IsWanted plan published n → P n
+wanted-least plan published P shown asked _ (output n listed) = shown n listed
+wanted-least plan published P shown asked _ (input k n node is asks wanted) = asked k n node is asks (wanted-least plan published P shown asked k wanted)
+
+module _ (plan : Parts) (old new : ℕ → Option RowList) where
+  same_given : (o : Option ℕ) → ((i : ℕ) → o ≡ Some i → new i ≡ old i) → given plan new o ≡ given plan old o
+  same_given None same = refl
+  same_given (Some i) same = ap rows_of (same i refl)
+
+  -- whether a node is ready goes by what is published of its inputs alone
+  pub ready-same : (node : Node) → ((i : ℕ) → left_input node ≡ Some i → new i ≡ old i) → ((i : ℕ) → right_input node ≡ Some i → new i ≡ old i)
+      → IsReady plan old node → IsReady plan new node
+  ready-same node left right ready i (inl e) = subst (λ (o : Option RowList). IsSome o) (sym (left i e)) (ready i (inl e))
+  ready-same node left right ready i (inr e) =
+      subst (λ (o : Option RowList). IsSome o) (sym (right i e.0)) (ready i (inr (e.0, λ conditional none. e.1 conditional (same_given (left_input node) left ∙ none))))
+
+module _ (plan : Parts) (old new : ℕ → Option RowList) (more : (n : ℕ) (list : RowList) → old n ≡ Some list → new n ≡ Some list) where
+  given_more : (o : Option ℕ) → given plan old o ≢ [] → given plan new o ≢ []
+  given_more None some none = some none
+  given_more (Some i) some none = by_found (old i) refl where
+    by_found : (found : Option RowList) → old i ≡ found → ⊥
+    by_found None is = some (ap rows_of is)
+    by_found (Some list) is = some (ap rows_of is ∙ (sym (ap rows_of (more i list is)) ∙ none))
+
+  asks_more : (node : Node) (i : ℕ) → AsksFor plan old node i → AsksFor plan new node i
+  asks_more node i (inl e) = inl e
+  asks_more node i (inr e) = inr (e.0, λ conditional. given_more (left_input node) (e.1 conditional))
+
+  -- what is wanted stays wanted when more is published
+  pub wanted-grows : (n : ℕ) → IsWanted plan old n → IsWanted plan new n
+  wanted-grows _ (output n listed) = output n listed
+  wanted-grows _ (input k n node is asks wanted) = input k n node is (asks_more node n asks) (wanted-grows k wanted)
+
+  stays : (i : ℕ) → IsSome (old i) → new i ≡ old i
+  stays i there = let found = list_of (old i) there in more i found.0 found.1 ∙ sym found.1
+
+  -- and a ready node stays ready
+  pub ready-grows : (node : Node) → IsReady plan old node → IsReady plan new node
+  ready-grows node ready i (inl e) = subst (λ (o : Option RowList). IsSome o) (sym (stays i (ready i (inl e)))) (ready i (inl e))
+  ready-grows node ready i (inr e) =
+      let asks : AsksFor plan old node i = inr (e.0, λ conditional none. e.1 conditional (same_given plan old new (left_input node) (λ j is. stays j (ready j (inl is))) ∙ none)) in
+      subst (λ (o : Option RowList). IsSome o) (sym (stays i (ready i asks))) (ready i asks)
 
 module _ (plan : Parts) (planned : IsPlan plan.nodes) (published : ℕ → Option RowList) where
   at : (k : ℕ) (node : Node) → slice_get plan.nodes k ≡ Some node → IsAt plan.nodes k node
@@ -132,46 +176,22 @@ module _ (plan : Parts) (doc : Document) (planned : IsPlan plan.nodes) (publishe
   wanted-needed _ (input k n node is asks wanted) = needs.input k n node is (asks_too k n node is asks) (wanted-needed k wanted)
 
   -- an input that is published is given as it is worth
-  given_left : (k : ℕ) (o : Option ℕ) → IsAmong k o → k < length plan.nodes → IsThere published o → SameBag (given plan published o) (of_input [] worths o)
-  given_left k None among below there = SameBag-refl []
-  given_left k (Some j) among below there =
+  given_worth : (k : ℕ) (o : Option ℕ) → IsAmong k o → k < length plan.nodes → IsThere published o → SameBag (given plan published o) (of_input [] worths o)
+  given_worth k None among below there = SameBag-refl []
+  given_worth k (Some j) among below there =
       let found = list_of (published j) (there j refl) in
       subst (λ (rows : Rows). SameBag rows (get_or worths j [])) (sym (ap rows_of found.1)) (agreed k j found.0 among below found.1)
 
   -- a ready node gives of what is published what it is worth
-  given_all : (k : ℕ) (node : Node) → slice_get plan.nodes k ≡ Some node → IsThere published (left_input node) → IsThere published (right_input node)
-      → SameBag (op plan.lists doc node (given plan published (left_input node)) (given plan published (right_input node))) (val plan.lists doc plan.nodes k)
-  given_all k node is left right =
-      let below = slice_get_within plan.nodes k node is in
-      let here = at plan planned published k node is in
-      SameBag-trans _ _ _
-      (op-SameBag plan.lists doc node (given plan published (left_input node)) (of_input [] worths (left_input node)) (given plan published (right_input node)) (of_input [] worths (right_input node))
-      (given_left k (left_input node) here.left_lower below left) (given_left k (right_input node) here.right_lower below right))
-      (SameBag-is _ _ (sym (val-is plan.lists doc plan.nodes k node planned below (sym (get_or_from_slice_get plan.nodes k node node is)))))
-
-  -- a conditional join that doesn't ask for its right input has no row, and is worth none
-  given_none : (k : ℕ) (node : Node) → slice_get plan.nodes k ≡ Some node → is_conditional node ≡ true → IsThere published (left_input node) → given plan published (left_input node) ≡ []
-      → SameBag (op plan.lists doc node (given plan published (left_input node)) (given plan published (right_input node))) (val plan.lists doc plan.nodes k)
-  given_none k node is conditional left none =
-      let below = slice_get_within plan.nodes k node is in
-      let here = at plan planned published k node is in
-      let same = given_left k (left_input node) here.left_lower below left in
-      let worth_none : of_input [] worths (left_input node) ≡ [] = no_row_after _ (subst (λ (rows : Rows). SameBag rows (of_input [] worths (left_input node))) none same) in
-      let first : op plan.lists doc node (given plan published (left_input node)) (given plan published (right_input node)) ≡ [] =
-      ap (λ (rows : Rows). op plan.lists doc node rows (given plan published (right_input node))) none ∙ conditional-nil plan.lists doc node (given plan published (right_input node)) conditional in
-      let second : value_after plan.lists doc plan.nodes node ≡ [] =
-      ap (λ (rows : Rows). op plan.lists doc node rows (of_input [] worths (right_input node))) worth_none ∙ conditional-nil plan.lists doc node (of_input [] worths (right_input node)) conditional in
-      SameBag-is _ _ (first ∙ sym (val-is plan.lists doc plan.nodes k node planned below (sym (get_or_from_slice_get plan.nodes k node node is)) ∙ second))
-
-  ready_by : (k : ℕ) (node : Node) → slice_get plan.nodes k ≡ Some node → IsReady plan published node → (b : Bool) → is_conditional node ≡ b → (rows : Rows) → given plan published (left_input node) ≡ rows
-      → SameBag (op plan.lists doc node (given plan published (left_input node)) (given plan published (right_input node))) (val plan.lists doc plan.nodes k)
-  ready_by k node is ready false plain rows are = given_all k node is (λ i e. ready i (inl e)) (λ i e. ready i (inr (e, λ conditional. absurd (true≢false (sym conditional ∙ plain)))))
-  ready_by k node is ready true conditional [] none = given_none k node is conditional (λ i e. ready i (inl e)) none
-  ready_by k node is ready true conditional (row ∷ rows) are = given_all k node is (λ i e. ready i (inl e)) (λ i e. ready i (inr (e, λ c none. cons_nil row rows (sym are ∙ none))))
-
   pub ready-value : (k : ℕ) (node : Node) → slice_get plan.nodes k ≡ Some node → IsReady plan published node
       → SameBag (op plan.lists doc node (given plan published (left_input node)) (given plan published (right_input node))) (val plan.lists doc plan.nodes k)
-  ready-value k node is ready = ready_by k node is ready (is_conditional node) refl (given plan published (left_input node)) refl
+  ready-value k node is ready =
+      let below = slice_get_within plan.nodes k node is in
+      let here = at plan planned published k node is in
+      value-given plan.lists doc plan.nodes k node planned is (given plan published (left_input node)) (given plan published (right_input node)) (record {
+        left_is = given_worth k (left_input node) here.left_lower below (λ i e. ready i (inl e));
+        right_is = λ asked. given_worth k (right_input node) here.right_lower below (λ i e. ready i (inr (e, asked)));
+      })
 
   -- where a wanted node needs an input, that is wanted too, or there is a gap
   wanted_right : (k i : ℕ) (node : Node) → slice_get plan.nodes k ≡ Some node → IsWanted plan published k → right_input node ≡ Some i → (b : Bool) → is_conditional node ≡ b

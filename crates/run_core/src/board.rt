@@ -1,11 +1,12 @@
 ghost use Rattle.std.specs.Prelude.{◌≡◌, ◌<◌, ◌^◌, length, replicate, map, option_map, vec_len, IfOk, IfSome, IfNone};
 ghost use Rattle.std.specs.Arc.{arc_value};
+ghost use Rattle.algebra.specs.Items.{item_count};
 ghost use Rattle.algebra.specs.Nodes.{IsPlan};
 ghost use Rattle.algebra.specs.Plans.{AreOutputs};
-ghost use Rattle.run_core.specs.Boards.{Place, fresh, item_count, standing, untouched};
+ghost use Rattle.run_core.specs.Boards.{fresh, standing, untouched};
 ghost use Rattle.run_core.specs.Events.{IsLegal, after, item_of, items_after};
 ghost use Rattle.run_core.specs.Histories.{AreLegal, IsReached, IsReachedBy, after_all, happening};
-ghost use Rattle.run_core.specs.Promises.{HasOnce, IsNeededAt, IsSound, IsValueAt, Keeps, MayGoOn};
+ghost use Rattle.run_core.specs.Promises.{IsNeededAt, IsSound, IsValueAt, Keeps, MayGoOn};
 
 use crate::Event;
 use crate::spot::Spot;
@@ -46,7 +47,7 @@ impl<'d> Model for Board<'d> {
 }
 
 impl<'d> Board<'d> {
-    /// The board with nothing claimed and nothing published. It takes two words an item.
+    /// The board with nothing claimed and nothing published. It takes three words an item.
     pub fn new(
         alloc: Global,
         plan: &'d Plan,
@@ -76,7 +77,7 @@ impl<'d> Board<'d> {
     pub fn claimed(&self, item: u32) -> Option<u32>
         requires in_range { item < item_count self.now.plan self.now.docs }
         ensures claim { result ≡ (standing self.now item).claim }
-        ensures needed { IfSome result (λ worker. (place : Place self.now.plan self.now.docs item) → IsNeededAt self.now item place) }
+        ensures needed { IfSome result (λ worker. IsNeededAt self.now.plan self.now.docs item) }
     {
         self.spots[item as usize].claim()
     }
@@ -85,9 +86,9 @@ impl<'d> Board<'d> {
     pub fn published(&self, item: u32) -> Option<&Rows<'d>>
         requires in_range { item < item_count self.now.plan self.now.docs }
         ensures rows { option_map (λ rows. rows.now) result ≡ (standing self.now item).rows }
-        ensures value { IfSome result (λ rows. (place : Place self.now.plan self.now.docs item) → IsValueAt self.now item place rows.now) }
-        ensures needed { IfSome result (λ rows. (place : Place self.now.plan self.now.docs item) → IsNeededAt self.now item place) }
-        ensures goes_on { IfNone result ((place : Place self.now.plan self.now.docs item) → IsNeededAt self.now item place → MayGoOn self.now) }
+        ensures value { IfSome result (λ rows. IsValueAt self.now.plan self.now.docs item rows.now) }
+        ensures needed { IfSome result (λ rows. IsNeededAt self.now.plan self.now.docs item) }
+        ensures goes_on { IfNone result (IsNeededAt self.now.plan self.now.docs item → MayGoOn self.now) }
     {
         self.spots[item as usize].rows()
     }
@@ -146,7 +147,6 @@ pub fn replay<'d>(
     requires legal { AreLegal (fresh plan.now docs.now) (map (happening arc_value) events.items) }
     ensures after { IfOk result (λ board. board ≡ after_all (fresh plan.now docs.now) (map (happening arc_value) events.entry.items)) }
     ensures reached { IfOk result (λ board. IsReachedBy board (map (happening arc_value) events.entry.items)) }
-    ensures once { IfOk result (λ board. HasOnce board (map (happening arc_value) events.entry.items)) }
     ensures sound { IfOk result (λ board. IsSound board) }
 {
     let mut board = Board::new(alloc, plan, docs)?;

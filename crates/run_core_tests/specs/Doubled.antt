@@ -1,7 +1,7 @@
 -- A plan that shows the row of the document twice, and events that publish its items in the order of their numbers.
 use Rattle.std.specs.Prelude.{ℕ, ◌≡◌, ◌≢◌, ◌<◌, List, [], ◌∷◌, Option, Some, None, IsSome, Contains, length, map, true, refl}
 use Rattle.std.proofs.Common.{get_or, inl, inr, ap, sym, subst, arith, ◌≤◌}
-use Rattle.std.proofs.lemmas.Option.{none-some}
+use Rattle.std.proofs.lemmas.Option.{none-some, same_Some}
 use Rattle.aql_base.specs.BagLaws.{SameBag-refl}
 use Rattle.span_token.specs.Documents.{Doc as Document, whole_of}
 use Rattle.row_values.specs.Datums.{span}
@@ -10,12 +10,12 @@ use Rattle.scalar_ops.specs.Tables.{Lists}
 use Rattle.algebra.specs.declared.node.Node.{Node}
 use Rattle.algebra.specs.declared.node.Node.TheVariants.{Doc, Union}
 use Rattle.algebra.specs.declared.output.PlanOut.{PlanOut}
+use Rattle.algebra.specs.Items.{output_nodes}
 use Rattle.algebra.specs.Plans.{Parts}
 use Rattle.run_core.specs.declared.event.Event.TheVariants.{Claim, Publish, Late}
-use Rattle.run_core.specs.Boards.{State, fresh, output_nodes, published_on}
+use Rattle.run_core.specs.Boards.{State, fresh, published_on}
 use Rattle.run_core.specs.Events.{IsLegal, MayClaim, MayPublish, after}
 use Rattle.run_core.specs.Histories.{Happening, AreLegal, after_all}
-use Rattle.run_core.specs.PlaceLaws.{same_some}
 use Rattle.run_core.specs.Wanted.{AsksFor, IsWanted, output, input, IsReady}
 
 -- the row of the document, and the same row twice
@@ -53,8 +53,8 @@ module _ (lists : Lists) (outputs : List PlanOut) (shown : Contains (map (λ out
   ready_0 published i (inr e) = absurd (none-some i e.0)
 
   ready_1 : (published : ℕ → Option RowList) → IsSome (published 0) → IsReady plan published (Union 0 0)
-  ready_1 published there i (inl e) = subst (λ (k : ℕ). IsSome (published k)) (same_some 0 i e) there
-  ready_1 published there i (inr e) = subst (λ (k : ℕ). IsSome (published k)) (same_some 0 i e.0) there
+  ready_1 published there i (inl e) = subst (λ (k : ℕ). IsSome (published k)) (same_Some 0 i e) there
+  ready_1 published there i (inr e) = subst (λ (k : ℕ). IsSome (published k)) (same_Some 0 i e.0) there
 
   legal : AreLegal (fresh plan (doc ∷ [])) (doubled_events doc)
   legal = (

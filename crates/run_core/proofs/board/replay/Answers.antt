@@ -1,8 +1,7 @@
-use Rattle.std.proofs.Common.{rules, Global, map, option_map}
+use Rattle.std.proofs.Common.{rules, Global}
 use Rattle.std.proofs.lemmas.Iterator.Adapters.{YieldsList-from_vec}
 use Rattle.std.proofs.lemmas.Iterator.Consumers.{YieldsList-turn, YieldsList-so_far, YieldsList-end}
 use Rattle.std.specs.Arc.{arc_value}
-use Rattle.run_core.specs.HistoryLaws.{has-once}
 use Rattle.run_core.proofs.Replaying.{next_legal, next_board, reached_all}
 use Rattle.run_core.proofs.board.replay.Goals as goal
 
@@ -22,6 +21,3 @@ returns-clause-reached c =
     let list = YieldsList-from_vec {Z = Global} c.args.events.items (search rules) (search rules) in
     let end = YieldsList-end list c.loop-event.yielded c.loop-event.event-iterator c.loop-event.yielded_by c.next.result c.next.new.self c.in-None.is c.next.ensures.steps in
     reached_all arc_value c.args.plan.now c.args.docs.now c.loop-event.yielded c.loop-event.board c.loop-event.invariant.so_far c.args.events.items end.0 c.requires.legal
-
-pub returns-clause-once : goal.returns-clause-once
-returns-clause-once c = has-once c.loop-event.board (map (λ pair. record { event = pair.0; rows = option_map arc_value pair.1 }) c.args.events.items) (returns-clause-reached c)
