@@ -2,7 +2,7 @@
 -- what it asks for.
 use Rattle.std.proofs.Common.{◌≡◌, ◌⊎◌, inl, inr, ℕ, zero, suc, ◌+◌, ◌*◌, ◌/◌, ◌%◌, ◌<◌, Bool, true, false, List, [], ◌∷◌, length, get_or, refl, sym, ap, subst, ◌∙◌, arith, Option, Some, true≢false}
 use Rattle.std.specs.Prelude.{slice_get}
-use Rattle.std.proofs.Math.Nat.{mul_comm, mod-add-div}
+use Rattle.std.proofs.Math.Nat.{mul_comm, mul-zero, mod-add-div}
 use Rattle.std.proofs.lemmas.Nat.{mul-add-lt, div-mul-add, mod-mul-add, div_below, mod_below}
 use Rattle.std.proofs.lemmas.Option.{same_Some, slice_get_within, slice_get_cases, slice_get-get_or, get_or_from_slice_get}
 use Rattle.aql_base.specs.Bags.{SameBag}
@@ -28,8 +28,11 @@ use Rattle.algebra.specs.Values.{all_values, val}
 
 -- where something is below a product, the factor isn't 0
 some_factor : (i m k : ℕ) → i < m * k → 0 < k
-some_factor i m zero below = absurd (omega (arith, below))
+some_factor i m zero below = absurd (omega (arith, below, mul-zero m))
 some_factor i m (suc k) below = omega arith
+
+divided : (i k : ℕ) → i ≡ i / k * k + i % k
+divided i k = omega (arith, mod-add-div i k, mul_comm k (i / k))
 
 cons_nil : {X : Type 0} (x : X) (xs : List X) → x ∷ xs ≡ [] → ⊥
 cons_nil x xs e = cc
@@ -56,11 +59,10 @@ module _ (plan : Parts) (docs : List Document) where
   -- each item has a place
   pub place-at : (i : ℕ) → i < item_count plan docs → Place plan docs i
   place-at i below =
-      let k = length plan.nodes in
-      let some : 0 < k = some_factor i (length docs) k below in
-      let found = document_at (i / k) (div_below i k (length docs) some below) in
-      let is : i ≡ item_at plan (i / k) (i % k) = omega (arith, mod-add-div i k, mul_comm k (i / k)) in
-      subst (Place plan docs) (sym is) (place_of (i / k) (i % k) found.0 found.1 (mod_below i k some))
+      let some = some_factor i (length docs) (length plan.nodes) below in
+      let found = document_at (i / length plan.nodes) (div_below i (length plan.nodes) (length docs) some below) in
+      subst (Place plan docs) (sym (divided i (length plan.nodes)))
+      (place_of (i / length plan.nodes) (i % length plan.nodes) found.0 found.1 (mod_below i (length plan.nodes) some))
 
   -- an item with a place is one of the items
   pub place-below : (i : ℕ) → Place plan docs i → i < item_count plan docs

@@ -88,7 +88,7 @@ module _ (plan : Parts) (docs : List Doc) (i : ℕ) (place : Place plan docs i) 
         let has = given_has (right_input place.node) right right_among is known in
         record { width = has.width; lies = has.lies; same = λ asked. has.same }
     known_right left right (inr without) known =
-        rw without.none (record {
+        rw without.right_absent (record {
           width = refl;
           lies = All-nil (All (IsOfDocument place.doc));
           same = λ asked. absurd (asked without.conditional (no_row (left_input place.node) left without.left_empty));

@@ -31,7 +31,7 @@ IsOfInput plan d input found = option_map (λ result. result.item) found ≡ opt
 pub record GoesWithout (node : Node) (left right : Option ItemRows) : Type 0 where
   pub conditional : is_conditional node ≡ true
   pub left_empty : IfSome left (λ result. result.rows.rows ≡ [])
-  pub none : right ≡ None
+  pub right_absent : right ≡ None
 
 -- item i is needed, and the results are those of its node's inputs on the same document
 pub record MayCompute (plan : Parts) (docs : List Doc) (i : ℕ) (left right : Option ItemRows) : Type 0 where

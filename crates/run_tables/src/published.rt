@@ -1,8 +1,10 @@
 ghost use Rattle.std.specs.Prelude.{◌≡◌, ◌<◌, ◌%◌, length, option_map, IfOk, IfSome};
 ghost use Rattle.std.specs.Arc.{arc_value};
+ghost use Rattle.algebra.specs.Folds.{of_input};
 ghost use Rattle.algebra.specs.Growth.{IsAt};
 ghost use Rattle.algebra.specs.Inputs.{IsAmong};
 ghost use Rattle.algebra.specs.Items.{Place, item_count};
+ghost use Rattle.algebra.specs.Shapes.{no_shape, shapes_of};
 ghost use Rattle.plan_operators.specs.Given.{input_rows};
 ghost use Rattle.run_tables.specs.Inputs.{rows_given};
 ghost use Rattle.run_tables.specs.Items.{IsResult, MayCompute};
@@ -146,12 +148,17 @@ fn rows_given<'r, 'd, W: Work>(
 {
     match found {
         Some(found) => Input::Lent(found.rows()),
-        None => {
-            let width = match input {
-                Some(i) => nodes.shape(i).width,
-                None => 0,
-            };
-            Input::Given(Rows::new(alloc, width))
-        }
+        None => Input::Given(Rows::new(alloc, width_of(nodes, input))),
+    }
+}
+
+/// The number of an input's columns.
+fn width_of(nodes: &Nodes, input: Option<u32>) -> u32
+    requires among { IsAmong (length nodes.now) input }
+    ensures { result ≡ (of_input no_shape (shapes_of nodes.now) input).width }
+{
+    match input {
+        Some(i) => nodes.shape(i).width,
+        None => 0,
     }
 }

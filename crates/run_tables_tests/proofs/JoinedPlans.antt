@@ -87,5 +87,5 @@ module _ (plan : Parts) (docs : List Document) (d first : ℕ) (doc : Document) 
     place = place (first + 3) 3 (Cross 1 2 true) refl refl;
     needed = needed_3;
     of_left = of_input found.item 1 of_left;
-    of_right = inr (record { conditional = refl; left_empty = no_rows found.rows.rows none; none = refl });
+    of_right = inr (record { conditional = refl; left_empty = no_rows found.rows.rows none; right_absent = refl });
   }

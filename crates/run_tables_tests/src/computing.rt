@@ -121,7 +121,7 @@ fn rows_of_joins<'d, W: Work>(
 }
 
 #[test]
-fn a_conditional_join_is_computed_without_its_right_input_where_its_left_one_is_empty(
+fn a_join_without_a_left_row_needs_no_right_result(
     rt: HostRuntime,
 ) -> Result<(), Fail> {
     let alloc = rt.alloc();
