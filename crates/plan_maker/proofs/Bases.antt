@@ -1,6 +1,6 @@
 -- The nodes of the views, one view after another, and of the outputs.
-use Rattle.std.proofs.Common.{◌≡◌, ◌∙◌, ℕ, zero, suc, ◌+◌, ◌<◌, ◌≤◌, inl, inr, List, [], ◌∷◌, ◌++◌, length, map, get_or, drop, refl, sym, ap, ap₂, subst, arith, Option, Some, None}
-use Rattle.std.specs.List.{All, AllZip}
+use Rattle.std.proofs.Common.{◌≡◌, ◌∙◌, ℕ, zero, suc, ◌+◌, ◌*◌, ◌<◌, ◌≤◌, inl, inr, List, [], ◌∷◌, ◌++◌, length, map, get_or, drop, refl, sym, ap, ap₂, subst, arith, Option, Some, None}
+use Rattle.std.specs.List.{All, AllZip, sum_by}
 use Rattle.std.specs.Prelude.{◌⊎◌, IfSome}
 use Rattle.std.proofs.lemmas.Bool.{cases_lt}
 use Rattle.std.proofs.lemmas.List.{length-append, get_or_append_left, get_or_at, get_or-map, length-map}
@@ -27,7 +27,7 @@ use Rattle.algebra.specs.Plans.{Parts, IsOutput, AreOutputs}
 use Rattle.algebra.specs.Shapes.{shape_by, no_shape, shapes_of, IsOpen}
 use Rattle.plan_maker.specs.declared.below.Below.{Below}
 use Rattle.plan_maker.specs.Grounds.{Gives, IsBase, IsWell, CanRead, QueryFits, node_shown, output_shown}
-use Rattle.plan_maker.specs.Lowered.{Program, ShowsOutput, IsLowered}
+use Rattle.plan_maker.specs.Lowered.{Program, ShowsOutput, IsLoweredForm, query_size, IsLowered}
 use Rattle.plan_maker.proofs.Giving.{gives-grown, gives-is, gives-width}
 
 -- ---- a base stays one
@@ -213,8 +213,11 @@ module _ (nodes : List Node) (below : Below) (views : List TypedView) (valid : A
     all_shown (out ∷ outs) all = (one_shown out (All-head (NamesView (length views)) out outs all), all_shown outs (All-tail (NamesView (length views)) out outs all))
 
     -- and shows what the program means
-    pub is_lowered : AreTypedOutputs (length views) program.1.1 → plan.outputs ≡ map (output_shown views below) program.1.1 → IsLowered program plan
-    is_lowered are shown = record {
+    pub is_lowered : AreTypedOutputs (length views) program.1.1 → plan.outputs ≡ map (output_shown views below) program.1.1
+        → All IsLoweredForm nodes → length nodes ≤ 1 + 8 * sum_by query_size (map body_of views) → IsLowered program plan
+    is_lowered are shown forms few = record {
       lists = lists_are;
       outputs = subst (AllZip (ShowsOutput program plan) program.1.1) (sym shown) (all_shown program.1.1 are.named);
+      forms = subst (All IsLoweredForm) (sym nodes_are) forms;
+      few = rw (nodes_are, views_are) few;
     }

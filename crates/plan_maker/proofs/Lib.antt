@@ -6,6 +6,8 @@ pub mod Giving
 pub mod Combining
 -- queries that are made of a list
 pub mod Queries
+-- the forms of nodes, and how many there are
+pub mod Sizes
 -- views, one after another
 pub mod Bases
 -- numbers in their order, and columns

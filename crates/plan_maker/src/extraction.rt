@@ -1,6 +1,6 @@
 //! Extractions: what is found, and the columns beside it.
 
-ghost use Rattle.std.specs.Prelude.{◌+◌, OnOk, IfOk};
+ghost use Rattle.std.specs.Prelude.{◌+◌, ◌≤◌, OnOk, IfOk, All, length};
 ghost use Rattle.std.specs.List.{flat_map};
 ghost use Rattle.aql_typed.specs.Fitting.{extract_width, found_width};
 ghost use Rattle.aql_typed.specs.Meaning.{extracted, extracted_from, extract_rows};
@@ -9,6 +9,7 @@ ghost use Rattle.aql_typed.specs.Views.{extraction_of, extract_clauses_of};
 ghost use Rattle.algebra.specs.Growth.{Grows};
 ghost use Rattle.algebra.specs.Operators.{with_found};
 ghost use Rattle.plan_maker.specs.Grounds.{Gives, CanRead, ExtractFits, MatchesFit, SearchFits};
+ghost use Rattle.plan_maker.specs.Lowered.{IsLoweredForm};
 
 use crate::conditions::lent;
 use crate::copying::{numbers_copied, with_columns};
@@ -28,6 +29,8 @@ pub(crate) fn extraction(
 ) -> Result<u32, OutOfMemory>
     requires can { CanRead nodes.old input (ExtractFits (extract_clauses_of clauses.now)) }
     ensures grows { OnOk result (Grows nodes.old nodes.new) }
+    ensures forms { OnOk result (All IsLoweredForm nodes.old → All IsLoweredForm nodes.new) }
+    ensures few { OnOk result (length nodes.new ≤ length nodes.old + 6) }
     ensures gives { IfOk result (λ n. (can : CanRead nodes.old input (ExtractFits (extract_clauses_of clauses.now)))
         → Gives nodes.new n (extract_width (extract_clauses_of clauses.now)) (λ lists doc. extract_rows lists doc (extract_clauses_of clauses.now) (can.rows lists doc))) }
 {
@@ -49,6 +52,8 @@ fn extracted(
 ) -> Result<u32, OutOfMemory>
     requires can { CanRead nodes.old input (ExtractFits (extract_clauses_of clauses.now)) }
     ensures grows { OnOk result (Grows nodes.old nodes.new) }
+    ensures forms { OnOk result (All IsLoweredForm nodes.old → All IsLoweredForm nodes.new) }
+    ensures few { OnOk result (length nodes.new ≤ length nodes.old + 3) }
     ensures gives { IfOk result (λ n. (can : CanRead nodes.old input (ExtractFits (extract_clauses_of clauses.now)))
         → Gives nodes.new n (extract_width (extract_clauses_of clauses.now)) (λ lists doc. extracted lists doc clauses.now.items (extraction_of clauses.now.extraction) (can.rows lists doc))) }
 {
@@ -96,6 +101,8 @@ fn each_extracted(
 ) -> Result<u32, OutOfMemory>
     requires can { CanRead nodes.old input (MatchesFit (extract_clauses_of clauses.now)) }
     ensures grows { OnOk result (Grows nodes.old nodes.new) }
+    ensures forms { OnOk result (All IsLoweredForm nodes.old → All IsLoweredForm nodes.new) }
+    ensures few { OnOk result (length nodes.new ≤ length nodes.old + 3) }
     ensures gives { IfOk result (λ n. (can : CanRead nodes.old input (MatchesFit (extract_clauses_of clauses.now)))
         → Gives nodes.new n (extract_width (extract_clauses_of clauses.now)) (λ lists doc. flat_map (extracted_from lists doc clauses.now.items (extraction_of clauses.now.extraction)) (can.rows lists doc))) }
 {
@@ -120,6 +127,8 @@ fn found(
 ) -> Result<u32, OutOfMemory>
     requires can { CanRead nodes.old input (SearchFits (extraction_of extraction.now)) }
     ensures grows { OnOk result (Grows nodes.old nodes.new) }
+    ensures forms { OnOk result (All IsLoweredForm nodes.old → All IsLoweredForm nodes.new) }
+    ensures few { OnOk result (length nodes.new ≤ length nodes.old + 2) }
     ensures gives { IfOk result (λ n. (can : CanRead nodes.old input (SearchFits (extraction_of extraction.now)))
         → Gives nodes.new n (can.width + found_width (extraction_of extraction.now)) (λ lists doc. with_found lists doc (extraction_of extraction.now) (can.rows lists doc))) }
 {
@@ -174,6 +183,8 @@ fn entries(
 ) -> Result<u32, OutOfMemory>
     requires can { CanRead nodes.old input (SearchFits (dict column number)) }
     ensures grows { OnOk result (Grows nodes.old nodes.new) }
+    ensures forms { OnOk result (All IsLoweredForm nodes.old → All IsLoweredForm nodes.new) }
+    ensures few { OnOk result (length nodes.new ≤ length nodes.old + 2) }
     ensures gives { IfOk result (λ n. (can : CanRead nodes.old input (SearchFits (dict column number)))
         → Gives nodes.new n (can.width + 1) (λ lists doc. with_found lists doc (dict column number) (can.rows lists doc))) }
 {

@@ -1,10 +1,11 @@
 //! Products of sources, each narrowed by the conditions that can be tried on it.
 
-ghost use Rattle.std.specs.Prelude.{◌≡◌, ◌+◌, ◌∷◌, [], OnOk, IfOk, All};
+ghost use Rattle.std.specs.Prelude.{◌≡◌, ◌+◌, ◌≤◌, ◌∷◌, [], OnOk, IfOk, All, length};
 ghost use Rattle.row_values.specs.Rows.{product};
 ghost use Rattle.aql_typed.specs.Meaning.{document_rows, selected};
 ghost use Rattle.algebra.specs.Growth.{Grows};
 ghost use Rattle.plan_maker.specs.Grounds.{Gives, CanRead, Anything, AllRead, Narrows, terms_lent};
+ghost use Rattle.plan_maker.specs.Lowered.{IsLoweredForm};
 
 use crate::conditions::{drop_early, early};
 use crate::copying::lent_copied;
@@ -22,6 +23,8 @@ pub(crate) fn selected(
 ) -> Result<u32, OutOfMemory>
     requires can { CanRead nodes.old input (AllRead (terms_lent conds.now)) }
     ensures grows { OnOk result (Grows nodes.old nodes.new) }
+    ensures forms { OnOk result (All IsLoweredForm nodes.old → All IsLoweredForm nodes.new) }
+    ensures few { OnOk result (length nodes.new ≤ length nodes.old + 1) }
     ensures gives { IfOk result (λ n. (can : CanRead nodes.old input (AllRead (terms_lent conds.now)))
         → Gives nodes.new n can.width (λ lists doc. selected lists doc (terms_lent conds.now) (can.rows lists doc))) }
 {
@@ -43,6 +46,8 @@ pub(crate) fn narrowed(
 ) -> Result<u32, OutOfMemory>
     requires can { CanRead nodes.old input Anything }
     ensures grows { OnOk result (Grows nodes.old nodes.new) }
+    ensures forms { OnOk result (All IsLoweredForm nodes.old → All IsLoweredForm nodes.new) }
+    ensures few { OnOk result (length nodes.new ≤ length nodes.old + 1) }
     ensures narrows { IfOk result (λ n. (can : CanRead nodes.old input Anything)
         → Narrows nodes.new n can.width can.rows (terms_lent conds.old.items) (terms_lent conds.new.items)) }
 {
@@ -65,6 +70,8 @@ pub(crate) fn crossed(
     requires can_left { CanRead nodes.old left Anything }
     requires can_right { CanRead nodes.old right Anything }
     ensures grows { OnOk result (Grows nodes.old nodes.new) }
+    ensures forms { OnOk result (All IsLoweredForm nodes.old → All IsLoweredForm nodes.new) }
+    ensures few { OnOk result (length nodes.new ≤ length nodes.old + 2) }
     ensures narrows { IfOk result (λ n. (a : CanRead nodes.old left Anything) (b : CanRead nodes.old right Anything)
         → Narrows nodes.new n (a.width + b.width) (λ lists doc. product (a.rows lists doc) (b.rows lists doc)) (terms_lent conds.old.items) (terms_lent conds.new.items)) }
 {
@@ -81,6 +88,8 @@ pub(crate) fn crossed(
 pub(crate) fn empty_row(alloc: Global, nodes: &mut Nodes, document: u32) -> Result<u32, OutOfMemory>
     requires document { Gives nodes.old document 1 (λ lists doc. document_rows lists doc) }
     ensures grows { OnOk result (Grows nodes.old nodes.new) }
+    ensures forms { OnOk result (All IsLoweredForm nodes.old → All IsLoweredForm nodes.new) }
+    ensures few { OnOk result (length nodes.new ≤ length nodes.old + 1) }
     ensures gives { IfOk result (λ n. Gives nodes.new n 0 (λ lists doc. [] ∷ [])) }
 {
     let items = Exprs::from(Vec::new(alloc));
@@ -95,6 +104,8 @@ pub(crate) fn empty_row(alloc: Global, nodes: &mut Nodes, document: u32) -> Resu
 pub(crate) fn no_row(alloc: Global, nodes: &mut Nodes, document: u32) -> Result<u32, OutOfMemory>
     requires document { Gives nodes.old document 1 (λ lists doc. document_rows lists doc) }
     ensures grows { OnOk result (Grows nodes.old nodes.new) }
+    ensures forms { OnOk result (All IsLoweredForm nodes.old → All IsLoweredForm nodes.new) }
+    ensures few { OnOk result (length nodes.new ≤ length nodes.old + 2) }
     ensures gives { IfOk result (λ n. Gives nodes.new n 0 (λ lists doc. [])) }
 {
     let input = empty_row(alloc, nodes, document)?;

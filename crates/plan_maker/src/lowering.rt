@@ -1,11 +1,12 @@
 //! Plans of typed programs.
 
-ghost use Rattle.std.specs.Prelude.{◌≡◌, [], map, IfOk};
+ghost use Rattle.std.specs.Prelude.{◌≡◌, ◌+◌, ◌*◌, ◌≤◌, [], map, length, All, IfOk, OnOk};
+ghost use Rattle.std.specs.List.{sum_by};
 ghost use Rattle.aql_typed.specs.Fitting.{AllFit, widths_of};
 ghost use Rattle.aql_typed.specs.Meaning.{meanings};
 ghost use Rattle.aql_typed.specs.Views.{body_of};
 ghost use Rattle.plan_maker.specs.Grounds.{IsBase};
-ghost use Rattle.plan_maker.specs.Lowered.{IsLowered};
+ghost use Rattle.plan_maker.specs.Lowered.{IsLowered, IsLoweredForm, query_size};
 
 use crate::below::Below;
 use crate::outputs::outputs_shown;
@@ -16,10 +17,13 @@ use span_token::OutOfMemory;
 use std::alloc::Global;
 
 /// The plan of a program: it has the program's tables, and each of its outputs shows on each document what
-/// the view means, as a bag.
+/// the view means, as a bag. Its nodes are no `SpanJoin` and no `Restricted`, no join is conditional, and
+/// each `Dict` has one dictionary.
 ///
 /// Each view stands once, also one that nothing names: what names it reads its node. So a plan is about as
-/// long as its program.
+/// long as its program, with at most eight nodes for each query and source.
+///
+/// Meaning: `IsLowered`, `specs/Lowered.antt`.
 pub fn lower(alloc: Global, typed: Typed) -> Result<Plan, OutOfMemory>
     ensures lowered { IfOk result (λ plan. IsLowered typed plan) }
 {
@@ -37,6 +41,8 @@ fn views_lowered(
     views: &[TypedView],
 ) -> Result<Below, OutOfMemory>
     requires fit { AllFit [] (map body_of views.now) }
+    ensures forms { OnOk result (All IsLoweredForm nodes.old → All IsLoweredForm nodes.new) }
+    ensures few { OnOk result (length nodes.new ≤ length nodes.old + 1 + 8 * sum_by query_size (map body_of views.now)) }
     ensures base { IfOk result (λ below. IsBase nodes.new below (widths_of (map body_of views.now)) (λ lists doc. meanings lists doc (map body_of views.now))) }
 {
     let document = nodes.add(Node::Doc)?;

@@ -1,11 +1,12 @@
 //! Queries: each becomes nodes, and its rows are those of the last.
 
-ghost use Rattle.std.specs.Prelude.{◌≡◌, OnOk, IfOk};
+ghost use Rattle.std.specs.Prelude.{◌≡◌, ◌+◌, ◌*◌, ◌≤◌, OnOk, IfOk, All, length};
 ghost use Rattle.aql_typed.specs.Fitting.{width_of, first_width, source_width, all_widths};
 ghost use Rattle.aql_typed.specs.Meaning.{selected, meaning_of, all_sides, source_rows, combinations};
 ghost use Rattle.aql_typed.specs.Views.{query_of, source_of};
 ghost use Rattle.algebra.specs.Growth.{Grows};
 ghost use Rattle.plan_maker.specs.Grounds.{Gives, IsWell, QueryFits, SourceThere, SidesThere, JoinFits, sides_seen, sources_seen, terms_lent};
+ghost use Rattle.plan_maker.specs.Lowered.{IsLoweredForm, query_size, sides_size, source_size, sources_size};
 
 use crate::below::Below;
 use crate::conditions::parted;
@@ -28,6 +29,8 @@ pub(crate) fn query(
 ) -> Result<u32, OutOfMemory>
     requires well { IsWell nodes.old below.now (QueryFits (query_of typed.now)) }
     ensures grows { OnOk result (Grows nodes.old nodes.new) }
+    ensures forms { OnOk result (All IsLoweredForm nodes.old → All IsLoweredForm nodes.new) }
+    ensures few { OnOk result (length nodes.new + 2 ≤ length nodes.old + 8 * query_size (query_of typed.now)) }
     ensures gives { IfOk result (λ n. (well : IsWell nodes.old below.now (QueryFits (query_of typed.now)))
         → Gives nodes.new n (width_of well.widths (query_of typed.now)) (λ lists doc. meaning_of lists doc (well.means lists doc) (query_of typed.now))) }
 {
@@ -68,6 +71,8 @@ fn combined(
 ) -> Result<u32, OutOfMemory>
     requires well { IsWell nodes.old below.now (JoinFits (sources_seen sources.now) (terms_lent conds.items)) }
     ensures grows { OnOk result (Grows nodes.old nodes.new) }
+    ensures forms { OnOk result (All IsLoweredForm nodes.old → All IsLoweredForm nodes.new) }
+    ensures few { OnOk result (length nodes.new ≤ length nodes.old + 2 + 8 * sources_size (sources_seen sources.now)) }
     ensures gives { IfOk result (λ n. (well : IsWell nodes.old below.now (JoinFits (sources_seen sources.now) (terms_lent conds.entry.items)))
         → Gives nodes.new n (all_widths well.widths (sources_seen sources.now)) (λ lists doc. selected lists doc (terms_lent conds.entry.items) (combinations lists doc (well.means lists doc) (sources_seen sources.now)))) }
 {
@@ -97,6 +102,8 @@ fn source(
 ) -> Result<u32, OutOfMemory>
     requires well { IsWell nodes.old below.now (SourceThere (source_of source.now)) }
     ensures grows { OnOk result (Grows nodes.old nodes.new) }
+    ensures forms { OnOk result (All IsLoweredForm nodes.old → All IsLoweredForm nodes.new) }
+    ensures few { OnOk result (length nodes.new + 2 ≤ length nodes.old + 8 * source_size (source_of source.now)) }
     ensures gives { IfOk result (λ n. (well : IsWell nodes.old below.now (SourceThere (source_of source.now)))
         → Gives nodes.new n (source_width well.widths (source_of source.now)) (λ lists doc. source_rows lists doc (well.means lists doc) (source_of source.now))) }
 {
@@ -120,6 +127,8 @@ fn union(
 ) -> Result<u32, OutOfMemory>
     requires well { IsWell nodes.old below.now (SidesThere (sides_seen sides.now)) }
     ensures grows { OnOk result (Grows nodes.old nodes.new) }
+    ensures forms { OnOk result (All IsLoweredForm nodes.old → All IsLoweredForm nodes.new) }
+    ensures few { OnOk result (length nodes.new ≤ length nodes.old + 2 + 8 * sides_size (sides_seen sides.now)) }
     ensures gives { IfOk result (λ n. (well : IsWell nodes.old below.now (SidesThere (sides_seen sides.now)))
         → Gives nodes.new n (first_width well.widths (sides_seen sides.now)) (λ lists doc. all_sides lists doc (well.means lists doc) (sides_seen sides.now))) }
 {

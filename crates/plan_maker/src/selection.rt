@@ -1,6 +1,6 @@
 //! What selections and extractions do with rows: consolidations, projections, groups, limits.
 
-ghost use Rattle.std.specs.Prelude.{◌≡◌, ◌++◌, OnOk, IfOk, All, length, map, option_map};
+ghost use Rattle.std.specs.Prelude.{◌≡◌, ◌+◌, ◌≤◌, ◌++◌, OnOk, IfOk, All, length, map, option_map};
 ghost use Rattle.std.specs.List.{range_with_len};
 ghost use Rattle.row_values.specs.Rows.{sorted};
 ghost use Rattle.group_agg.specs.Groups.{HasKey, HasColumn, grouped};
@@ -9,6 +9,7 @@ ghost use Rattle.aql_typed.specs.Meaning.{row_of, kept, projected, cut};
 ghost use Rattle.aql_typed.specs.Views.{consolidation_of, projection_of, select_clauses_of};
 ghost use Rattle.algebra.specs.Growth.{Grows};
 ghost use Rattle.plan_maker.specs.Grounds.{Gives, CanRead, AllRead, TargetFits, ColumnsFit, ClausesFit, KeysFit};
+ghost use Rattle.plan_maker.specs.Lowered.{IsLoweredForm};
 
 use crate::copying::{
     aggregates_copied, both_copied, copied, exprs_copied, first_numbers, numbers_copied,
@@ -29,6 +30,8 @@ pub(crate) fn shaped(
 ) -> Result<u32, OutOfMemory>
     requires can { CanRead nodes.old input (ClausesFit (select_clauses_of clauses.now)) }
     ensures grows { OnOk result (Grows nodes.old nodes.new) }
+    ensures forms { OnOk result (All IsLoweredForm nodes.old → All IsLoweredForm nodes.new) }
+    ensures few { OnOk result (length nodes.new ≤ length nodes.old + 4) }
     ensures gives { IfOk result (λ n. (can : CanRead nodes.old input (ClausesFit (select_clauses_of clauses.now)))
         → Gives nodes.new n (projection_width (projection_of clauses.now.projection)) (λ lists doc. cut clauses.now.order.items clauses.now.limit
         (projected lists doc (projection_of clauses.now.projection) (kept lists doc (option_map consolidation_of clauses.now.consolidate) (can.rows lists doc))))) }
@@ -54,6 +57,8 @@ pub(crate) fn consolidated(
 ) -> Result<u32, OutOfMemory>
     requires can { CanRead nodes.old input (TargetFits (option_map consolidation_of consolidate.now)) }
     ensures grows { OnOk result (Grows nodes.old nodes.new) }
+    ensures forms { OnOk result (All IsLoweredForm nodes.old → All IsLoweredForm nodes.new) }
+    ensures few { OnOk result (length nodes.new ≤ length nodes.old + 1) }
     ensures gives { IfOk result (λ n. (can : CanRead nodes.old input (TargetFits (option_map consolidation_of consolidate.now)))
         → Gives nodes.new n can.width (λ lists doc. kept lists doc (option_map consolidation_of consolidate.now) (can.rows lists doc))) }
 {
@@ -78,6 +83,8 @@ fn projected(
 ) -> Result<u32, OutOfMemory>
     requires can { CanRead nodes.old input (ColumnsFit (projection_of projection.now)) }
     ensures grows { OnOk result (Grows nodes.old nodes.new) }
+    ensures forms { OnOk result (All IsLoweredForm nodes.old → All IsLoweredForm nodes.new) }
+    ensures few { OnOk result (length nodes.new ≤ length nodes.old + 2) }
     ensures gives { IfOk result (λ n. (can : CanRead nodes.old input (ColumnsFit (projection_of projection.now)))
         → Gives nodes.new n (projection_width (projection_of projection.now)) (λ lists doc. projected lists doc (projection_of projection.now) (can.rows lists doc))) }
 {
@@ -111,6 +118,8 @@ fn grouped(
     requires keys_there { All (HasKey (length keys.now)) aggs.now }
     requires columns_there { All (HasColumn (length (keys.now ++ arguments.now))) aggs.now }
     ensures grows { OnOk result (Grows nodes.old nodes.new) }
+    ensures forms { OnOk result (All IsLoweredForm nodes.old → All IsLoweredForm nodes.new) }
+    ensures few { OnOk result (length nodes.new ≤ length nodes.old + 2) }
     ensures gives { IfOk result (λ n. (can : CanRead nodes.old input (AllRead (keys.now ++ arguments.now)))
         → Gives nodes.new n (length aggs.now) (λ lists doc. sorted (grouped (range_with_len 0 (length keys.now)) aggs.now (map (row_of lists doc (keys.now ++ arguments.now)) (can.rows lists doc))))) }
 {
@@ -136,6 +145,8 @@ pub(crate) fn limited(
 ) -> Result<u32, OutOfMemory>
     requires can { CanRead nodes.old input (KeysFit order.now) }
     ensures grows { OnOk result (Grows nodes.old nodes.new) }
+    ensures forms { OnOk result (All IsLoweredForm nodes.old → All IsLoweredForm nodes.new) }
+    ensures few { OnOk result (length nodes.new ≤ length nodes.old + 1) }
     ensures gives { IfOk result (λ n. (can : CanRead nodes.old input (KeysFit order.now))
         → Gives nodes.new n can.width (λ lists doc. cut order.now limit (can.rows lists doc))) }
 {
