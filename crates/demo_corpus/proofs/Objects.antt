@@ -5,8 +5,7 @@ use Rattle.json.specs.Tree.{json_tokens, depth}
 use Rattle.serde_json.specs.Written.{outline}
 use Rattle.corpus_json.specs.Writing.{label_tokens}
 use Rattle.json.specs.Lex.{tokens}
-use Rattle.json.specs.Print.{print}
-use Rattle.std.specs.Str.{IsUtf8, is_utf8}
+use Rattle.std.specs.Str.{IsUtf8}
 use Rattle.std.proofs.lemmas.Str.{is_utf8-from_IsUtf8}
 use Rattle.serde_json.specs.Data.{Data}
 use Rattle.serde_json.specs.Read.{read, of_json, max_depth}

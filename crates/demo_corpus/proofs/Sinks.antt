@@ -1,5 +1,5 @@
 -- What several writes in a row do to the bytes that a sink holds.
-use Rattle.std.proofs.Common.{◌≡◌, ℕ, ◌+◌, ◌-◌, ◌≤◌, List, [], ◌++◌, length, take, drop, refl, ap, subst, append_assoc, take-append-drop, ◌∙◌, sym, None, Some, Option, Result, Ok, Err}
+use Rattle.std.proofs.Common.{◌≡◌, ℕ, ◌+◌, ◌-◌, List, [], ◌++◌, length, take, drop, refl, ap, subst, append_assoc, take-append-drop, ◌∙◌, sym, None, Some, Option, Result, Ok, Err}
 use Rattle.std.proofs.Math.Seq.{take-add}
 use Rattle.std.proofs.lemmas.List.{take_rest, take_at, append-nil}
 use Rattle.std.specs.Prelude.{MatchResult, OnOk}

@@ -1,4 +1,4 @@
-use Rattle.std.proofs.Common.{◌≡◌, ◌++◌, ◌∷◌, ◌≤◌, ◌+◌, [], List, ℕ, refl, sym, ap, subst, ◌∙◌, arith}
+use Rattle.std.proofs.Common.{◌≡◌, ◌∷◌, ◌+◌, [], List, ℕ, refl, sym, subst, ◌∙◌, arith}
 use Rattle.demo_corpus.specs.Corpora.{corpus_of, generated_corpus}
 use Rattle.std.proofs.lemmas.Result.{err_from_is_err_and}
 use Rattle.demo_corpus.specs.Prefixes.{AppendsFront, GainsAllBut, GainsFront}

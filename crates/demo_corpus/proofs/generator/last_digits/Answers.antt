@@ -1,4 +1,4 @@
-use Rattle.std.proofs.Common.{◌≡◌, ◌%◌, arith, rules}
+use Rattle.std.proofs.Common.{◌%◌, arith, rules}
 use Rattle.std.proofs.lemmas.Grind.{common_steps}
 use Rattle.demo_corpus.proofs.Fillings.{four_digits_is}
 use Rattle.demo_corpus.proofs.generator.last_digits.Goals as goal

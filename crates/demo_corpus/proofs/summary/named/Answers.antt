@@ -1,4 +1,4 @@
-use Rattle.std.proofs.Common.{◌≡◌, ◌+◌, ◌<◌, List, ℕ, arith, ap, map, get_or, length, sym, ◌∙◌}
+use Rattle.std.proofs.Common.{◌≡◌, ◌+◌, ◌<◌, List, ℕ, arith, ap, map, get_or, length, ◌∙◌}
 use Rattle.row_values.specs.Outputs.{OutputNames}
 use Rattle.demo_corpus.specs.NamedTotals.{named_total}
 use Rattle.demo_corpus.specs.Summaries.{put_total}

@@ -1,4 +1,4 @@
-use Rattle.std.proofs.Common.{◌≡◌, ◌++◌, flat_map, rules, ap, map, string_bytes, ◌∙◌, sym}
+use Rattle.std.proofs.Common.{◌++◌, flat_map, rules, ap, map, string_bytes, ◌∙◌, sym}
 use Rattle.std.proofs.lemmas.List.{map-id}
 use Rattle.std.proofs.lemmas.Iterator.Consumers.{YieldsList-from_rest, YieldsList-end}
 use Rattle.demo_corpus.specs.NamedTotals.{named_total}

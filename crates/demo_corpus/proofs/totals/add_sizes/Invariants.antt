@@ -1,4 +1,4 @@
-use Rattle.std.proofs.Common.{◌≡◌, ℕ, ◌+◌, ◌<◌, ◌≤◌, ◌^◌, length, slice_index}
+use Rattle.std.proofs.Common.{◌≡◌, ℕ, ◌+◌, ◌<◌, ◌≤◌, ◌^◌, slice_index}
 use Rattle.demo_corpus.specs.Totals.{answer_of, size_at}
 use Rattle.demo_corpus.proofs.totals.add_sizes.Given as goal
 

@@ -1,5 +1,4 @@
-use Rattle.std.proofs.Common.{List, ℕ, ap, ◌∙◌}
-use Rattle.demo_corpus.specs.Totals.{Tally}
+use Rattle.std.proofs.Common.{ap, ◌∙◌}
 use Rattle.demo_corpus.proofs.Tallies.{empty_tally, none_counted}
 use Rattle.demo_corpus.proofs.totals.Totals.new.Goals as goal
 
