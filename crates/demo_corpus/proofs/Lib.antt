@@ -1,0 +1,7 @@
+mod Sinks
+mod Corpora
+mod Objects
+mod Fillings
+mod Lengths
+mod NamedTotals
+mod Tallies
