@@ -99,10 +99,10 @@ joined-legal plan docs doc nodes none shown one =
 
 -- a node that no output shows and no node asks for isn't wanted: so the right input of conditional joins alone, none of
 -- which has a left row
-unasked-unwanted : (plan : Parts) (published : ℕ → Option RowList) (n : ℕ) → (Contains (output_nodes plan) n → ⊥)
-    → ((k : ℕ) (node : Node) → slice_get plan.nodes k ≡ Some node → AsksFor plan published node n → ⊥) → IsWanted plan published n → ⊥
-unasked-unwanted plan published _ hidden unasked (output n listed) = hidden listed
-unasked-unwanted plan published _ hidden unasked (input k n node is asks wanted) = unasked k node is asks
+unasked-unwanted : (parts : Parts) (published : ℕ → Option RowList) (n : ℕ) → (Contains (output_nodes parts) n → ⊥)
+    → ((k : ℕ) (node : Node) → slice_get parts.nodes k ≡ Some node → AsksFor parts published node n → ⊥) → IsWanted parts published n → ⊥
+unasked-unwanted parts published _ hidden unasked (output n listed) = hidden listed
+unasked-unwanted parts published _ hidden unasked (input k n node is asks wanted) = unasked k node is asks
 
 -- node n isn't wanted on the first document of the board
 abbrev pub IsUnwanted : State → ℕ → Type 0
