@@ -1,5 +1,5 @@
 -- What an item may be computed from is what its node asks for, and what comes of it is the item's result.
-use Rattle.std.proofs.Common.{◌≡◌, ◌≢◌, ◌⊎◌, inl, inr, ℕ, ◌<◌, ◌%◌, ◌/◌, true, List, [], length, get_or, refl, sym, ap, subst, ◌∙◌, arith, Option, Some, None, IfSome, option_map, All}
+use Rattle.std.proofs.Common.{◌≡◌, ◌≢◌, ◌⊎◌, inl, inr, ℕ, ◌<◌, ◌%◌, ◌/◌, true, List, [], length, get_or, refl, sym, ap, ap₂, subst, ◌∙◌, arith, Option, Some, None, IfSome, option_map, All}
 use Rattle.std.specs.Prelude.{slice_index_or}
 use Rattle.std.proofs.lemmas.List.Elements.{All-nil}
 use Rattle.std.proofs.lemmas.Option.{none-some, same_Some, slice_get_within, get_or_from_slice_get}
@@ -153,3 +153,15 @@ given-for plan docs i left right may planned left_known right_known doc node l r
         has = has_computed plan docs i place planned left right may.of_left may.of_right left_known right_known lists same out rows width lies;
       };
     })
+
+-- the same, of what is known where the item is computed
+pub given-by : (plan plan' : Parts) (docs : List Doc) (i : ℕ) (left right : Option ItemRows) (may : MayCompute plan docs i left right) (doc : Doc) (node : Node) (l r : RowList) (nodes nodes' : List Node) (input input' : Option ℕ)
+    → IsAt plan.nodes (i % length plan.nodes) node → ((place : Place plan docs i) → node ≡ place.node) → ((place : Place plan docs i) → doc ≡ place.doc)
+    → IfSome left (λ (result : ItemRows). IsResult plan docs result.item result.rows) → IfSome right (λ (result : ItemRows). IsResult plan docs result.item result.rows)
+    → plan' ≡ plan → nodes ≡ plan'.nodes → nodes' ≡ plan'.nodes → input ≡ left_input node → input' ≡ right_input node → l ≡ rows_given nodes input left → r ≡ rows_given nodes' input' right
+    → IsGivenFor plan docs i doc node l r
+given-by plan plan' docs i left right may doc node l r nodes nodes' input input' at node_is doc_is left_known right_known same of_left of_right left_is right_is l_is r_is =
+    let all = λ (given : List Node) (e : given ≡ plan'.nodes). e ∙ ap (λ (p : Parts). p.nodes) same in
+    given-for plan docs i left right may at.plan left_known right_known doc node l r (doc_is may.place) (node_is may.place)
+    (l_is ∙ ap₂ (λ (ns : List Node) (o : Option ℕ). rows_given ns o left) (all nodes of_left) left_is)
+    (r_is ∙ ap₂ (λ (ns : List Node) (o : Option ℕ). rows_given ns o right) (all nodes' of_right) right_is)

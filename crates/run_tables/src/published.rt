@@ -143,8 +143,8 @@ fn rows_given<'r, 'd, W: Work>(
     found: Option<&'r Published<'d, W>>,
 ) -> Input<'r, 'd>
     requires among { IsAmong (length nodes.now) input }
-    ensures rows { input_rows result ≡ rows_given nodes.now input (option_map (λ found. found.now) found) }
-    ensures known { IfSome (option_map (λ found. found.now) found) (λ found. IsResult W.plan W.docs found.item found.rows) }
+    ensures rows { input_rows result ≡ rows_given nodes.now input (option_map (λ found. found.now) found.entry) }
+    ensures known { IfSome (option_map (λ found. found.now) found.entry) (λ found. IsResult W.plan W.docs found.item found.rows) }
 {
     match found {
         Some(found) => Input::Lent(found.rows()),
