@@ -4,7 +4,7 @@ use Rattle.span_token.specs.Documents.{Doc}
 use Rattle.span_token.specs.declared.refusal.OutOfMemory.{OutOfMemory}
 use Rattle.corpus_json.specs.Reading.{Reading}
 use Rattle.row_values.specs.Outputs.{OutputNames}
-use Rattle.scalar_ops.specs.Tables.{Lists}
+use Rattle.algebra.specs.Plans.{Parts}
 use Rattle.aqlx_top.specs.declared.run.Work.{Work}
 use Rattle.aqlx_top.specs.declared.run.Turn.{Turn}
 use Rattle.aqlx_top.specs.declared.run.Turn.TheVariants.{Next, Ended}
@@ -18,16 +18,18 @@ Turned piece corpus before now reading pending number (Ok Next) = Stands piece c
 Turned piece corpus before now reading pending number (Ok (Ended status)) = Finished piece corpus before now pending status
 Turned piece corpus before now reading pending number (Err _) = InPart piece corpus before now
 
--- a run at its beginning: nothing is read, looked at or pending
-pub record Begins (work : Work) (outputs : List OutputNames) (lists : Lists) : Type 0 where
+-- a run of a plan at its beginning: nothing is read, looked at or pending
+pub record Begins (work : Work) (outputs : List OutputNames) (plan : Parts) : Type 0 where
+  pub plan_is : work.schedule ≡ plan
   pub outputs_are : work.layout ≡ outputs
-  pub tables : work.tools ≡ lists
+  pub tables : work.tools ≡ plan.lists
   pub reader : work.reader ≡ record { ready = []; taken = 0; last = None }
   pub pending : work.pending.items ≡ []
   pub number : work.number ≡ 0
 
 -- what sending leaves alone
 pub record IsKept (before now : Work) : Type 0 where
+  pub schedule : now.schedule ≡ before.schedule
   pub layout : now.layout ≡ before.layout
   pub tools : now.tools ≡ before.tools
   pub reader : now.reader ≡ before.reader

@@ -9,7 +9,7 @@ ghost use Rattle.aqlx_top.specs.Planned.{line_by, names_in};
 
 use algebra::{Plan, PlanOut};
 use corpus_json::{Input, Layout, NotDocument, append_document, read_document};
-use plan_operators::{evaluate, rows_shown};
+use plan_operators::{Schedule, evaluate, rows_shown};
 use row_values::Rows;
 use scalar_ops::Tools;
 use span_token::{Document, Failure, OutOfMemory};
@@ -21,23 +21,23 @@ use std::mem;
 /// `with_tokens`; what is written is the same.
 pub(crate) fn answer(
     alloc: Global,
-    plan: &Plan,
+    schedule: &Schedule<'_>,
     with_tokens: bool,
     layout: &Layout<'_>,
     tools: &mut Tools<'_>,
     line: &[u8],
     pending: &mut Vec<u8>,
 ) -> Result<bool, OutOfMemory>
-    requires layout { layout.now ≡ names_in plan.now }
-    requires tables { tools.old ≡ plan.now.lists }
+    requires layout { layout.now ≡ names_in schedule.now }
+    requires tables { tools.old ≡ schedule.now.lists }
     requires short { length line.now ≤ 16777216 }
     ensures good { IfOk result (λ good. is_bad_line line.now ≡ not good) }
-    ensures bytes { IfOk result (λ good. pending.new.items ≡ pending.old.items ++ written_for (line_by plan.now) (line.now ∷ [])) }
+    ensures bytes { IfOk result (λ good. pending.new.items ≡ pending.old.items ++ written_for (line_by schedule.now) (line.now ∷ [])) }
     ensures same { tools.new ≡ tools.old }
 {
     match read_document(alloc, line) {
         Ok(Some(input)) => {
-            write_for(alloc, plan, with_tokens, layout, tools, &input, pending)?;
+            write_for(alloc, schedule, with_tokens, layout, tools, &input, pending)?;
             Ok(true)
         }
         Ok(None) => Ok(true),
@@ -49,22 +49,29 @@ pub(crate) fn answer(
 /// Puts the line of a document after what is pending.
 fn write_for(
     alloc: Global,
-    plan: &Plan,
+    schedule: &Schedule<'_>,
     with_tokens: bool,
     layout: &Layout<'_>,
     tools: &mut Tools<'_>,
     input: &Input,
     pending: &mut Vec<u8>,
 ) -> Result<(), OutOfMemory>
-    requires layout { layout.now ≡ names_in plan.now }
-    requires tables { tools.old ≡ plan.now.lists }
+    requires layout { layout.now ≡ names_in schedule.now }
+    requires tables { tools.old ≡ schedule.now.lists }
     requires short { length input.now.text ≤ 16777216 }
-    ensures bytes { OnOk result (pending.new.items ≡ pending.old.items ++ line_by plan.now (doc_of input.now)) }
+    ensures bytes { OnOk result (pending.new.items ≡ pending.old.items ++ line_by schedule.now (doc_of input.now)) }
     ensures same { tools.new ≡ tools.old }
 {
     let document = document_of(alloc, with_tokens, input)?;
-    let board = evaluate(alloc, tools, &document, plan)?;
-    append_rows(alloc, plan, layout, &document, board.as_slice(), pending)
+    let board = evaluate(alloc, tools, &document, schedule)?;
+    append_rows(
+        alloc,
+        schedule.plan(),
+        layout,
+        &document,
+        board.as_slice(),
+        pending,
+    )
 }
 
 /// The document that was read, with its tokens kept or not.

@@ -1,12 +1,19 @@
 //! Whether a plan asks for the tokens of a document.
 
-use algebra::{JoinKind, Node, Plan};
+use algebra::{JoinKind, Node};
+use plan_operators::Schedule;
 use scalar_ops::{Expr, Op};
 
-/// Whether a node of a plan asks for the tokens of a document. Where none does, a document can be made
-/// without them; what is answered is the same.
-pub(crate) fn asks_for_tokens(plan: &Plan) -> bool {
-    plan.nodes().as_slice().iter().any(|node| node_asks(node))
+/// Whether a node of a plan that somebody reads asks for the tokens of a document. Where none does, a
+/// document can be made without them; what is answered is the same.
+pub(crate) fn asks_for_tokens(schedule: &Schedule<'_>) -> bool {
+    let nodes = schedule.plan().nodes();
+    for n in 0..nodes.len() {
+        if schedule.is_read(n) && node_asks(nodes.get(n)) {
+            return true;
+        }
+    }
+    false
 }
 
 fn node_asks(node: &Node) -> bool {
@@ -29,10 +36,14 @@ fn node_asks(node: &Node) -> bool {
 }
 
 fn kind_asks(kind: JoinKind) -> bool {
-    matches!(
-        kind,
-        JoinKind::FollowsTok { .. } | JoinKind::FollowsTokBack { .. }
-    )
+    match kind {
+        JoinKind::FollowsTok { .. } | JoinKind::FollowsTokBack { .. } => true,
+        JoinKind::Follows { .. }
+        | JoinKind::Overlaps
+        | JoinKind::Contains
+        | JoinKind::FollowsBack { .. }
+        | JoinKind::ContainsBack => false,
+    }
 }
 
 #[cycle(exprs)]
@@ -54,12 +65,30 @@ fn expr_asks(expr: &Expr) -> bool {
 }
 
 fn op_asks(op: Op) -> bool {
-    matches!(
-        op,
+    match op {
         Op::LeftContextTok
-            | Op::RightContextTok
-            | Op::FollowsTok { .. }
-            | Op::ContainsDict(_)
-            | Op::MatchesDict(_)
-    )
+        | Op::RightContextTok
+        | Op::FollowsTok { .. }
+        | Op::ContainsDict(_)
+        | Op::MatchesDict(_) => true,
+        Op::GetBegin
+        | Op::GetEnd
+        | Op::GetLength
+        | Op::GetText
+        | Op::CombineSpans
+        | Op::SpanBetween
+        | Op::LeftContext
+        | Op::RightContext
+        | Op::Follows { .. }
+        | Op::Overlaps
+        | Op::Contains
+        | Op::Equals
+        | Op::GreaterThan
+        | Op::NotNull
+        | Op::ContainsRegex(_)
+        | Op::MatchesRegex(_)
+        | Op::Not
+        | Op::And
+        | Op::Or => false,
+    }
 }

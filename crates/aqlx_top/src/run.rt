@@ -14,6 +14,7 @@ use crate::{CorpusFault, Status};
 use algebra::Plan;
 use aql_io::{Failed, Sink, Source};
 use corpus_json::{Layout, LineBuffer, Step};
+use plan_operators::Schedule;
 use row_values::Output;
 use scalar_ops::Tools;
 use span_token::OutOfMemory;
@@ -25,6 +26,7 @@ const PIECE: usize = 65_536;
 /// What a run keeps from line to line.
 #[derive(Drop)]
 pub(crate) struct Work<'p> {
+    pub schedule: Schedule<'p>,
     pub layout: Layout<'p>,
     pub reader: LineBuffer,
     pub line: Vec<u8>,
@@ -63,7 +65,7 @@ pub(crate) fn run<S: Source, O: Sink>(
             Ok(()) => {}
             Err(Failed) => return Ok(Status::WriteFault),
         }
-        match take_turn(alloc, plan, &mut work, corpus)? {
+        match take_turn(alloc, &mut work, corpus)? {
             Turn::Next => {}
             Turn::Ended(status) => return Ok(finish(out, &work.pending, status)),
         }
@@ -71,15 +73,18 @@ pub(crate) fn run<S: Source, O: Sink>(
 }
 
 fn begin<'p>(alloc: Global, plan: &'p Plan, outputs: &'p [Output]) -> Result<Work<'p>, OutOfMemory>
-    ensures { IfOk result (λ work. Begins work outputs.now plan.now.lists) }
+    ensures { IfOk result (λ work. Begins work outputs.now plan.now) }
 {
+    let schedule = Schedule::new(alloc, plan)?;
+    let with_tokens = asks_for_tokens(&schedule);
     Ok(Work {
+        schedule,
         layout: Layout::new(alloc, outputs)?,
         reader: LineBuffer::new(alloc)?,
         line: Vec::new(alloc),
         number: 0,
         tools: Tools::new(alloc, plan.tables())?,
-        with_tokens: asks_for_tokens(plan),
+        with_tokens,
         pending: Vec::new(alloc),
     })
 }
@@ -106,20 +111,19 @@ fn send_in_time<O: Sink>(out: &mut O, work: &mut Work<'_>) -> Result<(), Failed>
 /// Looks at the next line, and puts what is written for it after what is pending.
 fn take_turn<S: Source>(
     alloc: Global,
-    plan: &Plan,
     work: &mut Work<'_>,
     corpus: &mut S,
 ) -> Result<Turn, OutOfMemory>
-    requires layout { work.old.layout ≡ names_in plan.now }
-    requires tables { work.old.tools ≡ plan.now.lists }
+    requires layout { work.old.layout ≡ names_in work.old.schedule }
+    requires tables { work.old.tools ≡ work.old.schedule.lists }
     requires room { work.old.number < 2 ^ 63 }
     requires going { IsGoing work.old.reader }
     ensures turned { (left : Option (List ℕ)) (faults : ℕ) (before now : Option (List ℕ)) →
-        Stands (line_by plan.now) (source_ends left (S.left corpus.old) faults (S.faults corpus.old)) before now work.old.reader work.old.pending.items work.old.number →
-        Turned (line_by plan.now) (source_ends left (S.left corpus.new) faults (S.faults corpus.new)) before now work.new.reader work.new.pending.items work.new.number result }
+        Stands (line_by work.old.schedule) (source_ends left (S.left corpus.old) faults (S.faults corpus.old)) before now work.old.reader work.old.pending.items work.old.number →
+        Turned (line_by work.old.schedule) (source_ends left (S.left corpus.new) faults (S.faults corpus.new)) before now work.new.reader work.new.pending.items work.new.number result }
     ensures counts { IfOk result (λ came. came ≡ Turn.Next → work.new.number ≡ work.old.number + 1) }
     ensures going { IfOk result (λ came. came ≡ Turn.Next → IsGoing work.new.reader) }
-    ensures same { (work.new.layout ≡ work.old.layout) × (work.new.tools ≡ work.old.tools) }
+    ensures same { (work.new.layout ≡ work.old.layout) × (work.new.tools ≡ work.old.tools) × (work.new.schedule ≡ work.old.schedule) }
 {
     match work.reader.next_line(corpus, &mut work.line)? {
         Step::Line => {
@@ -128,7 +132,7 @@ fn take_turn<S: Source>(
             let _taken = work.reader.taken();
             if answer(
                 alloc,
-                plan,
+                &work.schedule,
                 work.with_tokens,
                 &work.layout,
                 &mut work.tools,

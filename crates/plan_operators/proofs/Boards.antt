@@ -138,13 +138,12 @@ outputs-there nodes outs valid =
     All-weaker (IsOutput (shapes_of nodes)) (λ (out : PlanOut). out.node < length nodes) (λ out is. omega (arith, is.there, length-each no_shape shape_by nodes)) outs valid.each
 
 -- and their rows are on the board
-pub all-shown : (lists lists' : Lists) (doc : Doc) (nodes nodes' : List Node) (untils untils' : List ℕ) (board : List (Option RowList)) (outs outs' : List PlanOut)
-    → lists' ≡ lists → nodes' ≡ nodes → outs' ≡ outs → untils' ≡ untils → length board ≡ length nodes → length nodes < 2 ^ 32 → All (λ (out : PlanOut). out.node < length nodes) outs
-    → IsBoard lists' doc nodes' untils' board → All (λ (out : PlanOut). 2 ^ 32 ≤ read_until untils out.node) outs' → All (λ (out : PlanOut). Holds lists doc nodes out.node (slice_index_or board out.node None)) outs
-all-shown lists lists' doc nodes nodes' untils untils' board outs outs' same_lists same_nodes same_outs same_untils long few there has shown = λ k d below.
+pub all-shown : (lists lists' : Lists) (doc : Doc) (nodes nodes' : List Node) (untils : List ℕ) (board : List (Option RowList)) (outs : List PlanOut)
+    → lists' ≡ lists → nodes' ≡ nodes → length board ≡ length nodes → length nodes < 2 ^ 32 → All (λ (out : PlanOut). out.node < length nodes) outs
+    → IsBoard lists' doc nodes' untils board → All (λ (out : PlanOut). 2 ^ 32 ≤ read_until untils out.node) outs → All (λ (out : PlanOut). Holds lists doc nodes out.node (slice_index_or board out.node None)) outs
+all-shown lists lists' doc nodes nodes' untils board outs same_lists same_nodes long few there has shown = λ k d below.
     let all : IsBoard lists doc nodes untils board =
-    subst (λ (l : Lists). IsBoard l doc nodes untils board) same_lists (subst (λ (ns : List Node). IsBoard lists' doc ns untils board) same_nodes (subst (λ (us : List ℕ). IsBoard lists' doc nodes' us board) same_untils has)) in
-    let kept : All (λ (out : PlanOut). 2 ^ 32 ≤ read_until untils out.node) outs = subst (All (λ (out : PlanOut). 2 ^ 32 ≤ read_until untils out.node)) same_outs shown in
+    subst (λ (l : Lists). IsBoard l doc nodes untils board) same_lists (subst (λ (ns : List Node). IsBoard lists' doc ns untils board) same_nodes has) in
     let inside = there k d below in
-    let late = kept k d below in
+    let late = shown k d below in
     all.each (slice_index_or outs k d).node (omega (arith, inside, long)) (omega (arith, late, few, long))

@@ -10,3 +10,7 @@ pub mod Boards
 pub mod Needing
 -- pairs of rows
 pub mod Pairing
+-- which nodes are read
+pub mod Scheduling
+-- rows that a policy keeps
+pub mod Keeping

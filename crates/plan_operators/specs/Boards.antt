@@ -1,5 +1,5 @@
 -- What the nodes of a plan have, so far as they are evaluated.
-use Rattle.std.specs.Prelude.{ℕ, ◌≡◌, ◌+◌, ◌<◌, ◌≤◌, Bool, true, false, IsTrue, List, [], Option, Some, None, length, slice_index_or, IsSome}
+use Rattle.std.specs.Prelude.{ℕ, ◌≡◌, ◌+◌, ◌<◌, ◌≤◌, ◌^◌, Bool, true, false, IsTrue, List, [], Option, Some, None, length, slice_index_or, IsSome, All}
 use Rattle.aql_base.specs.Bags.{SameBag}
 use Rattle.span_token.specs.Documents.{Doc}
 use Rattle.row_values.specs.Rows.{RowList, RowsLieIn}
@@ -8,6 +8,7 @@ use Rattle.algebra.specs.declared.node.Node.{Node}
 use Rattle.algebra.specs.declared.node.Node.TheVariants.{Cross, Select}
 use Rattle.algebra.specs.Folds.{of_input}
 use Rattle.algebra.specs.Inputs.{left_input, right_input, IsAmong}
+use Rattle.algebra.specs.Plans.{Parts}
 use Rattle.algebra.specs.Shapes.{no_shape, shapes_of}
 use Rattle.algebra.specs.Values.{all_values, val}
 
@@ -35,6 +36,13 @@ IsKeptFor n untils (Some i) = n < read_until untils i
 abbrev pub IsClosedFrom : ℕ → List Node → List ℕ → Type 0
 IsClosedFrom first nodes untils = (n : ℕ) (node : Node) → first ≤ n → n < length nodes → node ≡ slice_index_or nodes n node → 0 < read_until untils n
     → IsKeptFor n untils (left_input node) × IsKeptFor n untils (right_input node)
+
+-- so far are the nodes of a plan read: those that outputs show to the end, and each that somebody reads keeps its inputs
+pub record IsScheduled (plan : Parts) (untils : List ℕ) : Type 0 where
+  pub long : length untils ≡ length plan.nodes
+  pub there : All (λ out. out.node < length plan.nodes) plan.outputs
+  pub shown : All (λ out. 2 ^ 32 ≤ read_until untils out.node) plan.outputs
+  pub closed : IsClosedFrom 0 plan.nodes untils
 
 -- the board has the rows of each node with a lower number that somebody still reads
 pub record IsBoard (lists : Lists) (doc : Doc) (nodes : List Node) (untils : List ℕ) (board : List (Option RowList)) : Type 0 where

@@ -4,10 +4,9 @@ ghost use Rattle.algebra.specs.Inputs.{left_input, right_input, IsAmong};
 ghost use Rattle.plan_operators.specs.Given.{input_rows};
 ghost use Rattle.plan_operators.specs.Boards.{IsOf, Holds, IsBoard, IsClosedFrom, IsInput, IsNarrowed, IsOnBoard, IsTaken, IsThere, is_product, is_selection, read_until, input_on};
 
-use crate::readers::read_untils;
 use crate::select::selected_pairs;
-use crate::{Input, apply};
-use algebra::{Node, Nodes, Plan, PlanOut};
+use crate::{Input, Schedule, apply};
+use algebra::{Node, Nodes, PlanOut};
 use row_values::Rows;
 use scalar_ops::Tools;
 use span_token::{Document, OutOfMemory};
@@ -25,16 +24,15 @@ pub fn evaluate<'d>(
     alloc: Global,
     tools: &mut Tools<'_>,
     doc: &Document<'d>,
-    plan: &'d Plan,
+    schedule: &Schedule<'d>,
 ) -> Result<Vec<Option<Rows<'d>>>, OutOfMemory>
-    requires of_plan { tools.old ≡ plan.now.lists }
-    ensures long { IfOk result (λ board. vec_len board ≡ length plan.now.nodes) }
-    ensures shown { IfOk result (λ board. All (λ out. Holds plan.now.lists doc.now plan.now.nodes out.node (slice_index_or board.items out.node None)) plan.now.outputs) }
+    requires of_plan { tools.old ≡ schedule.now.lists }
+    ensures long { IfOk result (λ board. vec_len board ≡ length schedule.now.nodes) }
+    ensures shown { IfOk result (λ board. All (λ out. Holds schedule.now.lists doc.now schedule.now.nodes out.node (slice_index_or board.items out.node None)) schedule.now.outputs) }
     ensures same { tools.new ≡ tools.old }
 {
-    let nodes = plan.nodes();
-    let untils = read_untils(alloc, nodes, plan.outputs())?;
-    let board = board_of(alloc, tools, doc, nodes, untils.as_slice())?;
+    let nodes = schedule.plan().nodes();
+    let board = board_of(alloc, tools, doc, nodes, schedule.untils())?;
     Ok(board)
 }
 

@@ -1,11 +1,13 @@
 //! The operators of plans: what each node gives of the rows of its inputs, and a whole plan on one document.
 //!
 //! `apply` gives the bag of rows that a node means (`op` of `algebra`) for lists of rows that are given up or
-//! lent, and `evaluate` the rows of each output of a plan (`val`). Stands on `algebra` for plans, on
-//! `row_operators` for what is done to rows, and on `span_joins` for joins.
+//! lent, and `evaluate` the rows of each output of a plan (`val`), by a `Schedule` that is made once for all
+//! documents. Stands on `algebra` for plans, on `row_operators` for what is done to rows, and on `span_joins`
+//! for joins.
 #![tactic(auto)]
 
 mod board;
+mod consolidation;
 mod dicts;
 mod extract;
 mod input;
@@ -13,9 +15,11 @@ mod join;
 mod keep;
 mod operator;
 mod readers;
+mod schedule;
 mod select;
 mod sides;
 
 pub use board::{evaluate, rows_shown};
 pub use input::Input;
 pub use operator::apply;
+pub use schedule::Schedule;

@@ -9,6 +9,7 @@ ghost use Rattle.algebra.specs.Shapes.{shape_by};
 ghost use Rattle.plan_operators.specs.Given.{input_rows, MayRead};
 
 use crate::Input;
+use crate::consolidation::consolidate;
 use crate::dicts::{part_of, with_places};
 use crate::extract::with_found;
 use crate::join::{restricted, span_join};
@@ -16,9 +17,7 @@ use crate::keep::order_limit;
 use crate::select::select;
 use crate::sides::{cross, difference, union};
 use algebra::Node;
-use row_operators::{
-    Search, blocks_in, consolidated, document_rows, grouped_in_order, values_for_each,
-};
+use row_operators::{Search, blocks_in, document_rows, grouped_in_order, values_for_each};
 use row_values::Rows;
 use scalar_ops::Tools;
 use span_token::{Document, OutOfMemory};
@@ -122,8 +121,7 @@ pub fn apply<'d>(
         Node::Union { .. } => union(alloc, left, right),
         Node::Minus { .. } => difference(alloc, left, right.rows()),
         Node::Consolidate { policy, target, .. } => {
-            let rows = left.into_rows(alloc)?;
-            consolidated(alloc, tools, doc, rows, *policy, target.as_expr())
+            consolidate(alloc, tools, doc, left, *policy, target.as_expr())
         }
         Node::Group { keys, aggs, .. } => {
             grouped_in_order(alloc, left.rows(), keys.as_slice(), aggs.as_slice())

@@ -18,6 +18,7 @@ lines-init g c =
     let b = c.in_ok-work.ensures in
     record {
       stands = rw (b.reader, b.pending, b.number) (law.begins (line_by c.args.plan.now) (g.S.Source.left c.args.corpus.now) (g.O.Sink.held c.args.out.now) (g.S.Source.faults c.args.corpus.now));
+      plan = b.plan_is;
       layout = b.outputs_are;
       tables = b.tables;
       going = rw b.reader tt;
@@ -38,7 +39,9 @@ take_turn-requires-clause-room g c =
 
 pub lines-smaller : goal.lines-smaller
 lines-smaller g c =
-    let turned = c.in_ok-take_turn.ensures.turned (g.S.Source.left c.args.corpus.now) (g.S.Source.faults c.args.corpus.now) (g.O.Sink.held c.args.out.now) (g.O.Sink.held c.send_in_time.new.out)
+    let plan = c.in-Ok.ensures.same.schedule ∙ c.lines.invariant.plan in
+    let turns = rw plan at (c.in_ok-take_turn.ensures.turned (g.S.Source.left c.args.corpus.now) (g.S.Source.faults c.args.corpus.now) (g.O.Sink.held c.args.out.now) (g.O.Sink.held c.send_in_time.new.out)) in
+    let turned = turns
     (c.in-Ok.ensures.sent (line_by c.args.plan.now) (g.S.Source.left c.args.corpus.now) (g.S.Source.left c.lines.corpus) (g.S.Source.faults c.args.corpus.now) (g.S.Source.faults c.lines.corpus) (g.O.Sink.held c.args.out.now) c.lines.invariant.stands) in
     let next = rw c.in-Next.is at turned in
     let few = law.number_within (line_by c.args.plan.now) (g.S.Source.left c.args.corpus.now) (g.S.Source.left c.take_turn.new.corpus) (g.S.Source.faults c.args.corpus.now) (g.S.Source.faults c.take_turn.new.corpus) (g.O.Sink.held c.args.out.now) (g.O.Sink.held c.send_in_time.new.out) c.take_turn.new.work.reader c.take_turn.new.work.pending.items c.take_turn.new.work.number next in
@@ -47,27 +50,34 @@ lines-smaller g c =
 
 pub lines-preserved : goal.lines-preserved
 lines-preserved g c =
-    let turned = c.in_ok-take_turn.ensures.turned (g.S.Source.left c.args.corpus.now) (g.S.Source.faults c.args.corpus.now) (g.O.Sink.held c.args.out.now) (g.O.Sink.held c.send_in_time.new.out)
+    let plan = c.in-Ok.ensures.same.schedule ∙ c.lines.invariant.plan in
+    let turns = rw plan at (c.in_ok-take_turn.ensures.turned (g.S.Source.left c.args.corpus.now) (g.S.Source.faults c.args.corpus.now) (g.O.Sink.held c.args.out.now) (g.O.Sink.held c.send_in_time.new.out)) in
+    let turned = turns
     (c.in-Ok.ensures.sent (line_by c.args.plan.now) (g.S.Source.left c.args.corpus.now) (g.S.Source.left c.lines.corpus) (g.S.Source.faults c.args.corpus.now) (g.S.Source.faults c.lines.corpus) (g.O.Sink.held c.args.out.now) c.lines.invariant.stands) in
     let same = c.in-Ok.ensures.same in
     let next = rw c.in-Next.is at turned in
     record {
       stands = next;
+      plan = c.in_ok-take_turn.ensures.same.1.1 ∙ same.schedule ∙ c.lines.invariant.plan;
       layout = c.in_ok-take_turn.ensures.same.0 ∙ same.layout ∙ c.lines.invariant.layout;
-      tables = c.in_ok-take_turn.ensures.same.1 ∙ same.tools ∙ c.lines.invariant.tables;
+      tables = c.in_ok-take_turn.ensures.same.1.0 ∙ same.tools ∙ c.lines.invariant.tables;
       going = c.in_ok-take_turn.ensures.going c.in-Next.is;
       unfailed = c.in-Ok.ensures.stands ∙ c.lines.invariant.unfailed;
     }
 
 pub returns-in_err-take_turn-clause-part : goal.returns-in_err-take_turn-clause-part
 returns-in_err-take_turn-clause-part g c =
-    let turned = c.in_err-take_turn.ensures.turned (g.S.Source.left c.args.corpus.now) (g.S.Source.faults c.args.corpus.now) (g.O.Sink.held c.args.out.now) (g.O.Sink.held c.send_in_time.new.out)
+    let plan = c.in-Ok.ensures.same.schedule ∙ c.lines.invariant.plan in
+    let turns = rw plan at (c.in_err-take_turn.ensures.turned (g.S.Source.left c.args.corpus.now) (g.S.Source.faults c.args.corpus.now) (g.O.Sink.held c.args.out.now) (g.O.Sink.held c.send_in_time.new.out)) in
+    let turned = turns
     (c.in-Ok.ensures.sent (line_by c.args.plan.now) (g.S.Source.left c.args.corpus.now) (g.S.Source.left c.lines.corpus) (g.S.Source.faults c.args.corpus.now) (g.S.Source.faults c.lines.corpus) (g.O.Sink.held c.args.out.now) c.lines.invariant.stands) in
     law.at_err _ c.from_residual-in_err-take_turn.result turned
 
 pub returns-in-Ended-clause-ran : goal.returns-in-Ended-clause-ran
 returns-in-Ended-clause-ran g c =
-    let turned = c.in_ok-take_turn.ensures.turned (g.S.Source.left c.args.corpus.now) (g.S.Source.faults c.args.corpus.now) (g.O.Sink.held c.args.out.now) (g.O.Sink.held c.send_in_time.new.out)
+    let plan = c.in-Ok.ensures.same.schedule ∙ c.lines.invariant.plan in
+    let turns = rw plan at (c.in_ok-take_turn.ensures.turned (g.S.Source.left c.args.corpus.now) (g.S.Source.faults c.args.corpus.now) (g.O.Sink.held c.args.out.now) (g.O.Sink.held c.send_in_time.new.out)) in
+    let turned = turns
     (c.in-Ok.ensures.sent (line_by c.args.plan.now) (g.S.Source.left c.args.corpus.now) (g.S.Source.left c.lines.corpus) (g.S.Source.faults c.args.corpus.now) (g.S.Source.faults c.lines.corpus) (g.O.Sink.held c.args.out.now) c.lines.invariant.stands) in
     let ended = rw c.in-Ended.is at turned in
     let finish = rw c.deref.ensures.value at c.finish.ensures in

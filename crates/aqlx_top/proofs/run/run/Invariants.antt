@@ -10,6 +10,7 @@ invariant-lines g l = record {
   stands : Stands (line_by l.fn.plan)
       (source_ends (g.S.Source.left l.initial.corpus) (g.S.Source.left l.corpus) (g.S.Source.faults l.initial.corpus) (g.S.Source.faults l.corpus))
       (g.O.Sink.held l.initial.out) (g.O.Sink.held l.out) l.work.reader l.work.pending.items l.work.number;
+  plan : l.work.schedule ≡ l.fn.plan;
   layout : l.work.layout ≡ l.fn.outputs;
   tables : l.work.tools ≡ l.fn.plan.lists;
   going : IsGoing l.work.reader;

@@ -1,0 +1,46 @@
+-- What was found out of a node and of outputs, as plans want it.
+use Rattle.std.proofs.Common.{◌≡◌, ◌∙◌, ◌<◌, ℕ, List, length, map, sym, subst, arith, All}
+use Rattle.std.specs.Prelude.{slice_index_or}
+use Rattle.row_values.specs.Outputs.{HasDistinctNames}
+use Rattle.row_values.specs.Rows.{RowList}
+use Rattle.algebra.specs.declared.node.Node.{Node}
+use Rattle.algebra.specs.declared.output.PlanOut.{PlanOut}
+use Rattle.algebra.specs.declared.shape.Shape.{Shape}
+use Rattle.algebra.specs.FoldLaws.{length-each}
+use Rattle.algebra.specs.Folds.{of_input}
+use Rattle.algebra.specs.Inputs.{left_input, right_input, IsAmong}
+use Rattle.algebra.specs.Nodes.{IsNode}
+use Rattle.algebra.specs.Plans.{IsOutput, AreOutputs}
+use Rattle.algebra.specs.Shapes.{shape_by, shapes_of, no_shape, IsMade, IsOpen}
+use Rattle.plan_operators.specs.Given.{MayRead}
+
+-- a node is among the shapes of all nodes
+pub among_shapes : (nodes : List Node) (n : ℕ) → n < length nodes → n < length (shapes_of nodes)
+among_shapes nodes n below = omega (arith, below, length-each no_shape shape_by nodes)
+
+-- a node may stand where its inputs are there, with shapes that it may read
+pub may_stand : (shapes : List Shape) (node : Node) (left right : Shape) → IsAmong (length shapes) (left_input node) → IsAmong (length shapes) (right_input node)
+    → left ≡ of_input no_shape shapes (left_input node) → right ≡ of_input no_shape shapes (right_input node) → IsMade node left right → IsNode shapes node
+may_stand shapes node left right left_below right_below left_is right_is made = record {
+  left_below = left_below;
+  right_below = right_below;
+  made = subst (λ (s : Shape). IsMade node s (of_input no_shape shapes (right_input node))) left_is (subst (λ (t : Shape). IsMade node left t) right_is made);
+}
+
+-- an output may show a node that is there, without places, with a name for each column
+pub may_show : (nodes : List Node) (out : PlanOut) (shape : Shape) → out.node < length nodes → shape ≡ slice_index_or (shapes_of nodes) out.node no_shape → IsOpen shape
+    → length out.names.columns ≡ shape.width → IsOutput (shapes_of nodes) out
+may_show nodes out shape there is opened columns = record {
+  there = among_shapes nodes out.node there;
+  shown = subst IsOpen is opened;
+  columns = subst (λ (s : Shape). length out.names.columns ≡ s.width) is columns;
+}
+
+-- outputs with names that differ
+pub are_outputs : (nodes : List Node) (outs : List PlanOut) (names : List (List ℕ)) → All (IsOutput (shapes_of nodes)) outs → names ≡ map (λ (out : PlanOut). out.names.name) outs → HasDistinctNames names
+    → AreOutputs nodes outs
+are_outputs nodes outs names each are distinct = record { each = each; distinct = subst HasDistinctNames are distinct }
+
+-- rows that a node may read, by shapes of their widths
+pub may_be_read : (node : Node) (left right : RowList) (s t : Shape) → left.width ≡ s.width → right.width ≡ t.width → IsMade node s t → MayRead node left right
+may_be_read node left right s t left_wide right_wide made = record { left_shape = s; right_shape = t; left_width = left_wide; right_width = right_wide; made = made }
