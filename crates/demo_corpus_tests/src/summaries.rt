@@ -83,7 +83,7 @@ fn totals_of_200(alloc: Global) -> Result<Totals, OutOfMemory>
     let none = equal_rows(alloc, &[0; 11])?;
     let mut totals = Totals::new(alloc, 11)?;
     totals.add(&all);
-    'documents: for _i in 0..199 {
+    'documents: for _i in 0u32..199 {
         totals.add(&none);
     }
     Ok(totals)
