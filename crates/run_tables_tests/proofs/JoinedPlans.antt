@@ -1,9 +1,8 @@
 -- The items of the tests' plan with a conditional join may be computed one after another, the right one of the join where the
 -- left one has a row.
-use Rattle.std.proofs.Common.{◌≡◌, ◌≢◌, inl, inr, ℕ, ◌+◌, ◌*◌, ◌<◌, List, [], ◌∷◌, length, refl, sym, ap, subst, ◌∙◌, arith, Contains, Option, Some, None, true}
+use Rattle.std.proofs.Common.{◌≡◌, ◌≢◌, inl, inr, ℕ, ◌+◌, ◌*◌, List, [], ◌∷◌, length, refl, sym, ap, subst, ◌∙◌, arith, Contains, Some, None, true}
 use Rattle.std.specs.Prelude.{slice_get}
 use Rattle.std.proofs.lemmas.List.Sorted.{length_permutation}
-use Rattle.aql_base.specs.Bags.{SameBag}
 use Rattle.span_token.specs.Documents.{Doc as Document}
 use Rattle.aql_typed.specs.Meaning.{Rows}
 use Rattle.algebra.specs.declared.node.Node.{Node}
@@ -59,8 +58,8 @@ module _ (plan : Parts) (docs : List Document) (d first : ℕ) (doc : Document) 
   has_row : (found : ItemRows) → found.item ≡ first + 1 → IsResult plan docs found.item found.rows → length found.rows.rows ≢ 0 → val plan.lists doc plan.nodes 1 ≢ []
   has_row found of_left result some none =
       let has =
-          at-each plan docs (λ (doc : Document) (n : ℕ). HasInput plan.lists doc plan.nodes (Some n) found.rows) found.item (first + 1) of_left result.place
-          (place (first + 1) 1 (Regex 0 0 0 []) refl refl) result.has in
+      at-each plan docs (λ (doc : Document) (n : ℕ). HasInput plan.lists doc plan.nodes (Some n) found.rows) found.item (first + 1) of_left result.place
+      (place (first + 1) 1 (Regex 0 0 0 []) refl refl) result.has in
       let as_long : length (val plan.lists doc plan.nodes 1) ≡ length found.rows.rows = length_permutation found.rows.rows (val plan.lists doc plan.nodes 1) has.same in
       some (sym as_long ∙ ap length none)
 

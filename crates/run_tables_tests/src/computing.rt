@@ -80,8 +80,9 @@ fn rows_of_join<'d, W: Work>(
     ensures same { tools.new ≡ tools.old }
 {
     let first = d * 4;
-    let text: Box<Published<'d, W>> =
-        Published::compute(alloc, tools, plan, docs, first, None, None)?;
+    let text: Box<Published<'d, W>> = Published::compute(
+        alloc, tools, plan, docs, first, None, None,
+    )?;
     let text = published(results, text)?;
     let left = Published::compute(alloc, tools, plan, docs, first + 1, Some(text), None)?;
     let left = published(results, left)?;
@@ -91,15 +92,7 @@ fn rows_of_join<'d, W: Work>(
     }
     let right = Published::compute(alloc, tools, plan, docs, first + 2, Some(text), None)?;
     let right = published(results, right)?;
-    let join = Published::compute(
-        alloc,
-        tools,
-        plan,
-        docs,
-        first + 3,
-        Some(left),
-        Some(right),
-    )?;
+    let join = Published::compute(alloc, tools, plan, docs, first + 3, Some(left), Some(right))?;
     Ok(published(results, join)?.rows().len())
 }
 
@@ -121,9 +114,7 @@ fn rows_of_joins<'d, W: Work>(
 }
 
 #[test]
-fn a_join_without_a_left_row_needs_no_right_result(
-    rt: HostRuntime,
-) -> Result<(), Fail> {
+fn a_join_without_a_left_row_needs_no_right_result(rt: HostRuntime) -> Result<(), Fail> {
     let alloc = rt.alloc();
     let plan = joined_plan(alloc, compile_pattern(alloc, "[0-9]+")?)?;
     let docs = [
