@@ -11,16 +11,16 @@ use Rattle.aql_parser.specs.Faults.{kinds_in, IsSyntaxFault}
 use Rattle.aql_parser.specs.Faults as parsing
 use Rattle.aql_syntax.specs.Trees.{Statement}
 use Rattle.aql_syntax.specs.Programs.{AreTokensOf, placed_in}
-use Rattle.aqlx_top.specs.declared.program.Compiled.{Compiled}
+use Rattle.algebra.specs.Plans.{Parts}
 use Rattle.aqlx_top.specs.declared.status.ProgramFault.{ProgramFault}
 use Rattle.aqlx_top.specs.declared.status.ProgramFault.TheVariants.{Text, Large, Lex, Syntax, Name, Mistyped}
 use Rattle.aqlx_top.specs.declared.status.What.TheVariants.{Bytes, Statements, Nesting}
+use Rattle.aqlx_top.specs.Plans.{IsPlanOf}
 use Rattle.aqlx_top.specs.ProgramFaults.{HasCause, HasOnlyFault, HasTooMany, IsTooDeep, IsTooLargeFor}
 use Rattle.aqlx_top.specs.ProgramTexts.{ReadsAs, IsWithinLimits, HoldsStatements}
-use Rattle.aqlx_top.specs.Programs.{IsCompiledFrom, IsBuiltFrom, IsRefusedFor}
+use Rattle.aqlx_top.specs.Programs.{IsBuiltFrom, IsRefusedFor}
 use Rattle.view_graph.specs.Answers.{IsNameDecided}
-use Rattle.aqlx_top.proofs.Planning.{lowered_means}
-use Rattle.aqlx_top.proofs.ProgramLaws.{only_many, only_deep, only_syntax, only_name, only_type, holds_program}
+use Rattle.aqlx_top.proofs.ProgramLaws.{only_many, only_deep, only_syntax, only_name, only_type, has_no_fault}
 
 -- the kinds of tokens are seen in two ways
 kinds_seen : (toks : List Tok) → kinds_of toks ≡ kinds_in (map token_of toks)
@@ -59,12 +59,20 @@ module _ (text : List ℕ) (toks : List Tok) (decided : IsDecided text) (reads :
       }
 
       module _ (names : IsNameDecided trees) where
-        pub built_from : (compiled : Compiled) → IsBuiltFrom trees compiled → IsCompiledFrom text compiled
-        built_from compiled built = record {
+        pub built_from : (plan : Parts) → IsBuiltFrom trees plan → IsPlanOf text plan
+        built_from plan built = record {
           program = program_of built.typed;
-          holds = holds_program text trees built.order built.typed decided held one names built.resolved built.is_typed;
-          means = lowered_means built.typed compiled.plan built.lowered;
-          outputs = built.outputs;
+          holds = record {
+            statements = trees;
+            holds = held;
+            order = built.order;
+            resolved = built.resolved;
+            typed = built.typed;
+            is_typed = built.is_typed;
+            program_is = refl;
+            faultless = has_no_fault text trees built.order built.typed decided held one names built.resolved built.is_typed;
+          };
+          lowered = built.lowered;
         }
 
         pub refused_form : (failure : Failure ProgramFault) → IsRefusedFor (map token_of toks) trees failure → HasCause text failure

@@ -17,7 +17,7 @@ use Rattle.aqlx_top.specs.Limits.{program_limit}
 use Rattle.aqlx_top.specs.declared.status.ProgramFault.{ProgramFault}
 use Rattle.aqlx_top.specs.declared.status.ProgramFault.TheVariants.{Text, Large, Lex, Syntax, Name, Mistyped}
 use Rattle.aqlx_top.specs.declared.status.What.TheVariants.{Bytes, Statements, Nesting}
-use Rattle.aqlx_top.specs.ProgramFaults.{HasFault, HasOnlyFault, begin_of, IsMistyped, AreOneFault, HasTooMany, IsTooDeep, HoldsProgram}
+use Rattle.aqlx_top.specs.ProgramFaults.{HasFault, HasOnlyFault, begin_of, IsMistyped, AreOneFault, HasTooMany, IsTooDeep, IsFaultless}
 use Rattle.view_graph.specs.Answers.{IsNameFault, IsNameDecided, IsResolved}
 use Rattle.aql_types.specs.declared.fault.TypeFault.{TypeFault}
 use Rattle.aql_types.specs.declared.fault.TypeRule.{TypeRule}
@@ -27,7 +27,7 @@ use Rattle.aql_types.specs.Programs.{IsTyped, IsTypeFault, faults_of_program}
 use Rattle.aql_tables.specs.Programs.{lists_of}
 use Rattle.view_graph.specs.declared.fault.NameFault.{NameFault}
 use Rattle.aqlx_top.specs.ProgramTexts.{ReadsAs, IsWithinLimits, HoldsStatements}
-use Rattle.aqlx_top.specs.Run.{Typed, program_of}
+use Rattle.aqlx_top.specs.Run.{Typed}
 
 -- ---- bytes and text
 
@@ -278,15 +278,8 @@ faultless tokens held order decided resolved no_fault (Syntax other) h = h
 faultless tokens held order decided resolved no_fault (Text place) h = h
 faultless tokens held order decided resolved no_fault (Lex other) h = h
 
-pub holds_program : (bytes : List ℕ) (held : List Statement) (order : List ℕ) (typed : Typed) → IsDecided bytes → (holds : HoldsStatements bytes held) → parsing.IsDecided holds.tokens
-    → IsNameDecided held → IsResolved held order → IsTyped (known_of_program held) (lists_of held) held order typed → HoldsProgram bytes (program_of typed)
-holds_program bytes held order typed decided holds one names resolved is_typed = record {
-  statements = held;
-  holds = holds;
-  order = order;
-  resolved = resolved;
-  typed = typed;
-  is_typed = is_typed;
-  program_is = refl;
-  faultless = λ fault h. faultless holds.tokens held order names resolved is_typed.faultless fault (statement_fault bytes held holds one fault (token_fault bytes holds.tokens decided holds.reads fault h));
-}
+-- the text of a program that has a typed form has no fault
+pub has_no_fault : (bytes : List ℕ) (held : List Statement) (order : List ℕ) (typed : Typed) → IsDecided bytes → (holds : HoldsStatements bytes held) → parsing.IsDecided holds.tokens
+    → IsNameDecided held → IsResolved held order → IsTyped (known_of_program held) (lists_of held) held order typed → IsFaultless bytes
+has_no_fault bytes held order typed decided holds one names resolved is_typed fault h =
+    faultless holds.tokens held order names resolved is_typed.faultless fault (statement_fault bytes held holds one fault (token_fault bytes holds.tokens decided holds.reads fault h))

@@ -15,6 +15,8 @@ pub mod Run
 pub mod Limits
 pub mod ProgramTexts
 pub mod ProgramFaults
+-- the plan of a program
+pub mod Plans
 -- what the top call promises
 pub mod Outcome
 -- Words of private clauses

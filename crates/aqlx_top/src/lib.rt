@@ -2,9 +2,10 @@
 //!
 //! `aqlx` writes exactly the bytes that the program means on the corpus, in the corpus's order, and
 //! answers each other status only for its named cause; whatever it answers, what it wrote is a prefix
-//! of the defined output. Stands on `aql_io` for files, sources and sinks, on `corpus_json` for lines
-//! and documents, on `aql_lexer`, `aql_parser`, `view_graph` and `aql_types` for programs, and on
-//! `plan_maker` and `plan_operators` for the plans that are run.
+//! of the defined output. `plan_program` gives the plan of a program's text, or the text's first fault.
+//! Stands on `aql_io` for files, sources and sinks, on `corpus_json` for lines and documents, on
+//! `aql_lexer`, `aql_parser`, `view_graph` and `aql_types` for programs, and on `plan_maker` and
+//! `plan_operators` for the plans that are run.
 #![tactic(auto)]
 
 mod answer;
@@ -26,6 +27,7 @@ pub use aql_lexer::LexFault;
 pub use aql_parser::SyntaxFault;
 pub use aql_types::TypeRule;
 pub use limits::{PROGRAM_LIMIT, STATEMENT_LIMIT};
+pub use program::plan_program;
 pub use status::{CorpusFault, ProgramFault, Status, What};
 pub use top::aqlx;
 pub use view_graph::NameFault;

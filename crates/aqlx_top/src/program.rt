@@ -1,16 +1,15 @@
-ghost use Rattle.std.specs.Prelude.{◌≡◌, ◌≤◌, All, IfErr, IfOk, length, map};
-ghost use Rattle.std.specs.Str.{IsUtf8};
+ghost use Rattle.std.specs.Prelude.{◌≡◌, All, IfErr, IfOk, map};
 ghost use Rattle.aql_lexer.specs.Kinds.{token_of};
 ghost use Rattle.aql_syntax.specs.Shapes.{IsFormed};
 ghost use Rattle.aql_syntax.specs.Views.{statement_of};
-ghost use Rattle.aqlx_top.specs.Limits.{program_limit};
+ghost use Rattle.aqlx_top.specs.Plans.{IsPlanOf};
 ghost use Rattle.aqlx_top.specs.ProgramFaults.{HasCause, begin_of};
 ghost use Rattle.aqlx_top.specs.Programs.{IsBuiltFrom, IsCompiledFrom, IsRefusedFor};
 ghost use Rattle.view_graph.specs.Answers.{IsNameDecided, IsResolved};
 
 use crate::ProgramFault;
 use crate::outputs::outputs_of;
-use crate::program_text::{check_sizes, text_of, tokens_of};
+use crate::program_text::{check_length, check_sizes, text_of, tokens_of};
 use algebra::Plan;
 use aql_lexer::Tok;
 use aql_parser::parse;
@@ -21,6 +20,27 @@ use row_values::Output;
 use span_token::Failure;
 use std::alloc::Global;
 use view_graph::{Graph, resolve};
+
+/// The plan of a program's text.
+///
+/// The program has no fault, and the plan is lowered from its typed form: each of its outputs shows on each
+/// document what the view of that output means, as a bag. A text with a fault is refused for its first one, in
+/// the order that `ProgramFault` tells; `Text` is never answered, since the text is UTF-8.
+///
+/// Meaning: `IsPlanOf`, `specs/Plans.antt`; of a fault: `HasCause`, `specs/ProgramFaults.antt`.
+pub fn plan_program(alloc: Global, text: &str) -> Result<Plan, Failure<ProgramFault>>
+    ensures planned { IfOk result (λ plan. IsPlanOf text.now plan) }
+    ensures fault { IfErr result (HasCause text.now) }
+{
+    check_length(text.as_bytes())?;
+    let toks = tokens_of(alloc, text)?;
+    check_sizes(&toks)?;
+    match parse(alloc, &toks) {
+        Ok(statements) => build(alloc, &toks, statements),
+        Err(Failure::Fault(fault)) => Err(Failure::Fault(ProgramFault::Syntax(fault))),
+        Err(Failure::OutOfMemory) => Err(Failure::OutOfMemory),
+    }
+}
 
 /// A program, ready to run: its plan, with its outputs as they are written.
 #[derive(Drop)]
@@ -35,32 +55,19 @@ pub(crate) fn compile(alloc: Global, bytes: &[u8]) -> Result<Compiled, Failure<P
     ensures fault { IfErr result (HasCause bytes.now) }
 {
     let text = text_of(bytes)?;
-    compile_text(alloc, text)
+    let plan = plan_program(alloc, text)?;
+    let outputs = outputs_of(alloc, &plan)?;
+    Ok(Compiled { plan, outputs })
 }
 
-fn compile_text(alloc: Global, text: &str) -> Result<Compiled, Failure<ProgramFault>>
-    requires small { length text.now ≤ program_limit }
-    requires utf8 { IsUtf8 text.now }
-    ensures compiled { IfOk result (IsCompiledFrom text.now) }
-    ensures fault { IfErr result (HasCause text.now) }
-{
-    let toks = tokens_of(alloc, text)?;
-    check_sizes(&toks)?;
-    match parse(alloc, &toks) {
-        Ok(statements) => build(alloc, &toks, statements),
-        Err(Failure::Fault(fault)) => Err(Failure::Fault(ProgramFault::Syntax(fault))),
-        Err(Failure::OutOfMemory) => Err(Failure::OutOfMemory),
-    }
-}
-
-/// The program of these statements, or the fault of their names or types.
+/// The plan of these statements, or the fault of their names or types.
 fn build(
     alloc: Global,
     toks: &[Tok],
     statements: Vec<Statement>,
-) -> Result<Compiled, Failure<ProgramFault>>
+) -> Result<Plan, Failure<ProgramFault>>
     requires formed { All IsFormed (map statement_of statements.items) }
-    ensures built { IfOk result (IsBuiltFrom (map statement_of statements.items)) }
+    ensures built { IfOk result (λ plan. IsBuiltFrom (map statement_of statements.items) plan) }
     ensures fault { IfErr result (IsRefusedFor (map token_of toks.now) (map statement_of statements.items)) }
     ensures decided { IsNameDecided (map statement_of statements.items) }
 {
@@ -71,17 +78,16 @@ fn build(
     }
 }
 
-/// The program of a graph, or the fault of its types.
-fn typed(alloc: Global, toks: &[Tok], graph: &Graph) -> Result<Compiled, Failure<ProgramFault>>
+/// The plan of a graph, or the fault of its types.
+fn typed(alloc: Global, toks: &[Tok], graph: &Graph) -> Result<Plan, Failure<ProgramFault>>
     requires resolved { IsResolved (map statement_of graph.now.0) graph.now.1 }
-    ensures built { IfOk result (IsBuiltFrom (map statement_of graph.now.0)) }
+    ensures built { IfOk result (λ plan. IsBuiltFrom (map statement_of graph.now.0) plan) }
     ensures fault { IfErr result (IsRefusedFor (map token_of toks.now) (map statement_of graph.now.0)) }
 {
     match check(alloc, graph) {
         Ok(typed) => {
             let plan = lower(alloc, typed)?;
-            let outputs = outputs_of(alloc, &plan)?;
-            Ok(Compiled { plan, outputs })
+            Ok(plan)
         }
         Err(Failure::Fault(fault)) => Err(Failure::Fault(placed(toks, fault))),
         Err(Failure::OutOfMemory) => Err(Failure::OutOfMemory),

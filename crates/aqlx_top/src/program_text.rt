@@ -13,9 +13,8 @@ use aql_parser::{MAX_NESTING, measure};
 use span_token::Failure;
 use std::alloc::Global;
 
-/// The text that the bytes of a program file are, where they aren't too many.
-pub(crate) fn text_of(bytes: &[u8]) -> Result<&str, Failure<ProgramFault>>
-    ensures text { IfOk result (λ text. (text.now ≡ bytes.now) × IsUtf8 bytes.now) }
+/// Refuses more bytes than a program may have.
+pub(crate) fn check_length(bytes: &[u8]) -> Result<(), Failure<ProgramFault>>
     ensures small { OnOk result (length bytes.now ≤ program_limit) }
     ensures fault { IfErr result (HasCause bytes.now) }
 {
@@ -25,6 +24,15 @@ pub(crate) fn text_of(bytes: &[u8]) -> Result<&str, Failure<ProgramFault>>
             number: PROGRAM_LIMIT as u64 + 1,
         }));
     }
+    Ok(())
+}
+
+/// The text that the bytes of a program file are, where they aren't too many.
+pub(crate) fn text_of(bytes: &[u8]) -> Result<&str, Failure<ProgramFault>>
+    ensures text { IfOk result (λ text. (text.now ≡ bytes.now) × IsUtf8 bytes.now) }
+    ensures fault { IfErr result (HasCause bytes.now) }
+{
+    check_length(bytes)?;
     match std::str::from_utf8(bytes) {
         Ok(text) => Ok(text),
         Err(error) => Err(Failure::Fault(ProgramFault::Text {

@@ -7,4 +7,4 @@ use Rattle.aqlx_top.proofs.program_text.text_of.Goals as goal
 pub returns-in-Err-clause-fault : goal.returns-in-Err-clause-fault
 returns-in-Err-clause-fault c =
     subst (λ (place : ℕ). HasOnlyFault c.args.bytes.now (Text place)) (sym c.valid_up_to.ensures)
-    (only_text c.args.bytes.now _ c.if-bytes-gt-PROGRAM_LIMIT.false c.in-Err.ensures.cases.1)
+    (only_text c.args.bytes.now _ c.in_ok-check_length.ensures.small c.in-Err.ensures.cases.1)

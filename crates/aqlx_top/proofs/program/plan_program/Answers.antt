@@ -2,7 +2,7 @@ use Rattle.std.proofs.Common.{map}
 use Rattle.std.proofs.lemmas.Result.{IfOk-weaker, IfErr-weaker, err_from_is_err_and}
 use Rattle.aql_syntax.specs.Views.{statement_of}
 use Rattle.aqlx_top.proofs.Compiling as law
-use Rattle.aqlx_top.proofs.program.compile_text.Goals as goal
+use Rattle.aqlx_top.proofs.program.plan_program.Goals as goal
 
 pub returns-in_err-check_sizes-clause-fault : goal.returns-in_err-check_sizes-clause-fault
 returns-in_err-check_sizes-clause-fault c =
@@ -16,8 +16,8 @@ returns-in-Err-Fault-clause-fault c =
     (rw c.deref.ensures.value at c.in_ok-check_sizes.ensures.within) (rw c.deref-2.ensures.value at c.parse.ensures.decided)
     c.in-Err-Fault.fault (rw (c.in-Err-Fault.field-0-is, c.deref-2.ensures.value) at c.in-Err-Fault.ensures.fault))
 
-pub returns-in-Ok-clause-compiled : goal.returns-in-Ok-clause-compiled
-returns-in-Ok-clause-compiled c =
+pub returns-in-Ok-clause-planned : goal.returns-in-Ok-clause-planned
+returns-in-Ok-clause-planned c =
     IfOk-weaker c.build.result _ _
     (law.built_from c.args.text.now c.in_ok-toks.toks.items c.tokens_of.ensures.decided c.in_ok-toks.ensures.tokens
     (rw c.deref.ensures.value at c.in_ok-check_sizes.ensures.within) (rw c.deref-2.ensures.value at c.parse.ensures.decided)
