@@ -36,7 +36,7 @@ pub(crate) fn gives(
 }
 
 /// What a node gives, where its left rows are given up or lent, and its right ones.
-#[tactic(auto, using(crate::proofs::Standing::may_be_read))]
+#[tactic(auto, using(crate::proofs::Planning::may_be_read))]
 fn given_or_lent<'d>(
     alloc: Global,
     node: &'d Node,

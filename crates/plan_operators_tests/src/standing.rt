@@ -19,7 +19,7 @@ use std::alloc::Global;
 use std::test::Fail;
 
 /// Puts a node behind the others, and gives its number.
-#[tactic(auto, using(crate::proofs::Standing::may_stand))]
+#[tactic(auto, using(crate::proofs::Planning::may_stand))]
 pub(crate) fn put(nodes: &mut Nodes, node: Node) -> Result<u32, Fail> {
     let (left, right) = node.inputs();
     let Some(left_shape) = shape_of(nodes, left) else {
@@ -36,7 +36,7 @@ pub(crate) fn put(nodes: &mut Nodes, node: Node) -> Result<u32, Fail> {
 }
 
 /// The shape of an input, where the nodes have it.
-#[tactic(auto, using(crate::proofs::Standing::among_shapes))]
+#[tactic(auto, using(crate::proofs::Planning::among_shapes))]
 fn shape_of(nodes: &Nodes, input: Option<u32>) -> Option<Shape>
     ensures among { IfSome result (λ _. IsAmong (length (shapes_of nodes.now)) input) }
     ensures shape { IfSome result (λ shape. shape ≡ of_input no_shape (shapes_of nodes.now) input) }
@@ -178,7 +178,7 @@ fn has_column(agg: Agg, width: u32) -> bool
 }
 
 /// The plan that shows some of the nodes, by their numbers.
-#[tactic(auto, using(crate::proofs::Standing::are_outputs))]
+#[tactic(auto, using(crate::proofs::Planning::are_outputs))]
 pub(crate) fn showing(
     alloc: Global,
     nodes: Nodes,
@@ -226,7 +226,7 @@ fn are_shown(nodes: &Nodes, outputs: &[PlanOut]) -> bool
     outputs.iter().all(|out| is_shown(nodes, out))
 }
 
-#[tactic(auto, using(crate::proofs::Standing::may_show))]
+#[tactic(auto, using(crate::proofs::Planning::may_show))]
 fn is_shown(nodes: &Nodes, out: &PlanOut) -> bool
     ensures { IsTrue result → IsOutput (shapes_of nodes.now) out.now }
 {
