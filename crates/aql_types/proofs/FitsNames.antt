@@ -8,12 +8,12 @@ use Rattle.std.proofs.lemmas.Slice.Eq.{bytes_eq-Decides}
 use Rattle.row_values.specs.Outputs.{HasDistinctNames}
 use Rattle.aql_syntax.specs.Trees.{Name}
 use Rattle.aql_typed.specs.declared.tree.Column.{Column}
-use Rattle.aql_types.specs.declared.fault.TypeRule.{TypeRule}
-use Rattle.aql_types.specs.Extractions.{span_columns}
-use Rattle.aql_types.specs.Faults.{broken, has_name, repeated, duplicate}
-use Rattle.aql_types.specs.Items.{columns_of_items, names_of_items}
-use Rattle.aql_types.specs.Typings.{ItemTyping}
-use Rattle.aql_types.proofs.FitsLists.{not_nil}
+use Rattle.clause_types.specs.declared.fault.TypeRule.{TypeRule}
+use Rattle.clause_types.specs.Extractions.{span_columns}
+use Rattle.clause_types.specs.Faults.{broken, has_name, repeated, duplicate}
+use Rattle.clause_types.specs.Items.{columns_of_items, names_of_items}
+use Rattle.clause_types.specs.Typings.{ItemTyping}
+use Rattle.clause_types.specs.FaultlessLaws.{not_nil}
 use Rattle.aql_types.proofs.Repeats.{has_name-append}
 
 -- the texts of names, and the names of columns

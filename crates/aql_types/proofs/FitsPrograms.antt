@@ -11,11 +11,11 @@ use Rattle.aql_typed.specs.Trees as tree
 use Rattle.aql_typed.specs.Views.{body_of}
 use Rattle.aql_typed.specs.declared.tree.Output.{Output}
 use Rattle.aql_typed.specs.declared.tree.TypedView.{TypedView}
-use Rattle.aql_types.specs.Known.{Known}
+use Rattle.clause_types.specs.Known.{Known}
 use Rattle.aql_types.specs.Programs.{ViewTyping, fault_in, typing_of_statement, typings_from, faults_of_program, views_of_program, outputs_of_program, view_seen}
 use Rattle.aql_types.specs.Queries.{View, typing_of_query}
 use Rattle.aql_types.specs.declared.fault.TypeFault.{TypeFault}
-use Rattle.aql_types.proofs.FitsLists.{both_none, map_none}
+use Rattle.clause_types.specs.FaultlessLaws.{both_none, map_none}
 use Rattle.aql_types.proofs.FitsOutputs.{outputs_typed}
 use Rattle.aql_types.proofs.FitsQueries.{widths_in, AreNamed, query_fits, query_named}
 

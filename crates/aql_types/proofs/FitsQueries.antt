@@ -9,17 +9,18 @@ use Rattle.aql_syntax.specs.Trees.{Query, select, extract, union, minus, Queries
 use Rattle.aql_typed.specs.Fitting.{width_of, first_width, source_width, all_widths, Fits, SidesFit, SourceFits, AllSourcesFit}
 use Rattle.aql_typed.specs.Trees as tree
 use Rattle.aql_typed.specs.declared.tree.Column.{Column}
-use Rattle.aql_types.specs.declared.fault.TypeRule.TheVariants.{DuplicateColumn, SchemaMismatch}
-use Rattle.aql_types.specs.Extractions.{names_found, items_extracted, found_faults, row_of_one}
-use Rattle.aql_types.specs.Items.{names_of_items}
-use Rattle.aql_types.specs.Known.{Known}
+use Rattle.clause_types.specs.declared.fault.TypeRule.TheVariants.{DuplicateColumn, SchemaMismatch}
+use Rattle.clause_types.specs.Extractions.{names_found, items_extracted, found_faults}
+use Rattle.aql_types.specs.QueryTypings.{row_of_one, QueryTyping, SourceTyping, visible_in, faults_of_sources, bodies_of, duplicate_aliases, row_of}
+use Rattle.clause_types.specs.Items.{names_of_items}
+use Rattle.clause_types.specs.Known.{Known}
 use Rattle.aql_types.specs.Queries.{View, view_named, same_column, same_columns, faults_of_sides, mismatch, mismatches, mismatched, first_columns, typing_of_query, typings_of_queries, typing_of_source, typings_of_sources}
-use Rattle.aql_types.specs.Selections.{QueryTyping, SourceTyping, visible_in, faults_of_sources, bodies_of, duplicate_aliases, row_of, rows_faults, items_typed}
-use Rattle.aql_types.proofs.FitsLists.{both_none, unbroken}
+use Rattle.clause_types.specs.Selections.{rows_faults, items_typed}
+use Rattle.clause_types.specs.FaultlessLaws.{both_none, unbroken}
 use Rattle.aql_types.proofs.FitsNames.{names_in, no_duplicate, names_of_columns, names_given}
-use Rattle.aql_types.proofs.FitsReads.{row_width, ScopeReads}
-use Rattle.aql_types.proofs.FitsSelections.{rows_wide, rows_fit, names_once, rows_read}
-use Rattle.aql_types.proofs.FitsExtractions.{extract_wide, spec_sound, found_once, extraction_fits, extract_reads}
+use Rattle.clause_types.specs.ReadingLaws.{row_width, ScopeReads}
+use Rattle.clause_types.specs.SelectionLaws.{rows_wide, rows_fit, names_once, rows_read}
+use Rattle.clause_types.specs.ExtractionLaws.{extract_wide, spec_sound, found_once, extraction_fits, extract_reads}
 
 -- the numbers of columns of some views
 abbrev pub widths_in : List View → List ℕ

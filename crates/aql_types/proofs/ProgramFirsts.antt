@@ -9,13 +9,14 @@ use Rattle.span_token.specs.declared.refusal.Failure.{Failure}
 use Rattle.span_token.specs.declared.refusal.Failure.TheVariants.{OutOfMemory, Fault}
 use Rattle.aql_syntax.specs.Trees.{Statement}
 use Rattle.view_graph.specs.Uses.{statement_numbered}
-use Rattle.aql_types.specs.declared.fault.Breach.{Breach}
+use Rattle.clause_types.specs.declared.fault.Breach.{Breach}
 use Rattle.aql_types.specs.declared.fault.TypeFault.{TypeFault}
-use Rattle.aql_types.specs.Faults.{first}
-use Rattle.aql_types.specs.Known.{Known}
+use Rattle.clause_types.specs.Faults.{first}
+use Rattle.clause_types.specs.Known.{Known}
 use Rattle.aql_types.specs.Programs.{ViewTyping, fault_in, typing_of_statement, typings_from}
 use Rattle.aql_types.specs.Queries.{View}
-use Rattle.aql_types.specs.Refusals.{IsFirst, IsFirstFault, told}
+use Rattle.clause_types.specs.Refusals.{IsFirst}
+use Rattle.aql_types.specs.Refusals.{IsFirstFault, told}
 
 -- the first of the faults in a statement
 first-map : (number : ℕ) (faults : List Breach) (fault : Breach) → first faults ≡ Some fault → first (map (fault_in number) faults) ≡ Some (fault_in number fault)

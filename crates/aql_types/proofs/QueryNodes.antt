@@ -8,9 +8,9 @@ use Rattle.aql_syntax.specs.declared.tree.Select.{Select}
 use Rattle.aql_syntax.specs.Nodes.{select_view, union_view}
 use Rattle.aql_syntax.specs.Trees.{Query, Source, as_queries, as_sources}
 use Rattle.aql_syntax.specs.Views.{query_of, source_of, item_of, clauses_of}
-use Rattle.aql_types.specs.Known.{Known}
+use Rattle.clause_types.specs.Known.{Known}
 use Rattle.aql_types.specs.Queries.{View, typing_of_query, typings_of_queries, typing_of_source, typings_of_sources, union_of}
-use Rattle.aql_types.specs.Selections.{QueryTyping, SourceTyping, selection}
+use Rattle.aql_types.specs.QueryTypings.{QueryTyping, SourceTyping, selection}
 
 module _ (known : Known) (below : List View) where
   pub typings-as_queries : (qs : List Query) → typings_of_queries known below (as_queries qs) ≡ map (typing_of_query known below) qs

@@ -3,9 +3,9 @@ use Rattle.std.proofs.Common.{◌≡◌, ◌∙◌, ℕ, List, [], ap}
 use Rattle.aql_typed.specs.Trees.{Query}
 use Rattle.aql_typed.specs.Views.{query_of}
 use Rattle.aql_typed.specs.declared.tree.Column.{Column}
-use Rattle.aql_types.specs.declared.fault.Breach.{Breach}
+use Rattle.clause_types.specs.declared.fault.Breach.{Breach}
 use Rattle.aql_types.specs.declared.source.CheckedQuery.{CheckedQuery}
-use Rattle.aql_types.specs.Selections.{QueryTyping}
+use Rattle.aql_types.specs.QueryTypings.{QueryTyping}
 use Rattle.aql_types.specs.Sources.{query_seen}
 
 pub query_is : (at : ℕ) (faults : List Breach) (columns : List Column) (body : Query) (q : CheckedQuery) → at ≡ q.at → faults ≡ [] → columns ≡ q.columns.items

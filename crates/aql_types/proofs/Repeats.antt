@@ -3,7 +3,7 @@ use Rattle.std.proofs.Common.{◌≡◌, ◌∙◌, ℕ, Bool, true, false, ◌|
 use Rattle.std.specs.Str.{bytes_eq}
 use Rattle.std.proofs.lemmas.Option.{none-some}
 use Rattle.aql_syntax.specs.Trees.{Name}
-use Rattle.aql_types.specs.Faults.{first, has_name}
+use Rattle.clause_types.specs.Faults.{first, has_name}
 
 no_more : (b : Bool) → (b || false) ≡ (if b then true else false)
 no_more true = refl

@@ -1,10 +1,10 @@
 -- Sources and sides without a fault.
 use Rattle.std.proofs.Common.{◌≡◌, List, [], ◌∷◌, ◌++◌, map, refl, ap}
-use Rattle.aql_types.specs.declared.fault.Breach.{Breach}
+use Rattle.clause_types.specs.declared.fault.Breach.{Breach}
 use Rattle.aql_types.specs.declared.source.CheckedSource.{CheckedSource}
 use Rattle.aql_types.specs.declared.source.CheckedQuery.{CheckedQuery}
 use Rattle.aql_types.specs.Queries.{faults_of_sides, mismatch, minus_of, minus_with}
-use Rattle.aql_types.specs.Selections.{faults_of_sources}
+use Rattle.aql_types.specs.QueryTypings.{faults_of_sources}
 use Rattle.aql_types.specs.Sources.{source_seen, query_seen}
 
 pub sources_faultless : (sources : List CheckedSource) → faults_of_sources (map source_seen sources) ≡ []

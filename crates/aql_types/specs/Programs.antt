@@ -14,16 +14,16 @@ use Rattle.aql_typed.specs.Trees as typed
 use Rattle.aql_typed.specs.declared.tree.TypedView.{TypedView}
 use Rattle.aql_typed.specs.declared.tree.Output.{Output}
 use Rattle.aql_typed.specs.Views.{body_of}
-use Rattle.aql_types.specs.declared.fault.Breach.{Breach}
+use Rattle.clause_types.specs.declared.fault.Breach.{Breach}
 use Rattle.aql_types.specs.declared.fault.TypeFault.{TypeFault}
-use Rattle.aql_types.specs.Faults.{first}
-use Rattle.aql_types.specs.Known.{Known}
-use Rattle.aql_types.specs.Selections.{QueryTyping}
+use Rattle.clause_types.specs.Faults.{first}
+use Rattle.clause_types.specs.Known.{Known}
+use Rattle.aql_types.specs.QueryTypings.{QueryTyping}
 use Rattle.aql_types.specs.Queries.{View, typing_of_query}
 
 -- the fault of the statement with this number, from 1
 abbrev pub fault_in : ℕ → Breach → TypeFault
-fault_in number breach = record { statement = number; place = breach.at; rule = breach.rule }
+fault_in number breach = record { statement = number; at = breach.at; rule = breach.rule }
 
 -- what is said of a view: its faults, and what it is without one
 pub record ViewTyping : Type 0 where

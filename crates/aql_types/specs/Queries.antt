@@ -6,12 +6,11 @@ use Rattle.aql_typed.specs.Trees as typed
 use Rattle.aql_typed.specs.declared.tree.Column.{Column}
 use Rattle.scalar_ops.specs.declared.kind.Kind.{Kind}
 use Rattle.scalar_ops.specs.declared.kind.Kind.TheVariants as kind
-use Rattle.aql_types.specs.declared.fault.Breach.{Breach}
-use Rattle.aql_types.specs.declared.fault.TypeRule.TheVariants.{SchemaMismatch}
-use Rattle.aql_types.specs.Faults.{broken}
-use Rattle.aql_types.specs.Known.{Known}
-use Rattle.aql_types.specs.Selections.{QueryTyping, SourceTyping, selection}
-use Rattle.aql_types.specs.Extractions.{extraction}
+use Rattle.clause_types.specs.declared.fault.Breach.{Breach}
+use Rattle.clause_types.specs.declared.fault.TypeRule.TheVariants.{SchemaMismatch}
+use Rattle.clause_types.specs.Faults.{broken}
+use Rattle.clause_types.specs.Known.{Known}
+use Rattle.aql_types.specs.QueryTypings.{QueryTyping, SourceTyping, selection, extraction}
 
 -- a view that stands below: its name, its columns and what it is
 pub record View : Type 0 where

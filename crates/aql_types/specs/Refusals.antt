@@ -1,20 +1,12 @@
--- What a refusal says of a list of faults: it is the first, or memory ran out.
+-- What a refusal says of a list of a program's faults: it is the first, or memory ran out.
 use Rattle.std.specs.Prelude.{◌≡◌, ℕ, List, Some}
 use Rattle.span_token.specs.declared.refusal.Failure.{Failure}
 use Rattle.span_token.specs.declared.refusal.Failure.TheVariants.{OutOfMemory, Fault}
-use Rattle.aql_types.specs.declared.fault.Breach.{Breach}
+use Rattle.clause_types.specs.declared.fault.Breach.{Breach}
+use Rattle.clause_types.specs.Faults.{first}
 use Rattle.aql_types.specs.declared.fault.TypeFault.{TypeFault}
-use Rattle.aql_types.specs.Faults.{first}
 use Rattle.aql_types.specs.Programs.{fault_in}
 
-abbrev pub BeginsWith : List Breach → Failure Breach → Type 0
-BeginsWith faults OutOfMemory = Unit {0}
-BeginsWith faults (Fault fault) = first faults ≡ Some fault
-
-pub record IsFirst (faults : List Breach) (failure : Failure Breach) : Type 0 where
-  pub is : BeginsWith faults failure
-
--- the same of a program's faults
 abbrev pub BeginsProgram : List TypeFault → Failure TypeFault → Type 0
 BeginsProgram faults OutOfMemory = Unit {0}
 BeginsProgram faults (Fault fault) = first faults ≡ Some fault

@@ -9,7 +9,7 @@ use Rattle.aql_types.specs.declared.below.Columns.TheVariants as columns
 use Rattle.aql_types.specs.declared.source.CheckedQuery.{CheckedQuery}
 use Rattle.aql_types.specs.declared.source.CheckedSource.{CheckedSource}
 use Rattle.aql_types.specs.Queries.{Below}
-use Rattle.aql_types.specs.Selections.{QueryTyping, SourceTyping}
+use Rattle.aql_types.specs.QueryTypings.{QueryTyping, SourceTyping}
 
 abbrev pub columns_seen : Columns → List Column
 columns_seen (columns.OfView lent) = lent.now

@@ -3,17 +3,17 @@
 ghost use Rattle.std.specs.Prelude.{◌≡◌, [], map, IfOk, OnOk, IfErr};
 ghost use Rattle.aql_syntax.specs.Views.{statement_of};
 ghost use Rattle.aql_tables.specs.Programs.{collected, lists_of};
-ghost use Rattle.aql_types.specs.Known.{known_of_program};
+ghost use Rattle.clause_types.specs.Known.{known_of_program};
 ghost use Rattle.aql_types.specs.Programs as spec;
 ghost use Rattle.span_token.specs.Refusals.{OfFault};
 ghost use Rattle.view_graph.specs.Answers.{HasOutputs};
 
 use crate::fault::TypeFault;
-use crate::known::Known;
 use crate::outputs::outputs;
 use crate::program::views;
 use aql_tables::{ProgramTables, collect};
 use aql_typed::{Typed, TypedView};
+use clause_types::Known;
 use span_token::Failure;
 use std::alloc::Global;
 use view_graph::Graph;

@@ -4,19 +4,19 @@ ghost use Rattle.std.specs.Prelude.{◌≡◌, [], map, IfOk, OnOk, IfErr};
 ghost use Rattle.aql_syntax.specs.Views as see;
 ghost use Rattle.aql_typed.specs.Trees as tree;
 ghost use Rattle.aql_typed.specs.Views as typed;
-ghost use Rattle.aql_types.specs.Knowns.{known_of};
+ghost use Rattle.clause_types.specs.Knowns.{known_of};
 ghost use Rattle.aql_types.specs.Programs as spec;
 ghost use Rattle.aql_types.specs.Queries.{typing_of_query};
 ghost use Rattle.aql_types.specs.Refusals as refusals;
 ghost use Rattle.aql_types.specs.Sources.{query_seen};
 ghost use Rattle.view_graph.specs.Uses.{statement_numbered};
 
-use crate::fault::{Breach, TypeFault};
-use crate::known::Known;
+use crate::fault::TypeFault;
 use crate::query::query;
 use crate::source::CheckedQuery;
 use aql_syntax::{Ident, Query, Statement};
 use aql_typed::{TypedQuery, TypedView};
+use clause_types::{Breach, Known};
 use span_token::{Failure, OutOfMemory, OwnedText};
 use std::alloc::Global;
 
@@ -30,7 +30,7 @@ fn told(number: u32, failure: Failure<Breach>) -> Failure<TypeFault>
             let Breach { at, rule } = breach;
             Failure::Fault(TypeFault {
                 statement: number,
-                place: at,
+                at,
                 rule,
             })
         }

@@ -3,21 +3,19 @@
 ghost use Rattle.std.specs.Prelude.{◌≡◌, map, option_map, IfOk, IfErr};
 ghost use Rattle.aql_syntax.specs.Views as see;
 ghost use Rattle.aql_typed.specs.Views as typed;
-ghost use Rattle.aql_types.specs.Knowns.{known_of};
+ghost use Rattle.clause_types.specs.Knowns.{known_of};
 ghost use Rattle.aql_types.specs.Queries as spec;
-ghost use Rattle.aql_types.specs.Extractions.{extraction};
-ghost use Rattle.aql_types.specs.Refusals.{IsFirst};
-ghost use Rattle.aql_types.specs.Selections.{selection, faults_of_sources};
+ghost use Rattle.aql_types.specs.QueryTypings.{extraction, selection, faults_of_sources};
+ghost use Rattle.clause_types.specs.Refusals.{IsFirst};
 ghost use Rattle.aql_types.specs.Sources.{source_seen, query_seen};
 ghost use Rattle.aql_types.specs.Programs.{view_seen};
 
 use crate::below::{Columns, view_source};
-use crate::fault::Breach;
-use crate::known::Known;
 use crate::sides::{differ, unite};
 use crate::source::{CheckedQuery, CheckedSource, extract, select};
 use aql_syntax::{Extract, FromPart, Ident, Query, Select};
 use aql_typed::{TypedSource, TypedView};
+use clause_types::{Breach, Known};
 use span_token::{Failure, OutOfMemory, OwnedText};
 use std::alloc::Global;
 
@@ -27,7 +25,7 @@ use std::alloc::Global;
 ///
 /// Meaning: `typing_of_query`, `specs/Queries.antt`.
 #[cycle(query)]
-#[tactic(auto, using(crate::proofs::Firsts::first_here, crate::proofs::Firsts::first_later))]
+#[tactic(auto, using(clause_types::specs::FaultLaws::first_here, clause_types::specs::FaultLaws::first_later))]
 pub(crate) fn query(
     alloc: Global,
     known: &Known<'_>,
@@ -51,7 +49,7 @@ pub(crate) fn query(
 
 /// A selection: its sources from the left, and then the rest.
 #[cycle(query)]
-#[tactic(auto, using(crate::proofs::Firsts::first_here))]
+#[tactic(auto, using(clause_types::specs::FaultLaws::first_here))]
 fn selected(
     alloc: Global,
     known: &Known<'_>,
@@ -67,7 +65,7 @@ fn selected(
 
 /// An extraction: its source, and then the rest.
 #[cycle(query)]
-#[tactic(auto, using(crate::proofs::Firsts::first_here))]
+#[tactic(auto, using(clause_types::specs::FaultLaws::first_here))]
 fn extracted(
     alloc: Global,
     known: &Known<'_>,
@@ -83,7 +81,7 @@ fn extracted(
 
 /// The sides of a union, from the left, and then their columns.
 #[cycle(query)]
-#[tactic(auto, using(crate::proofs::Firsts::first_here))]
+#[tactic(auto, using(clause_types::specs::FaultLaws::first_here))]
 fn united(
     alloc: Global,
     known: &Known<'_>,
@@ -98,7 +96,7 @@ fn united(
 }
 
 #[cycle(query)]
-#[tactic(auto, using(crate::proofs::Firsts::first_here))]
+#[tactic(auto, using(clause_types::specs::FaultLaws::first_here))]
 fn queries(
     alloc: Global,
     known: &Known<'_>,
@@ -117,7 +115,7 @@ fn queries(
 }
 
 #[cycle(query)]
-#[tactic(auto, using(crate::proofs::Firsts::first_here))]
+#[tactic(auto, using(clause_types::specs::FaultLaws::first_here))]
 fn sources<'a>(
     alloc: Global,
     known: &Known<'_>,

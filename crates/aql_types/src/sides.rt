@@ -4,13 +4,12 @@ ghost use Rattle.std.specs.Prelude.{◌≡◌, ◌∷◌, [], map, OnOk, IfOk, I
 ghost use Rattle.aql_typed.specs.Trees as tree;
 ghost use Rattle.aql_typed.specs.Views as typed;
 ghost use Rattle.aql_types.specs.Queries as spec;
-ghost use Rattle.aql_types.specs.Refusals.{IsFirst};
+ghost use Rattle.clause_types.specs.Refusals.{IsFirst};
 ghost use Rattle.aql_types.specs.Sources.{query_seen};
 
-use crate::fault::{Breach, TypeRule};
-use crate::refusal::refusal;
 use crate::source::CheckedQuery;
 use aql_typed::{Column, TypedQuery};
+use clause_types::{Breach, TypeRule, refusal};
 use scalar_ops::Kind;
 use span_token::{Failure, OutOfMemory, OwnedText};
 use std::alloc::Global;
@@ -137,7 +136,7 @@ fn joined(at: u32, columns: Vec<Column>, bodies: Vec<TypedQuery>) -> CheckedQuer
 }
 
 /// A union of sides without a fault.
-#[tactic(auto, using(crate::proofs::SourceFaults::sides_faultless, crate::proofs::Firsts::first_later, crate::proofs::Firsts::all_faultless))]
+#[tactic(auto, using(crate::proofs::SourceFaults::sides_faultless, clause_types::specs::FaultLaws::first_later, clause_types::specs::FaultLaws::all_faultless))]
 pub(crate) fn unite(
     alloc: Global,
     sides: Vec<CheckedQuery>,
@@ -172,7 +171,7 @@ fn minus(
 }
 
 /// The difference of two sides without a fault.
-#[tactic(auto, using(crate::proofs::Firsts::first_here, crate::proofs::SourceFaults::minus_is))]
+#[tactic(auto, using(clause_types::specs::FaultLaws::first_here, crate::proofs::SourceFaults::minus_is))]
 pub(crate) fn differ(
     alloc: Global,
     left: CheckedQuery,

@@ -3,24 +3,21 @@
 ghost use Rattle.std.specs.Prelude.{◌≡◌, [], map, OnOk, IfOk, IfErr};
 ghost use Rattle.aql_syntax.specs.Views.{item_of, spec_of, tail_of, clauses_of};
 ghost use Rattle.aql_typed.specs.Views as typed;
-ghost use Rattle.aql_types.specs.Extractions.{extraction};
-ghost use Rattle.aql_types.specs.Items.{columns_of_items};
-ghost use Rattle.aql_types.specs.Knowns.{known_of};
-ghost use Rattle.aql_types.specs.Refusals.{IsFirst};
-ghost use Rattle.aql_types.specs.Selections as spec;
+ghost use Rattle.aql_types.specs.QueryTypings as spec;
+ghost use Rattle.clause_types.specs.Items.{columns_of_items};
+ghost use Rattle.clause_types.specs.Knowns.{known_of};
+ghost use Rattle.clause_types.specs.Refusals.{IsFirst};
+ghost use Rattle.clause_types.specs.Selections as selections;
 ghost use Rattle.aql_types.specs.Sources.{source_seen, query_seen};
-ghost use Rattle.aql_types.specs.Views.{visible_of, label_of};
-ghost use Rattle.aql_types.specs.Extractions as extractions;
+ghost use Rattle.clause_types.specs.Views.{visible_of, label_of};
+ghost use Rattle.clause_types.specs.Extractions as extractions;
 
 use crate::below::Columns;
-use crate::extraction::{CheckedFound, found};
-use crate::fault::Breach;
-use crate::known::Known;
-use crate::label::{Label, refuse_aliases};
-use crate::scope::{Names, Scope, Visible};
-use crate::selection::{CheckedRows, rows};
 use aql_syntax::{Extract, Ident, Select};
 use aql_typed::{Column, TypedExtract, TypedQuery, TypedSelect, TypedSource};
+use clause_types::{
+    Breach, CheckedFound, CheckedRows, Known, Label, Visible, found_over, refuse_aliases, rows_over,
+};
 use span_token::{Failure, OutOfMemory};
 use std::alloc::Global;
 
@@ -105,35 +102,17 @@ fn bodies(alloc: Global, sources: Vec<CheckedSource<'_>>) -> Result<Vec<TypedSou
     Ok(bodies)
 }
 
-fn rows_over(
-    alloc: Global,
-    known: &Known<'_>,
-    visible: &[Visible<'_>],
-    query: &Select,
-) -> Result<CheckedRows, Failure<Breach>>
-    ensures ok { IfOk result (λ rows. typed.select_clauses_of rows.clauses ≡ spec.rows_clauses (known_of known.now) (spec.row_over (map visible_of visible.now)) (map item_of query.now.items.items) (clauses_of query.now)) }
-    ensures columns { IfOk result (λ rows. rows.columns.items ≡ columns_of_items (spec.items_typed (known_of known.now) (spec.row_over (map visible_of visible.now)) (map item_of query.now.items.items) (clauses_of query.now))) }
-    ensures none { OnOk result (spec.rows_faults (known_of known.now) (spec.row_over (map visible_of visible.now)) (map item_of query.now.items.items) (clauses_of query.now) ≡ []) }
-    ensures fault { IfErr result (IsFirst (spec.rows_faults (known_of known.now) (spec.row_over (map visible_of visible.now)) (map item_of query.now.items.items) (clauses_of query.now))) }
-{
-    let row = Scope {
-        sources: visible,
-        names: Names::Nothing,
-    };
-    rows(alloc, known, &row, query)
-}
-
-/// The rows of a selection over some sources.
+/// The rows of a selection over its sources.
 fn rows_of(
     alloc: Global,
     known: &Known<'_>,
     sources: &[CheckedSource<'_>],
     query: &Select,
 ) -> Result<CheckedRows, Failure<Breach>>
-    ensures ok { IfOk result (λ rows. typed.select_clauses_of rows.clauses ≡ spec.rows_clauses (known_of known.now) (spec.row_of (map source_seen sources.now)) (map item_of query.now.items.items) (clauses_of query.now)) }
-    ensures columns { IfOk result (λ rows. rows.columns.items ≡ columns_of_items (spec.items_typed (known_of known.now) (spec.row_of (map source_seen sources.now)) (map item_of query.now.items.items) (clauses_of query.now))) }
-    ensures none { OnOk result (spec.rows_faults (known_of known.now) (spec.row_of (map source_seen sources.now)) (map item_of query.now.items.items) (clauses_of query.now) ≡ []) }
-    ensures fault { IfErr result (IsFirst (spec.rows_faults (known_of known.now) (spec.row_of (map source_seen sources.now)) (map item_of query.now.items.items) (clauses_of query.now))) }
+    ensures ok { IfOk result (λ rows. typed.select_clauses_of rows.clauses ≡ selections.rows_clauses (known_of known.now) (spec.row_of (map source_seen sources.now)) (map item_of query.now.items.items) (clauses_of query.now)) }
+    ensures columns { IfOk result (λ rows. rows.columns.items ≡ columns_of_items (selections.items_typed (known_of known.now) (spec.row_of (map source_seen sources.now)) (map item_of query.now.items.items) (clauses_of query.now))) }
+    ensures none { OnOk result (selections.rows_faults (known_of known.now) (spec.row_of (map source_seen sources.now)) (map item_of query.now.items.items) (clauses_of query.now) ≡ []) }
+    ensures fault { IfErr result (IsFirst (selections.rows_faults (known_of known.now) (spec.row_of (map source_seen sources.now)) (map item_of query.now.items.items) (clauses_of query.now))) }
 {
     let visible = visible_in(alloc, sources)?;
     rows_over(alloc, known, &visible, query)
@@ -154,7 +133,7 @@ fn selected(at: u32, sources: Vec<TypedSource>, rows: CheckedRows) -> CheckedQue
 }
 
 /// A selection over sources without a fault.
-#[tactic(auto, using(crate::proofs::Firsts::first_here, crate::proofs::Firsts::first_later, crate::proofs::Firsts::all_faultless, crate::proofs::SourceFaults::sources_faultless))]
+#[tactic(auto, using(clause_types::specs::FaultLaws::first_here, clause_types::specs::FaultLaws::first_later, clause_types::specs::FaultLaws::all_faultless, crate::proofs::SourceFaults::sources_faultless))]
 pub(crate) fn select(
     alloc: Global,
     known: &Known<'_>,
@@ -170,24 +149,6 @@ pub(crate) fn select(
     Ok(selected(query.at, sources, rows))
 }
 
-fn found_over(
-    alloc: Global,
-    known: &Known<'_>,
-    visible: &[Visible<'_>],
-    query: &Extract,
-) -> Result<CheckedFound, Failure<Breach>>
-    ensures ok { IfOk result (λ found. typed.extract_clauses_of found.clauses ≡ extractions.extract_clauses (known_of known.now) (spec.row_over (map visible_of visible.now)) (map item_of query.now.items.items) (spec_of query.now.spec) (tail_of query.now)) }
-    ensures columns { IfOk result (λ found. found.columns.items ≡ extractions.columns_given (known_of known.now) (spec.row_over (map visible_of visible.now)) (map item_of query.now.items.items) (spec_of query.now.spec) (tail_of query.now)) }
-    ensures none { OnOk result (extractions.found_faults (known_of known.now) (spec.row_over (map visible_of visible.now)) (map item_of query.now.items.items) (spec_of query.now.spec) (tail_of query.now) ≡ []) }
-    ensures fault { IfErr result (IsFirst (extractions.found_faults (known_of known.now) (spec.row_over (map visible_of visible.now)) (map item_of query.now.items.items) (spec_of query.now.spec) (tail_of query.now))) }
-{
-    let row = Scope {
-        sources: visible,
-        names: Names::Nothing,
-    };
-    found(alloc, known, &row, query)
-}
-
 /// What an extraction finds over its source.
 fn found_of(
     alloc: Global,
@@ -195,10 +156,10 @@ fn found_of(
     source: &CheckedSource<'_>,
     query: &Extract,
 ) -> Result<CheckedFound, Failure<Breach>>
-    ensures ok { IfOk result (λ found. typed.extract_clauses_of found.clauses ≡ extractions.extract_clauses (known_of known.now) (extractions.row_of_one (source_seen source.now)) (map item_of query.now.items.items) (spec_of query.now.spec) (tail_of query.now)) }
-    ensures columns { IfOk result (λ found. found.columns.items ≡ extractions.columns_given (known_of known.now) (extractions.row_of_one (source_seen source.now)) (map item_of query.now.items.items) (spec_of query.now.spec) (tail_of query.now)) }
-    ensures none { OnOk result (extractions.found_faults (known_of known.now) (extractions.row_of_one (source_seen source.now)) (map item_of query.now.items.items) (spec_of query.now.spec) (tail_of query.now) ≡ []) }
-    ensures fault { IfErr result (IsFirst (extractions.found_faults (known_of known.now) (extractions.row_of_one (source_seen source.now)) (map item_of query.now.items.items) (spec_of query.now.spec) (tail_of query.now))) }
+    ensures ok { IfOk result (λ found. typed.extract_clauses_of found.clauses ≡ extractions.extract_clauses (known_of known.now) (spec.row_of_one (source_seen source.now)) (map item_of query.now.items.items) (spec_of query.now.spec) (tail_of query.now)) }
+    ensures columns { IfOk result (λ found. found.columns.items ≡ extractions.columns_given (known_of known.now) (spec.row_of_one (source_seen source.now)) (map item_of query.now.items.items) (spec_of query.now.spec) (tail_of query.now)) }
+    ensures none { OnOk result (extractions.found_faults (known_of known.now) (spec.row_of_one (source_seen source.now)) (map item_of query.now.items.items) (spec_of query.now.spec) (tail_of query.now) ≡ []) }
+    ensures fault { IfErr result (IsFirst (extractions.found_faults (known_of known.now) (spec.row_of_one (source_seen source.now)) (map item_of query.now.items.items) (spec_of query.now.spec) (tail_of query.now))) }
 {
     found_over(alloc, known, &[visible(source)], query)
 }
@@ -210,8 +171,8 @@ pub(crate) fn extract(
     source: CheckedSource<'_>,
     query: &Extract,
 ) -> Result<CheckedQuery, Failure<Breach>>
-    ensures ok { IfOk result (λ q. extraction (known_of known.now) (source_seen source.entry) (map item_of query.now.items.items) (spec_of query.now.spec) (tail_of query.now) query.now.at ≡ query_seen q) }
-    ensures fault { IfErr result (IsFirst (extraction (known_of known.now) (source_seen source.entry) (map item_of query.now.items.items) (spec_of query.now.spec) (tail_of query.now) query.now.at).faults) }
+    ensures ok { IfOk result (λ q. spec.extraction (known_of known.now) (source_seen source.entry) (map item_of query.now.items.items) (spec_of query.now.spec) (tail_of query.now) query.now.at ≡ query_seen q) }
+    ensures fault { IfErr result (IsFirst (spec.extraction (known_of known.now) (source_seen source.entry) (map item_of query.now.items.items) (spec_of query.now.spec) (tail_of query.now) query.now.at).faults) }
 {
     let found = found_of(alloc, known, &source, query)?;
     let CheckedSource { body, .. } = source;

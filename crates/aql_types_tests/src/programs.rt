@@ -72,7 +72,7 @@ pub(crate) fn fault(alloc: Global, text: &str) -> Result<String, Fail> {
 }
 
 fn shown(alloc: Global, toks: &[Tok], fault: &TypeFault) -> Result<String, OutOfMemory> {
-    let begin = match toks.get(fault.place as usize) {
+    let begin = match toks.get(fault.at as usize) {
         Some(tok) => tok.begin as usize,
         None => usize::MAX,
     };

@@ -20,9 +20,9 @@ use Rattle.aqlx_top.specs.declared.status.What.TheVariants.{Bytes, Statements, N
 use Rattle.aqlx_top.specs.ProgramFaults.{HasFault, HasOnlyFault, begin_of, IsMistyped, AreOneFault, HasTooMany, IsTooDeep, IsFaultless}
 use Rattle.view_graph.specs.Answers.{IsNameFault, IsNameDecided, IsResolved}
 use Rattle.aql_types.specs.declared.fault.TypeFault.{TypeFault}
-use Rattle.aql_types.specs.declared.fault.TypeRule.{TypeRule}
-use Rattle.aql_types.specs.Faults.{first}
-use Rattle.aql_types.specs.Known.{known_of_program}
+use Rattle.clause_types.specs.declared.fault.TypeRule.{TypeRule}
+use Rattle.clause_types.specs.Faults.{first}
+use Rattle.clause_types.specs.Known.{known_of_program}
 use Rattle.aql_types.specs.Programs.{IsTyped, IsTypeFault, faults_of_program}
 use Rattle.aql_tables.specs.Programs.{lists_of}
 use Rattle.view_graph.specs.declared.fault.NameFault.{NameFault}
@@ -251,7 +251,7 @@ type_alone tokens held number place rule decided found (Mistyped other_number ot
     the_first (faults_of_program (known_of_program held) held found.order) found.fault h.fault found.first
     (subst (λ (o : List ℕ). IsTypeFault (known_of_program held) held o h.fault) order h.first) in
     let a : other_number ≡ number = h.statement_is ∙ ap (λ (f : TypeFault). f.statement) fault ∙ sym found.statement_is in
-    let b : other_place ≡ place = h.place_is ∙ ap (λ (f : TypeFault). begin_of tokens f.place) fault ∙ sym found.place_is in
+    let b : other_place ≡ place = h.place_is ∙ ap (λ (f : TypeFault). begin_of tokens f.at) fault ∙ sym found.place_is in
     let r : other_rule ≡ rule = h.rule_is ∙ ap (λ (f : TypeFault). f.rule) fault ∙ sym found.rule_is in
     ap (λ (n : ℕ). Mistyped n other_place other_rule) a ∙ ap (λ (n : ℕ). Mistyped number n other_rule) b ∙ ap (Mistyped number place) r
 type_alone tokens held number place rule decided found (Large what other) h = absurd h

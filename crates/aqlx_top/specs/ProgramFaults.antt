@@ -16,8 +16,8 @@ use Rattle.aqlx_top.specs.declared.status.What.TheVariants.{Bytes, Statements, N
 use Rattle.aqlx_top.specs.ProgramTexts.{ReadsAs, IsWithinLimits, HoldsStatements}
 use Rattle.aqlx_top.specs.Run.{Program, Typed, program_of}
 use Rattle.aql_types.specs.declared.fault.TypeFault.{TypeFault}
-use Rattle.aql_types.specs.declared.fault.TypeRule.{TypeRule}
-use Rattle.aql_types.specs.Known.{known_of_program}
+use Rattle.clause_types.specs.declared.fault.TypeRule.{TypeRule}
+use Rattle.clause_types.specs.Known.{known_of_program}
 use Rattle.aql_types.specs.Programs.{IsTyped, IsTypeFault}
 use Rattle.aql_tables.specs.Programs.{lists_of}
 use Rattle.view_graph.specs.Answers.{IsNameFault, IsResolved, IsCycleFault}
@@ -41,7 +41,7 @@ pub record IsMistyped (tokens : List Token) (statements : List Statement) (state
   pub fault : TypeFault
   pub first : IsTypeFault (known_of_program statements) statements order fault
   pub statement_is : statement ≡ fault.statement
-  pub place_is : place ≡ begin_of tokens fault.place
+  pub place_is : place ≡ begin_of tokens fault.at
   pub rule_is : rule ≡ fault.rule
 
 -- the bytes of a program file have the fault

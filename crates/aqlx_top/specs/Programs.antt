@@ -5,7 +5,7 @@ use Rattle.span_token.specs.declared.refusal.Failure.TheVariants.{OutOfMemory, F
 use Rattle.aql_lexer.specs.Kinds.{Token}
 use Rattle.aql_syntax.specs.Trees.{Statement}
 use Rattle.view_graph.specs.Answers.{IsNameFault, IsResolved}
-use Rattle.aql_types.specs.Known.{known_of_program}
+use Rattle.clause_types.specs.Known.{known_of_program}
 use Rattle.aql_types.specs.Programs.{IsTyped}
 use Rattle.aql_tables.specs.Programs.{lists_of}
 use Rattle.algebra.specs.Plans.{Parts}

@@ -3,8 +3,8 @@ use Rattle.std.specs.Prelude.{List, ℕ, ◌++◌, codes}
 use Rattle.std.specs.Fmt.{decimal, signed_decimal}
 use Rattle.scalar_ops.specs.declared.kind.Kind.{Kind}
 use Rattle.scalar_ops.specs.declared.kind.Kind.TheVariants.{Integer, Boolean, Text, Span, SpanOrText, Number, Pattern, Dictionary, Any, Nothing}
-use Rattle.aql_types.specs.declared.fault.TypeRule.{TypeRule}
-use Rattle.aql_types.specs.declared.fault.TypeRule.TheVariants.{UnknownAlias, UnknownColumn, DuplicateAlias, DuplicateColumn, UnknownFunction, WrongArgument, SchemaMismatch, NotGrouped, BadRange, UnknownPolicy, BadPattern, PatternLarge, BadGroup}
+use Rattle.clause_types.specs.declared.fault.TypeRule.{TypeRule}
+use Rattle.clause_types.specs.declared.fault.TypeRule.TheVariants.{UnknownAlias, UnknownColumn, DuplicateAlias, DuplicateColumn, UnknownFunction, WrongArgument, SchemaMismatch, NotGrouped, BadRange, UnknownPolicy, BadPattern, PatternLarge, BadGroup}
 
 -- a kind is called by its name
 abbrev pub kind_text : Kind → List ℕ

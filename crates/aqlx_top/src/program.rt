@@ -96,16 +96,16 @@ fn typed(alloc: Global, toks: &[Tok], graph: &Graph) -> Result<Plan, Failure<Pro
 
 /// The fault with the byte at which its part begins.
 fn placed(toks: &[Tok], fault: TypeFault) -> ProgramFault
-    ensures { result ≡ ProgramFault.Mistyped fault.statement (begin_of (map token_of toks.now) fault.place) fault.rule }
+    ensures { result ≡ ProgramFault.Mistyped fault.statement (begin_of (map token_of toks.now) fault.at) fault.rule }
 {
     let TypeFault {
         statement,
-        place,
+        at,
         rule,
     } = fault;
     ProgramFault::Mistyped {
         statement,
-        place: begin_at(toks, place),
+        place: begin_at(toks, at),
         rule,
     }
 }

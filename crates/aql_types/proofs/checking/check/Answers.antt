@@ -5,7 +5,7 @@ use Rattle.aql_syntax.specs.Views.{statement_of}
 use Rattle.aql_tables.specs.Programs.{Collected, lists_of}
 use Rattle.aql_typed.specs.declared.tree.Output.{Output}
 use Rattle.aql_typed.specs.declared.tree.TypedView.{TypedView}
-use Rattle.aql_types.specs.Known.{known_of_program}
+use Rattle.clause_types.specs.Known.{known_of_program}
 use Rattle.aql_types.specs.Programs.{view_seen, outputs_of_program, IsTyped}
 use Rattle.aql_types.specs.Queries.{View}
 use Rattle.aql_types.proofs.FitsPrograms.{typed_views, typed_outputs}

@@ -1,6 +1,6 @@
 use Rattle.std.proofs.Common.{◌≡◌, ◌++◌, map, drop}
 use Rattle.aql_syntax.specs.Views.{statement_of}
-use Rattle.aql_types.specs.Knowns.{known_of}
+use Rattle.clause_types.specs.Knowns.{known_of}
 use Rattle.aql_types.specs.Programs.{view_seen, faults_of_program, views_of_program}
 use Rattle.aql_types.proofs.ProgramFirsts.{faults_from, views_from}
 use Rattle.aql_types.proofs.program.views.Given as goal

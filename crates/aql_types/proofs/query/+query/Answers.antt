@@ -1,11 +1,11 @@
 use Rattle.std.proofs.Common.{◌≡◌, ◌∙◌, List, map, ap, sym, subst, IfOk, IfErr}
 use Rattle.aql_syntax.specs.declared.tree.Query as declared
 use Rattle.aql_syntax.specs.Views.{query_of}
-use Rattle.aql_types.specs.Knowns.{known_of}
+use Rattle.clause_types.specs.Knowns.{known_of}
 use Rattle.aql_types.specs.Programs.{view_seen}
 use Rattle.aql_types.specs.Queries.{typing_of_query, union_of}
-use Rattle.aql_types.specs.Refusals.{IsFirst}
-use Rattle.aql_types.specs.Selections.{QueryTyping}
+use Rattle.clause_types.specs.Refusals.{IsFirst}
+use Rattle.aql_types.specs.QueryTypings.{QueryTyping}
 use Rattle.aql_types.specs.Sources.{query_seen}
 use Rattle.aql_types.proofs.QueryNodes.{select_typing, union_typing}
 use Rattle.aql_types.proofs.query.+query.Goals as goal

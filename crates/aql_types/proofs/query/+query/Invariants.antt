@@ -1,9 +1,9 @@
 use Rattle.std.proofs.Common.{◌≡◌, map, take, drop}
 use Rattle.aql_syntax.specs.Views.{query_of, source_of}
-use Rattle.aql_types.specs.Knowns.{known_of}
+use Rattle.clause_types.specs.Knowns.{known_of}
 use Rattle.aql_types.specs.Programs.{view_seen}
 use Rattle.aql_types.specs.Queries.{typing_of_query, typing_of_source, faults_of_sides}
-use Rattle.aql_types.specs.Selections.{faults_of_sources}
+use Rattle.aql_types.specs.QueryTypings.{faults_of_sources}
 use Rattle.aql_types.specs.Sources.{source_seen, query_seen}
 use Rattle.aql_types.proofs.query.+query.Given as goal
 

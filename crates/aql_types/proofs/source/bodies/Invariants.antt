@@ -1,6 +1,6 @@
 use Rattle.std.proofs.Common.{◌≡◌, ◌++◌, map}
 use Rattle.aql_typed.specs.Views.{source_of}
-use Rattle.aql_types.specs.Selections.{bodies_of}
+use Rattle.aql_types.specs.QueryTypings.{bodies_of}
 use Rattle.aql_types.specs.Sources.{source_seen}
 use Rattle.aql_types.proofs.source.bodies.Given as goal
 

@@ -1,11 +1,11 @@
 use Rattle.std.proofs.Common.{◌≡◌, ◌∙◌, List, map, ap, subst, IfOk}
 use Rattle.aql_syntax.specs.Views.{item_of, clauses_of}
 use Rattle.aql_typed.specs.Views.{select_clauses_of}
-use Rattle.aql_types.specs.declared.scope.Visible as declared
-use Rattle.aql_types.specs.Knowns.{known_of}
-use Rattle.aql_types.specs.Scopes.{Visible}
-use Rattle.aql_types.specs.Selections.{row_over, rows_clauses}
-use Rattle.aql_types.specs.Views.{visible_of}
+use Rattle.clause_types.specs.declared.scope.Visible as declared
+use Rattle.clause_types.specs.Knowns.{known_of}
+use Rattle.clause_types.specs.Scopes.{Visible, row_over}
+use Rattle.clause_types.specs.Selections.{rows_clauses}
+use Rattle.clause_types.specs.Views.{visible_of}
 use Rattle.aql_types.proofs.source.rows_of.Goals as goal
 
 pub returns-clause-ok : goal.returns-clause-ok

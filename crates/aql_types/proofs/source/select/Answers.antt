@@ -6,11 +6,12 @@ use Rattle.std.specs.declared.vec.Vec.{Vec}
 use Rattle.std.specs.declared.alloc.Global.{Global}
 use Rattle.aql_typed.specs.declared.tree.Column.{Column}
 use Rattle.aql_types.specs.declared.source.CheckedSource.{CheckedSource}
-use Rattle.aql_types.specs.Items.{columns_of_items}
-use Rattle.aql_types.specs.Knowns.{known_of}
-use Rattle.aql_types.specs.Selections.{row_of, rows_clauses, rows_faults, items_typed, bodies_of, selected, duplicate_aliases, faults_of_sources}
+use Rattle.clause_types.specs.Items.{columns_of_items}
+use Rattle.clause_types.specs.Knowns.{known_of}
+use Rattle.clause_types.specs.Selections.{rows_clauses, rows_faults, items_typed}
+use Rattle.aql_types.specs.QueryTypings.{row_of, bodies_of, selected, duplicate_aliases, faults_of_sources}
 use Rattle.aql_types.specs.Sources.{source_seen}
-use Rattle.aql_types.proofs.Firsts.{all_faultless}
+use Rattle.clause_types.specs.FaultLaws.{all_faultless}
 use Rattle.aql_types.proofs.QueryParts.{query_is}
 use Rattle.aql_types.proofs.SourceFaults.{sources_faultless}
 use Rattle.aql_types.proofs.source.select.Goals as goal

@@ -1,7 +1,7 @@
 use Rattle.std.proofs.Common.{◌≡◌, map, take}
-use Rattle.aql_types.specs.Selections.{visible_in}
+use Rattle.aql_types.specs.QueryTypings.{visible_in}
 use Rattle.aql_types.specs.Sources.{source_seen}
-use Rattle.aql_types.specs.Views.{visible_of}
+use Rattle.clause_types.specs.Views.{visible_of}
 use Rattle.aql_types.proofs.source.visible_in.Given as goal
 
 abbrev pub invariant-loop-source : goal.invariant-loop-source

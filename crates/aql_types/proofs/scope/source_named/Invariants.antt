@@ -1,7 +1,0 @@
-use Rattle.std.proofs.Common.{◌≡◌, map, drop}
-use Rattle.aql_types.specs.Scopes as spec
-use Rattle.aql_types.specs.Views.{visible_of}
-use Rattle.aql_types.proofs.scope.source_named.Given as goal
-
-abbrev pub invariant-loop-source : goal.invariant-loop-source
-invariant-loop-source l = spec.source_named l.alias l.start (map visible_of (drop l.source-index l.sources)) ≡ spec.source_named l.alias 0 (map visible_of l.sources)

@@ -1,0 +1,9 @@
+pub mod ExprViews
+pub mod Operands
+pub mod Unfit
+pub mod Terms
+pub mod Labels
+pub mod Told
+pub mod KeyLists
+pub mod RowFaults
+pub mod FoundFaults

@@ -1,0 +1,12 @@
+use Rattle.std.proofs.Common.{◌≡◌, map, drop}
+use Rattle.clause_types.specs.Callees.{wanted_of}
+use Rattle.clause_types.specs.Calls.{wrong_arguments}
+use Rattle.clause_types.specs.Knowns.{known_of}
+use Rattle.clause_types.specs.Typings.{kinds_of}
+use Rattle.clause_types.specs.Views.{seen}
+use Rattle.clause_types.proofs.call.refuse_unfit.Given as goal
+
+abbrev pub invariant-loop-place : goal.invariant-loop-place
+invariant-loop-place l =
+    wrong_arguments (known_of l.known) l.at (drop l.place (wanted_of l.callee (kinds_of (map seen l.args)))) (map seen (drop l.place l.args))
+    ≡ wrong_arguments (known_of l.known) l.at (wanted_of l.callee (kinds_of (map seen l.args))) (map seen l.args)

@@ -1,0 +1,10 @@
+use Rattle.std.proofs.Common.{◌≡◌, map, drop}
+use Rattle.aql_syntax.specs.Views.{term_of, item_of}
+use Rattle.clause_types.specs.Clauses.{not_grouped}
+use Rattle.clause_types.specs.Views.{item_seen}
+use Rattle.clause_types.proofs.columns.refuse_not_grouped.Given as goal
+
+abbrev pub invariant-loop-place : goal.invariant-loop-place
+invariant-loop-place l =
+    not_grouped (map item_of l.items) (map term_of l.keys) (map item_of (drop l.place l.items)) (map item_seen (drop l.place l.checked))
+    ≡ not_grouped (map item_of l.items) (map term_of l.keys) (map item_of l.items) (map item_seen l.checked)
