@@ -16,9 +16,6 @@ use Rattle.corpus_json.specs.Lines.{is_too_long}
 use Rattle.corpus_json.specs.Lines.{lines_of, joined, cut, last_line, HasNoLf}
 use Rattle.corpus_json.specs.Reading.{Reading, NextLine, Took}
 use Rattle.corpus_json.specs.LineLaws.{lines_of-joined, joined-cut}
-use Rattle.aqlx_top.specs.declared.run.Turn.{Turn}
-use Rattle.aqlx_top.specs.Turns.{Turned}
-use Rattle.span_token.specs.declared.refusal.OutOfMemory.{OutOfMemory}
 use Rattle.aqlx_top.specs.declared.status.Status.{Status}
 use Rattle.aqlx_top.specs.declared.status.Status.TheVariants.{Done, Program, Usage, Corpus, ReadFault, WriteFault}
 use Rattle.aqlx_top.specs.declared.status.CorpusFault.TheVariants.{BadLine, LineLong, CorpusLarge}
@@ -483,12 +480,11 @@ pub at_err : {T E : Type 0} (P : Type 0) (r : Result T E) → P → OnErr r P
 at_err P (Ok x) p = tt
 at_err P (Err e) p = p
 
--- what a turn comes to, for a piece that is written alike
-pub turned_alike : (piece other : Doc → List ℕ) (corpus next : SourceEnds) (before now : Option (List ℕ)) (reading next_reading : Reading) (pending next_pending : List ℕ) (number next_number : ℕ) (came : Result Turn OutOfMemory)
-    → other ≡ piece
-    → Stands piece corpus before now reading pending number
-    → (Stands other corpus before now reading pending number → Turned other next before now next_reading next_pending next_number came)
-    → Turned piece next before now next_reading next_pending next_number came
-turned_alike piece other corpus next before now reading next_reading pending next_pending number next_number came same stands turned =
-    subst (λ (p : Doc → List ℕ). Turned p next before now next_reading next_pending next_number came) same
-    (turned (subst (λ (p : Doc → List ℕ). Stands p corpus before now reading pending number) (sym same) stands))
+-- how a run stands and is finished, for a piece that is written alike
+pub stands_alike : (piece other : Doc → List ℕ) (corpus : SourceEnds) (before now : Option (List ℕ)) (reading : Reading) (pending : List ℕ) (number : ℕ) → other ≡ piece
+    → Stands other corpus before now reading pending number → Stands piece corpus before now reading pending number
+stands_alike piece other corpus before now reading pending number same stands = subst (λ (p : Doc → List ℕ). Stands p corpus before now reading pending number) same stands
+
+pub finished_alike : (piece other : Doc → List ℕ) (corpus : SourceEnds) (before now : Option (List ℕ)) (pending : List ℕ) (status : Status) → other ≡ piece
+    → Finished other corpus before now pending status → Finished piece corpus before now pending status
+finished_alike piece other corpus before now pending status same finished = subst (λ (p : Doc → List ℕ). Finished p corpus before now pending status) same finished
