@@ -1,20 +1,36 @@
 //! What is written for a line of the corpus.
 
-ghost use Rattle.std.specs.Prelude.{◌≡◌, ◌≤◌, [], ◌∷◌, ◌++◌, All, not, IfOk, OnOk, IsSome, None, ◌<◌, length, map, option_map, slice_index_or};
+ghost use Rattle.std.specs.Prelude.{◌≡◌, ◌≤◌, [], ◌∷◌, ◌++◌, All, not, IfOk, OnOk, IsSome, None, ◌<◌, length, map, slice_index_or};
 ghost use Rattle.corpus_json.specs.Documents.{is_bad_line};
-ghost use Rattle.corpus_json.specs.Inputs.{doc_of};
+ghost use Rattle.corpus_json.specs.Inputs.{doc_of_ref};
 ghost use Rattle.plan_operators.specs.Boards.{Holds, rows_there};
 ghost use Rattle.aqlx_top.specs.Endings.{written_for};
 ghost use Rattle.aqlx_top.specs.Planned.{line_by, names_in};
 
 use algebra::{Plan, PlanOut};
-use corpus_json::{Input, Layout, NotDocument, append_document, read_document};
+use corpus_json::{DocumentReader, InputRef, Layout, NotDocument, append_document};
 use plan_operators::{Schedule, evaluate, rows_shown};
 use row_values::Rows;
 use scalar_ops::Tools;
 use span_token::{Document, Failure, OutOfMemory};
 use std::alloc::Global;
 use std::mem;
+
+/// Memory that is used again for each document.
+#[derive(Drop)]
+pub(crate) struct Room {
+    reader: DocumentReader,
+    line: Vec<u8>,
+}
+
+impl Room {
+    pub(crate) fn new(alloc: Global) -> Room {
+        Room {
+            reader: DocumentReader::new(alloc),
+            line: Vec::new(alloc),
+        }
+    }
+}
 
 /// Puts what is written for a line of the corpus after what is pending: a line for a document, and
 /// nothing for a blank line. False where the line is neither. Documents keep their tokens where
@@ -25,6 +41,7 @@ pub(crate) fn answer(
     with_tokens: bool,
     layout: &Layout<'_>,
     tools: &mut Tools<'_>,
+    room: &mut Room,
     line: &[u8],
     pending: &mut Vec<u8>,
 ) -> Result<bool, OutOfMemory>
@@ -35,9 +52,18 @@ pub(crate) fn answer(
     ensures bytes { IfOk result (λ good. pending.new.items ≡ pending.old.items ++ written_for (line_by schedule.now) (line.now ∷ [])) }
     ensures same { tools.new ≡ tools.old }
 {
-    match read_document(alloc, line) {
+    match room.reader.read(line) {
         Ok(Some(input)) => {
-            write_for(alloc, schedule, with_tokens, layout, tools, &input, pending)?;
+            write_for(
+                alloc,
+                schedule,
+                with_tokens,
+                layout,
+                tools,
+                input,
+                &mut room.line,
+                pending,
+            )?;
             Ok(true)
         }
         Ok(None) => Ok(true),
@@ -46,20 +72,21 @@ pub(crate) fn answer(
     }
 }
 
-/// Puts the line of a document after what is pending.
+/// Puts the line of a document after what is pending; `line` is room for it.
 fn write_for(
     alloc: Global,
     schedule: &Schedule<'_>,
     with_tokens: bool,
     layout: &Layout<'_>,
     tools: &mut Tools<'_>,
-    input: &Input,
+    input: InputRef<'_>,
+    line: &mut Vec<u8>,
     pending: &mut Vec<u8>,
 ) -> Result<(), OutOfMemory>
     requires layout { layout.now ≡ names_in schedule.now }
     requires tables { tools.old ≡ schedule.now.lists }
-    requires short { length input.now.text ≤ 16777216 }
-    ensures bytes { OnOk result (pending.new.items ≡ pending.old.items ++ line_by schedule.now (doc_of input.now)) }
+    requires short { length input.text.now ≤ 16777216 }
+    ensures bytes { OnOk result (pending.new.items ≡ pending.old.items ++ line_by schedule.now (doc_of_ref input.entry)) }
     ensures same { tools.new ≡ tools.old }
 {
     let document = document_of(alloc, with_tokens, input)?;
@@ -70,6 +97,7 @@ fn write_for(
         layout,
         &document,
         board.as_slice(),
+        line,
         pending,
     )
 }
@@ -78,34 +106,27 @@ fn write_for(
 fn document_of<'d>(
     alloc: Global,
     with_tokens: bool,
-    input: &'d Input,
+    input: InputRef<'d>,
 ) -> Result<Document<'d>, OutOfMemory>
-    requires short { length input.now.text ≤ 16777216 }
-    ensures { IfOk result (λ document. document ≡ doc_of input.now) }
+    requires short { length input.text.now ≤ 16777216 }
+    ensures { IfOk result (λ document. document ≡ doc_of_ref input.entry) }
 {
     if with_tokens {
-        Document::new(alloc, input.text.as_str(), label_of(input))
+        Document::new(alloc, input.text, input.label)
     } else {
-        Document::plain(alloc, input.text.as_str(), label_of(input))
+        Document::plain(alloc, input.text, input.label)
     }
 }
 
-fn label_of(input: &Input) -> Option<&str>
-    ensures { option_map (λ label. label.now) result ≡ input.now.label }
-{
-    match &input.label {
-        Some(label) => Some(label.as_str()),
-        None => None,
-    }
-}
-
-/// Puts the line of a document after what is pending; `board` has the rows of each output's node.
+/// Puts the line of a document after what is pending; `board` has the rows of each output's node,
+/// and `line` is room for the line.
 fn append_rows<'d>(
     alloc: Global,
     plan: &Plan,
     layout: &Layout<'_>,
     document: &Document<'d>,
     board: &[Option<Rows<'d>>],
+    line: &mut Vec<u8>,
     pending: &mut Vec<u8>,
 ) -> Result<(), OutOfMemory>
     requires layout { layout.now ≡ names_in plan.now }
@@ -114,8 +135,10 @@ fn append_rows<'d>(
     ensures bytes { OnOk result (pending.new.items ≡ pending.old.items ++ line_by plan.now document.now) }
 {
     let shown = all_shown(alloc, plan.outputs(), board)?;
-    let line = mem::replace(pending, Vec::new(alloc));
-    *pending = append_document(alloc, line, document, layout, shown.as_slice())?;
+    line.clear();
+    let empty = mem::replace(line, Vec::new(alloc));
+    *line = append_document(alloc, empty, document, layout, shown.as_slice())?;
+    pending.extend_from_slice(line)?;
     Ok(())
 }
 

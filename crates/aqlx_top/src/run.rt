@@ -7,7 +7,7 @@ ghost use Rattle.aqlx_top.specs.Progress.{Stands, Finished, IsGoing, IsRunTo};
 ghost use Rattle.aqlx_top.specs.Planned.{line_by, names_in};
 ghost use Rattle.aqlx_top.specs.Turns.{Turned, Begins, IsKept};
 
-use crate::answer::answer;
+use crate::answer::{Room, answer};
 use crate::asks::asks_for_tokens;
 use crate::put::{put, put_and_flush};
 use crate::{CorpusFault, Status};
@@ -33,6 +33,7 @@ pub(crate) struct Work<'p> {
     pub number: u64,
     pub tools: Tools<'p>,
     pub with_tokens: bool,
+    pub room: Room,
     pub pending: Vec<u8>,
 }
 
@@ -85,6 +86,7 @@ fn begin<'p>(alloc: Global, plan: &'p Plan, outputs: &'p [Output]) -> Result<Wor
         number: 0,
         tools: Tools::new(alloc, plan.tables())?,
         with_tokens,
+        room: Room::new(alloc),
         pending: Vec::new(alloc),
     })
 }
@@ -136,6 +138,7 @@ fn take_turn<S: Source>(
                 work.with_tokens,
                 &work.layout,
                 &mut work.tools,
+                &mut work.room,
                 &work.line,
                 &mut work.pending,
             )? {

@@ -1,5 +1,7 @@
 pub mod TextLength
 pub mod Values
+-- how a line is read, with no tree of its value
+mod Passing
 -- how a reader of lines comes to its answer
 pub mod Windows
 pub mod LastLf

@@ -1,7 +1,7 @@
 -- A string of a JSON text is no longer than the text: from the bytes through lexemes, tokens and values to the member that is found.
-use Rattle.std.proofs.Common.{◌≡◌, ℕ, zero, suc, ◌+◌, ◌≤◌, Bool, true, false, cond, nat_lt, ◌&&◌, ◌==◌, List, [], ◌∷◌, length, Option, Some, None, option_and_then, option_map, subst, arith, Ordering, Less, Equal, Greater, codes, if◌then◌else◌}
+use Rattle.std.proofs.Common.{◌≡◌, ℕ, zero, suc, ◌+◌, ◌≤◌, Bool, true, false, cond, nat_lt, ◌&&◌, ◌==◌, List, [], ◌∷◌, length, Option, Some, None, option_and_then, option_map, subst, arith, Ordering, Less, Equal, Greater, codes, if◌then◌else◌, sym}
 use Rattle.std.proofs.lemmas.List.{length-append}
-use Rattle.std.specs.Prelude.{⊤}
+use Rattle.std.specs.Prelude.{⊤, IfSome}
 use Rattle.std.specs.Char.{encode_utf8}
 use Rattle.std.specs.Ordering.{nat_cmp, match_ordering}
 use Rattle.std.specs.Cmp.Lexicographic.{slice_cmp}
@@ -17,6 +17,8 @@ use Rattle.serde_json.specs.Find.{get, get_member, as_str}
 use Rattle.span_token.specs.Documents.{Doc}
 use Rattle.std.specs.Str.{is_utf8}
 use Rattle.corpus_json.specs.Documents.{string_at, document_of, value_of, document_in}
+use Rattle.corpus_json.specs.Inputs.{doc_of_ref}
+use Rattle.corpus_json.specs.declared.input.InputRef.{InputRef}
 use Rattle.serde_json.specs.Read.{of_json, of_items, of_members, number_of, max_depth, read}
 
 -- ---- a string's bytes
@@ -434,3 +436,8 @@ document_length line document is =
     let n = length line in
     subst (IfFound (λ (d : Doc). length d.text ≤ n)) is
     (and_then (ShortObject n) (λ (d : Doc). length d.text ≤ n) document_of (λ d h. document_text n d (string_at (codes "text") d) (member_length line (codes "text") d h)) (value_of line) (if_utf8 (is_utf8 line) line))
+
+-- the same of a document that was found
+pub found_length : (line : List ℕ) (found : Option InputRef) → option_map doc_of_ref found ≡ document_in line → IfSome found (λ input. length input.text.now ≤ length line)
+found_length line None is = tt
+found_length line (Some input) is = document_length line (doc_of_ref input) (sym is)

@@ -15,6 +15,8 @@ pub mod Window
 -- documents
 pub mod Documents
 pub mod Inputs
+-- how a line is read, with no tree of its value
+pub mod Passing
 -- output lines
 pub mod Outputs
 -- how an output line is written

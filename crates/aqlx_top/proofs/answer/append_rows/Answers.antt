@@ -39,8 +39,11 @@ returns c =
     ap (map rows_of) c.as_slice.ensures.value ∙ sym (map-map (λ (list : RowList). list.rows) (λ list. list.now) c.in_ok-shown.shown.items)
     ∙ ap (map (λ (list : RowList). list.rows)) (c.in_ok-shown.ensures ∙ ap (map (law.list_of board)) c.outputs.ensures.outputs)
     ∙ map-map (λ (list : RowList). list.rows) (law.list_of board) outs in
+    let line : c.in_ok-line.field-0.items ≡ output_line c.args.document.now c.args.layout.now (map rows_of c.as_slice.result.now) =
+    c.in_ok-line.ensures.line ∙ ap (λ (line : Vec ℕ Global). line.items ++ output_line c.args.document.now c.args.layout.now (map rows_of c.as_slice.result.now)) c.replace-empty.ensures.value
+    ∙ ap (λ (items : List ℕ). items ++ output_line c.args.document.now c.args.layout.now (map rows_of c.as_slice.result.now)) c.clear.ensures.items in
     record {
-      bytes = c.in_ok-pending.ensures.line ∙ ap (λ (line : Vec ℕ Global). line.items ++ output_line c.args.document.now c.args.layout.now (map rows_of c.as_slice.result.now)) c.replace-line.ensures.value
+      bytes = c.in_ok-extend_from_slice.ensures.items ∙ ap (λ (line : List ℕ). c.args.pending.now.items ++ line) (c.deref.ensures.value ∙ line)
           ∙ ap (λ (names : List OutputNames). c.args.pending.now.items ++ output_line c.args.document.now names (map rows_of c.as_slice.result.now)) c.requires.layout
           ∙ ap (λ (rows : List (List (List Datum))). c.args.pending.now.items ++ output_line c.args.document.now (names_in c.args.plan.now) rows) are
           ∙ ap (λ (line : List ℕ). c.args.pending.now.items ++ line)
