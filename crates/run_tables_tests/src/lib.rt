@@ -4,6 +4,4 @@
 #[cfg(test)]
 mod claims;
 #[cfg(test)]
-mod computing;
-#[cfg(test)]
 mod results;
