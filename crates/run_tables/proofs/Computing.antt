@@ -1,5 +1,5 @@
 -- What an item may be computed from is what its node asks for, and what comes of it is the item's result.
-use Rattle.std.proofs.Common.{◌≡◌, ◌≢◌, ◌⊎◌, inl, inr, ℕ, ◌<◌, ◌%◌, ◌/◌, true, List, [], length, get_or, refl, sym, ap, ap₂, subst, ◌∙◌, arith, Option, Some, None, IfSome, option_map, All}
+use Rattle.std.proofs.Common.{◌≡◌, ◌≢◌, ◌⊎◌, inl, inr, ℕ, ◌<◌, ◌%◌, ◌/◌, true, List, [], length, get_or, refl, sym, ap, ap₂, subst, ◌∙◌, arith, Option, Some, None, IfSome, All}
 use Rattle.std.specs.Prelude.{slice_index_or}
 use Rattle.std.proofs.lemmas.List.Elements.{All-nil}
 use Rattle.std.proofs.lemmas.Option.{none-some, same_Some, slice_get_within, get_or_from_slice_get}
@@ -9,7 +9,6 @@ use Rattle.span_token.specs.Documents.{Doc}
 use Rattle.row_values.specs.Datums.{IsOfDocument}
 use Rattle.row_values.specs.Rows.{RowList, RowsLieIn}
 use Rattle.scalar_ops.specs.Tables.{Lists}
-use Rattle.aql_typed.specs.Meaning.{Rows}
 use Rattle.algebra.specs.declared.node.Node.{Node}
 use Rattle.algebra.specs.declared.shape.Shape.{Shape}
 use Rattle.algebra.specs.Folds.{of_input}

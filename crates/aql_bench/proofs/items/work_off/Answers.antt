@@ -1,4 +1,3 @@
-use Rattle.std.proofs.Common.{rules}
 use Rattle.aql_bench.proofs.EmptyItems.{empty-result}
 use Rattle.aql_bench.proofs.items.work_off.Goals as goal
 
