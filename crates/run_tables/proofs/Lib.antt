@@ -4,3 +4,5 @@ pub mod Views
 pub mod Words
 -- each step keeps the rule
 pub mod Steps
+-- what comes of the rows from which an item is computed
+pub mod Computing

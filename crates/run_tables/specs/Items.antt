@@ -1,13 +1,11 @@
--- Items: the nodes of a plan on documents, numbered document by document, and what each is worth.
-use Rattle.std.specs.Prelude.{ℕ, ◌≡◌, ◌+◌, ◌*◌, List, [], Some, map, length, slice_get, slice_index_or}
-use Rattle.aql_base.specs.Bags.{SameBag}
+-- Results of items: rows that are what an item is worth, and the results of its inputs from which an item may be computed.
+use Rattle.std.specs.Prelude.{ℕ, ◌≡◌, ◌⊎◌, true, List, [], Option, Some, None, IfSome, option_map}
 use Rattle.span_token.specs.Documents.{Doc}
-use Rattle.row_values.specs.Rows.{RowList, RowsLieIn}
+use Rattle.row_values.specs.Rows.{RowList}
 use Rattle.algebra.specs.declared.node.Node.{Node}
-use Rattle.algebra.specs.Needed.{IsNeeded}
+use Rattle.algebra.specs.Inputs.{left_input, right_input, is_conditional}
+use Rattle.algebra.specs.Items.{Place, IsNeededOn, HasInput, item_at}
 use Rattle.algebra.specs.Plans.{Parts}
-use Rattle.algebra.specs.Shapes.{shapes_of, no_shape}
-use Rattle.algebra.specs.Values.{val}
 
 -- a plan without a node
 abbrev pub no_plan : Parts
@@ -18,29 +16,26 @@ pub record ItemRows : Type 0 where
   pub item : ℕ
   pub rows : RowList
 
--- the nodes of a plan's outputs
-abbrev pub output_nodes : Parts → List ℕ
-output_nodes plan = map (λ out. out.node) plan.outputs
-
--- there is an item for each node on each document
-abbrev pub item_count : Parts → List Doc → ℕ
-item_count plan docs = length docs * length plan.nodes
-
--- item i is node n, which is `node`, on document d, which is `doc`
-pub record Place (plan : Parts) (docs : List Doc) (i : ℕ) : Type 0 where
-  pub d : ℕ
-  pub n : ℕ
-  pub doc : Doc
-  pub node : Node
-  pub is : i ≡ d * length plan.nodes + n
-  pub doc_is : slice_get docs d ≡ Some doc
-  pub node_is : slice_get plan.nodes n ≡ Some node
-
 -- the rows are what item i is worth, as a bag, with the columns of its node, and their spans lie in its document; and the
 -- item is needed
 pub record IsResult (plan : Parts) (docs : List Doc) (i : ℕ) (list : RowList) : Type 0 where
   pub place : Place plan docs i
-  pub needed : IsNeeded plan.lists place.doc plan.nodes (output_nodes plan) place.n
-  pub width : list.width ≡ (slice_index_or (shapes_of plan.nodes) place.n no_shape).width
-  pub lies : RowsLieIn place.doc list.rows
-  pub same : SameBag list.rows (val plan.lists place.doc plan.nodes place.n)
+  pub needed : IsNeededOn plan docs i place
+  pub has : HasInput plan.lists place.doc plan.nodes (Some place.n) list
+
+-- a result is that of an input's item on document d; there is none where there is no input
+abbrev pub IsOfInput : Parts → ℕ → Option ℕ → Option ItemRows → Type 0
+IsOfInput plan d input found = option_map (λ result. result.item) found ≡ option_map (item_at plan d) input
+
+-- a conditional join whose left result has no row goes without a right one
+pub record GoesWithout (node : Node) (left right : Option ItemRows) : Type 0 where
+  pub conditional : is_conditional node ≡ true
+  pub left_empty : IfSome left (λ result. result.rows.rows ≡ [])
+  pub right_absent : right ≡ None
+
+-- item i is needed, and the results are those of its node's inputs on the same document
+pub record MayCompute (plan : Parts) (docs : List Doc) (i : ℕ) (left right : Option ItemRows) : Type 0 where
+  pub place : Place plan docs i
+  pub needed : IsNeededOn plan docs i place
+  pub of_left : IsOfInput plan place.d (left_input place.node) left
+  pub of_right : IsOfInput plan place.d (right_input place.node) right ⊎ GoesWithout place.node left right

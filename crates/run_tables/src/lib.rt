@@ -2,8 +2,8 @@
 //!
 //! A `claim` wins an item for one seat at most; a result that was published stays, and two who saw a result
 //! of an item saw the same one. The calls of a claim and of a look take no memory and wait for nobody. Stands
-//! on `atomic_table` for words that change in single steps, on `once_cell` for cells that are set once, and
-//! on `algebra` for the value of an item.
+//! on `atomic_table` for words that change in single steps, on `once_cell` for cells that are set once, on
+//! `algebra` for the value of an item, and on `plan_operators` for what computes it.
 #![tactic(auto)]
 
 mod claims;

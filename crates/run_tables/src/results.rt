@@ -97,8 +97,8 @@ impl<'d, W: Work> Results<'d, W> {
 
     /// Puts the result into the cell of its item. It takes no memory and waits for nobody.
     ///
-    /// After Ok the watch knows this very result. Else the same box is handed back, the cell is known to be
-    /// full, and what the watch knew it still knows.
+    /// After Ok the watch knows this very result, and had seen nothing in the cell before. Else the same box is
+    /// handed back, the cell is known to be full, and what the watch knew it still knows.
     pub fn publish(
         &self,
         watch: &mut Watch<'d, W>,
@@ -108,7 +108,7 @@ impl<'d, W: Work> Results<'d, W> {
         requires of_item { found.value.item ≡ watch.old.item }
         ensures item { watch.new.item ≡ watch.old.item }
         ensures belongs { Belongs self.now watch.new }
-        ensures published { MatchResult result (λ _. known watch.new ≡ Some found.entry.value) (λ back. (back.value ≡ found.entry.value) × IsFilled watch.new) }
+        ensures published { MatchResult result (λ _. (watch.old.held ≡ None) × (known watch.new ≡ Some found.entry.value)) (λ back. (back.value ≡ found.entry.value) × IsFilled watch.new) }
         ensures kept { IfSome (known watch.old) (λ seen. known watch.new ≡ Some seen) }
     {
         self.cells[watch.item as usize].set_as(found, &mut watch.note)

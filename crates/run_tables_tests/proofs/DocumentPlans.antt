@@ -30,7 +30,9 @@ document_is_result plan docs doc list is there list_is = subst (IsResult plan do
         node_is = ap (λ (nodes : List Node). slice_get nodes 0) is.nodes;
       };
       needed = needs.output 0 (subst (λ outs. Contains outs 0) (sym is.outputs) (0, omega arith, refl));
-      width = sym (ap (λ (nodes : List Node). (slice_index_or (shapes_of nodes) 0 no_shape).width) is.nodes);
-      lies = All-push (All (IsOfDocument doc)) [] (span (whole_of doc) ∷ []) (All-nil _) (All-push (IsOfDocument doc) [] (span (whole_of doc)) (All-nil _) (omega arith));
-      same = SameBag-is _ _ (sym (ap (λ (nodes : List Node). val plan.lists doc nodes 0) is.nodes));
+      has = record {
+        width = sym (ap (λ (nodes : List Node). (slice_index_or (shapes_of nodes) 0 no_shape).width) is.nodes);
+        lies = All-push (All (IsOfDocument doc)) [] (span (whole_of doc) ∷ []) (All-nil _) (All-push (IsOfDocument doc) [] (span (whole_of doc)) (All-nil _) (omega arith));
+        same = SameBag-is _ _ (sym (ap (λ (nodes : List Node). val plan.lists doc nodes 0) is.nodes));
+      };
     }
