@@ -1,10 +1,12 @@
 -- The items of the tests' plan with a conditional join may be computed one after another, the right one of the join where the
 -- left one has a row.
-use Rattle.std.proofs.Common.{◌≡◌, ◌≢◌, inl, inr, ℕ, ◌+◌, ◌*◌, List, [], ◌∷◌, length, refl, sym, ap, subst, ◌∙◌, arith, Contains, Some, None, true}
+use Rattle.std.proofs.Common.{◌≡◌, ◌≢◌, inl, inr, ℕ, ◌+◌, ◌*◌, ◌<◌, List, [], ◌∷◌, length, refl, sym, ap, subst, ◌∙◌, arith, Contains, Some, None, true}
 use Rattle.std.specs.Prelude.{slice_get}
 use Rattle.std.proofs.lemmas.List.Sorted.{length_permutation}
+use Rattle.std.proofs.lemmas.Option.{slice_get_cases}
 use Rattle.span_token.specs.Documents.{Doc as Document}
 use Rattle.aql_typed.specs.Meaning.{Rows}
+use Rattle.row_values.specs.Rows.{RowList}
 use Rattle.algebra.specs.declared.node.Node.{Node}
 use Rattle.algebra.specs.declared.node.Node.TheVariants.{Doc, Regex, Project, Cross}
 use Rattle.algebra.specs.Items.{Place, HasInput, item_at, output_nodes}
@@ -88,3 +90,31 @@ module _ (plan : Parts) (docs : List Document) (d first : ℕ) (doc : Document) 
     of_left = of_input found.item 1 of_left;
     of_right = inr (record { conditional = refl; left_empty = no_rows found.rows.rows none; right_absent = refl });
   }
+
+doc_at : (docs : List Document) (d : ℕ) → d < length docs → (doc : Document) × (slice_get docs d ≡ Some doc)
+doc_at docs d below = elim (slice_get_cases docs d).1 [
+  | inl found ↦ (found.0, found.2)
+  | inr past ↦ absurd (omega (arith, below, past.0))
+]
+
+-- so they may on each document that is there
+module _ (plan : Parts) (docs : List Document) (d : ℕ) (is : IsJoinedPlan plan) (below : d < length docs) where
+  at : (doc : Document) × (slice_get docs d ≡ Some doc)
+  at = doc_at docs d below
+
+  pub text_there : MayCompute plan docs (d * 4) None None
+  text_there = text-may plan docs d (d * 4) at.0 is at.1 refl
+
+  pub left_there : (text : ItemRows) → text.item ≡ d * 4 → MayCompute plan docs (d * 4 + 1) (Some text) None
+  left_there text of_text = left-may plan docs d (d * 4) at.0 is at.1 refl text of_text
+
+  pub right_there : (text found : ItemRows) (rows : RowList) → text.item ≡ d * 4 → found.item ≡ d * 4 + 1 → rows ≡ found.rows → IsResult plan docs found.item rows → length rows.rows ≢ 0
+      → MayCompute plan docs (d * 4 + 2) (Some text) None
+  right_there text found rows of_text of_left are result some =
+      right-may plan docs d (d * 4) at.0 is at.1 refl text (record { item = found.item; rows = rows }) of_text of_left result some
+
+  pub join_there : (found other : ItemRows) → found.item ≡ d * 4 + 1 → other.item ≡ d * 4 + 2 → MayCompute plan docs (d * 4 + 3) (Some found) (Some other)
+  join_there found other of_left of_right = join-may plan docs d (d * 4) at.0 is at.1 refl found other of_left of_right
+
+  pub empty_there : (found : ItemRows) (rows : RowList) → found.item ≡ d * 4 + 1 → rows ≡ found.rows → length rows.rows ≡ 0 → MayCompute plan docs (d * 4 + 3) (Some found) None
+  empty_there found rows of_left are none = empty-may plan docs d (d * 4) at.0 is at.1 refl found of_left (ap (λ (list : RowList). length list.rows) (sym are) ∙ none)
