@@ -1,5 +1,5 @@
 -- What was found out of a node and of outputs, as plans want it.
-use Rattle.std.proofs.Common.{◌≡◌, ◌∙◌, ◌<◌, ℕ, List, length, map, sym, subst, arith, All}
+use Rattle.std.proofs.Common.{◌≡◌, ◌<◌, ℕ, List, Option, Some, None, length, map, subst, arith, All}
 use Rattle.std.specs.Prelude.{slice_index_or}
 use Rattle.row_values.specs.Outputs.{HasDistinctNames}
 use Rattle.row_values.specs.Rows.{RowList}
@@ -18,13 +18,17 @@ use Rattle.plan_operators.specs.Given.{MayRead}
 pub among_shapes : (nodes : List Node) (n : ℕ) → n < length nodes → n < length (shapes_of nodes)
 among_shapes nodes n below = omega (arith, below, length-each no_shape shape_by nodes)
 
+among_all : (nodes : List Node) (o : Option ℕ) → IsAmong (length nodes) o → IsAmong (length (shapes_of nodes)) o
+among_all nodes None below = tt
+among_all nodes (Some n) below = among_shapes nodes n below
+
 -- a node may stand where its inputs are there, with shapes that it may read
-pub may_stand : (shapes : List Shape) (node : Node) (left right : Shape) → IsAmong (length shapes) (left_input node) → IsAmong (length shapes) (right_input node)
-    → left ≡ of_input no_shape shapes (left_input node) → right ≡ of_input no_shape shapes (right_input node) → IsMade node left right → IsNode shapes node
-may_stand shapes node left right left_below right_below left_is right_is made = record {
-  left_below = left_below;
-  right_below = right_below;
-  made = subst (λ (s : Shape). IsMade node s (of_input no_shape shapes (right_input node))) left_is (subst (λ (t : Shape). IsMade node left t) right_is made);
+pub may_stand : (nodes : List Node) (node : Node) (left right : Shape) → IsAmong (length nodes) (left_input node) → IsAmong (length nodes) (right_input node)
+    → left ≡ of_input no_shape (shapes_of nodes) (left_input node) → right ≡ of_input no_shape (shapes_of nodes) (right_input node) → IsMade node left right → IsNode (shapes_of nodes) node
+may_stand nodes node left right left_below right_below left_is right_is made = record {
+  left_below = among_all nodes (left_input node) left_below;
+  right_below = among_all nodes (right_input node) right_below;
+  made = subst (λ (s : Shape). IsMade node s (of_input no_shape (shapes_of nodes) (right_input node))) left_is (subst (λ (t : Shape). IsMade node left t) right_is made);
 }
 
 -- an output may show a node that is there, without places, with a name for each column

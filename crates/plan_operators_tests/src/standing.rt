@@ -36,9 +36,8 @@ pub(crate) fn put(nodes: &mut Nodes, node: Node) -> Result<u32, Fail> {
 }
 
 /// The shape of an input, where the nodes have it.
-#[tactic(auto, using(crate::proofs::Planning::among_shapes))]
 fn shape_of(nodes: &Nodes, input: Option<u32>) -> Option<Shape>
-    ensures among { IfSome result (λ _. IsAmong (length (shapes_of nodes.now)) input) }
+    ensures among { IfSome result (λ _. IsAmong (length nodes.now) input) }
     ensures shape { IfSome result (λ shape. shape ≡ of_input no_shape (shapes_of nodes.now) input) }
 {
     match input {
