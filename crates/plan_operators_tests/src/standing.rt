@@ -229,12 +229,14 @@ fn are_shown(nodes: &Nodes, outputs: &[PlanOut]) -> bool
 fn is_shown(nodes: &Nodes, out: &PlanOut) -> bool
     ensures { IsTrue result → IsOutput (shapes_of nodes.now) out.now }
 {
-    if out.node < nodes.len() {
-        let shape = nodes.shape(out.node);
-        is_open(shape) && out.names.width() == shape.width
-    } else {
-        false
+    if out.node >= nodes.len() {
+        return false;
     }
+    let shape = nodes.shape(out.node);
+    if !is_open(shape) || out.names.width() != shape.width {
+        return false;
+    }
+    true
 }
 
 /// The names of some outputs.
