@@ -63,12 +63,12 @@ def star(last):
 def wide_chain(last):
     """Views with many columns, each over the one before it."""
     columns = 200
-    first = "create view W0 as select " + ", ".join(f"{i} as c{i}" for i in range(columns)) + " from Document D;\n"
+    first = "create view Wide0 as select " + ", ".join(f"{i} as c{i}" for i in range(columns)) + " from Document D;\n"
     links = "".join(
-        f"create view W{k} as select " + ", ".join(f"W{k - 1}.c{i}" for i in range(columns)) + f" from W{k - 1};\n"
+        f"create view Wide{k} as select " + ", ".join(f"Wide{k - 1}.c{i}" for i in range(columns)) + f" from Wide{k - 1};\n"
         for k in range(1, 400)
     )
-    return first + links + f"create view Last as select W399.{last} from W399;\n"
+    return first + links + f"create view Last as select W399.{last} from Wide399;\n"
 
 
 def wide_star(last):

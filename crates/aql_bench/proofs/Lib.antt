@@ -1,2 +1,0 @@
--- the results of items without a row
-pub mod EmptyItems

@@ -1,2 +1,0 @@
--- the plan of items without a row
-pub mod EmptyPlans
