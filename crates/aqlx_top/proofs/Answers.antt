@@ -1,6 +1,7 @@
 -- From what was carried out and reported to the promise of the top call.
 use Rattle.std.proofs.Common.{◌≡◌, ◌≢◌, ℕ, ◌<◌, true, false, Bool, List, [], ◌∷◌, ◌++◌, length, unwrap_or, ap, sym, subst, ◌∙◌, refl, arith, length-append, append_assoc, Option, Some, None, Result, Ok, Err, IsErr, IfSome, IfOk, OnErr, IsSomeAnd, if◌then◌else◌, ◌||◌, All, inl, inr, ◌⊎◌}
-use Rattle.std.proofs.lemmas.List.{append-nil}
+use Rattle.std.proofs.lemmas.List.{append-nil, take_all}
+use Rattle.std.proofs.lemmas.Option.{none-some}
 use Rattle.std.proofs.lemmas.List.Elements.{All-append, All-head, All-tail, All-nil, All-cons}
 use Rattle.std.proofs.lemmas.Bool.{lt-ltb, ltb-true}
 use Rattle.std.specs.Io.KnownBytes.{Appends, Consumes, IsAtEnd}
@@ -16,15 +17,15 @@ use Rattle.aqlx_top.specs.declared.status.Status.TheVariants.{Done, Program as R
 use Rattle.aqlx_top.specs.declared.status.ProgramFault.{ProgramFault}
 use Rattle.aqlx_top.specs.declared.status.CorpusFault.{CorpusFault}
 use Rattle.aqlx_top.specs.declared.status.CorpusFault.TheVariants.{BadLine, LineLong, CorpusLarge}
-use Rattle.aqlx_top.specs.Devices.{SourceEnds, SinkEnds, FilesFailed, SinkFailed, SinkNeverFailed, Gained, IsUntouched}
+use Rattle.aqlx_top.specs.Devices.{FilesEnds, SourceEnds, SinkEnds, FilesFailed, SinkFailed, FilesNeverFailed, SinkNeverFailed, Gained, GainedFront, IsUntouched}
 use Rattle.aqlx_top.specs.Endings.{InPart, Came, written_for}
-use Rattle.aqlx_top.specs.Outcome.{Call, IsReadAs, IsCalledFor, IsCalledWith, RanTo, WroteFront, HasCauseOf, IsAnswered, IsOfDocuments, HasNoFault, NoneFailed, IsRefusedOrWanting, IsDoneOrWanting, Outcome}
+use Rattle.aqlx_top.specs.Outcome.{Call, IsReadAs, IsCalledFor, IsCalledWith, IsMeant, RanTo, Wrote, WroteFront, HasCauseOf, IsAnswered, CanBeDone, IsOfDocuments, HasNoFault, NoneFailed, IsRefusedOrWanting, IsDoneOrWanting, Outcome}
 use Rattle.aqlx_top.specs.ProgramFaults.{HasFault, IsFaultless, AreOneFault}
 use Rattle.aqlx_top.specs.Run.{Program, line_of}
 use Rattle.aqlx_top.specs.Stages.{IsToldAs}
 use Rattle.aqlx_top.specs.Statuses.{HasLine}
 use Rattle.aqlx_top.specs.Taken.{How, at_end, failed, at_limit, left_off, is_at_end, HasNoBadLine, IsFirstBad}
-use Rattle.aqlx_top.specs.Words.{IsRun, IsNoRun}
+use Rattle.aqlx_top.specs.Words.{Order, to_run, to_check, to_plan, to_generate, to_demonstrate, order_of, file_of, IsOrder, IsNoOrder, IsFileOrder}
 use Rattle.aqlx_top.proofs.Sinks.{appends_nothing}
 
 -- an untouched sink gained nothing
@@ -46,11 +47,17 @@ part_of_came piece corpus out status came =
 
 front_of_run : (call : Call) (status : Status) → RanTo call status → WroteFront call
 front_of_run call status run =
-    inr (record { program = run.program; called = run.called; ran = part_of_came (line_of run.program) call.corpus call.out status run.ran })
+    inr (inl (record { program = run.program; called = run.called; ran = part_of_came (line_of run.program) call.corpus call.out status run.ran }))
+
+front_of_wrote : (call : Call) → Wrote call → WroteFront call
+front_of_wrote call wrote =
+    let all : GainedFront call.out wrote.bytes =
+    (length wrote.bytes, subst (λ (bytes : List ℕ). Gained call.out bytes) (sym (take_all (length wrote.bytes) wrote.bytes (omega arith))) wrote.sent.gained) in
+    inr (inr (record { order = wrote.order; words = wrote.words; bytes = wrote.bytes; meant = wrote.meant; unread = wrote.unread; front = all }))
 
 -- whatever the cause of a status is, a prefix is written
 pub front_of_cause : (call : Call) (status : Status) → HasCauseOf call status → WroteFront call
-front_of_cause call Done cause = front_of_run call Done cause
+front_of_cause call Done cause = elim cause [ inl run ↦ front_of_run call Done run | inr wrote ↦ front_of_wrote call wrote ]
 front_of_cause call (Refused fault) cause = inl (gained_nothing call.out cause.idle.untouched)
 front_of_cause call Usage cause = inl (gained_nothing call.out cause.idle.untouched)
 front_of_cause call (Corpus fault) cause = front_of_run call (Corpus fault) cause
@@ -89,10 +96,23 @@ quiet_run : (call : Call) (err : SinkEnds) (status : Status) → status ≢ Read
 quiet_run call err status not_read run line =
     record { files = run.called.file.unfailed; corpus = run.ran.read not_read; out = run.ran.wrote.unfailed; line = line }
 
+-- of what is to be written without a corpus, the files were read without a failed call
+meant_unfailed : (files : FilesEnds) (order : Order) (bytes : List ℕ) → IsMeant files order bytes → FilesNeverFailed files
+meant_unfailed files (to_run name) bytes meant = absurd meant
+meant_unfailed files (to_check name) bytes meant = meant.file.unfailed
+meant_unfailed files (to_plan name) bytes meant = meant.file.unfailed
+meant_unfailed files (to_generate count) bytes meant = meant.1
+meant_unfailed files (to_demonstrate count) bytes meant = meant.1
+
 -- a status other than a failed read or write says that no call failed
 pub told_of : (call : Call) (err : SinkEnds) (result : Result Status OutOfMemory) → IsAnswered call err result
     → (status : Status) → result ≡ Ok status → status ≢ ReadFault → status ≢ WriteFault → NoneFailed call err
-told_of call err (Ok Done) a status is not_read not_written = quiet_run call err Done (λ e. cc) a.0 a.1.faults
+told_of call err (Ok Done) a status is not_read not_written =
+    elim a.0 [
+      | inl run ↦ quiet_run call err Done (λ e. cc) run a.1.faults
+      | inr wrote ↦
+          record { files = meant_unfailed call.files wrote.order wrote.bytes wrote.meant; corpus = wrote.unread.faults; out = wrote.sent.unfailed; line = a.1.faults }
+    ]
 told_of call err (Ok (Refused fault)) a status is not_read not_written =
     record { files = a.0.file.unfailed; corpus = a.0.idle.unread.faults; out = a.0.idle.untouched.faults; line = a.1.unfailed }
 told_of call err (Ok Usage) a status is not_read not_written =
@@ -114,16 +134,32 @@ read_of call err (Ok ReadFault) a is =
 read_of call err (Ok WriteFault) a is = absurd (cc)
 read_of call err (Err e) a is = absurd (cc)
 
--- words that ask for no run have the status of usage alone
-usage_alone : (call : Call) (status : Status) → IsNoRun call.words → HasCauseOf call status → status ≡ Usage
-usage_alone call Done none cause = absurd (none cause.called.name cause.called.words)
-usage_alone call (Refused fault) none cause = absurd (none cause.name cause.words)
-usage_alone call Usage none cause = refl
-usage_alone call (Corpus fault) none cause = absurd (none cause.called.name cause.called.words)
-usage_alone call ReadFault none cause = elim cause [ inl stopped ↦ absurd (none stopped.1.name stopped.1.words) | inr run ↦ absurd (none run.called.name run.called.words) ]
-usage_alone call WriteFault none cause = absurd (none cause.1.called.name cause.1.called.words)
+-- words that ask for nothing ask for no order
+no_order : (words : List (List ℕ)) (order : Order) → IsNoOrder words → IsOrder words order → ⊥
+no_order words order none asked = none-some order (sym none ∙ asked)
 
-pub usage_of : (call : Call) (err : SinkEnds) (result : Result Status OutOfMemory) → IsAnswered call err result → IsNoRun call.words
+-- words that ask for nothing have the status of usage alone
+usage_alone : (call : Call) (status : Status) → IsNoOrder call.words → HasCauseOf call status → status ≡ Usage
+usage_alone call Done none cause =
+    elim cause [
+      | inl run ↦ absurd (no_order call.words (to_run run.called.name) none run.called.words)
+      | inr wrote ↦ absurd (no_order call.words wrote.order none wrote.words)
+    ]
+usage_alone call (Refused fault) none cause = absurd (no_order call.words cause.words.order none cause.words.asked)
+usage_alone call Usage none cause = refl
+usage_alone call (Corpus fault) none cause = absurd (no_order call.words (to_run cause.called.name) none cause.called.words)
+usage_alone call ReadFault none cause =
+    elim cause [
+      | inl stopped ↦ absurd (no_order call.words stopped.1.words.order none stopped.1.words.asked)
+      | inr run ↦ absurd (no_order call.words (to_run run.called.name) none run.called.words)
+    ]
+usage_alone call WriteFault none cause =
+    elim cause.1 [
+      | inl run ↦ absurd (no_order call.words (to_run run.called.name) none run.called.words)
+      | inr wrote ↦ absurd (no_order call.words wrote.order none wrote.words)
+    ]
+
+pub usage_of : (call : Call) (err : SinkEnds) (result : Result Status OutOfMemory) → IsAnswered call err result → IsNoOrder call.words
     → (result ≡ Ok Usage) ⊎ (((result ≡ Ok WriteFault) × SinkFailed err) ⊎ IsErr result)
 usage_of call err (Ok Done) a none = let e = usage_alone call Done none a.0 in absurd (cc)
 usage_of call err (Ok (Refused fault)) a none = let e = usage_alone call (Refused fault) none a.0 in absurd (cc)
@@ -222,9 +258,22 @@ no_corpus_fault piece corpus out CorpusLarge came of_documents =
     let below = good.0 in
     absurd (omega arith)
 
--- words name one file
-one_name : (words : List (List ℕ)) (a b : List ℕ) → IsRun words a → IsRun words b → a ≡ b
-one_name words a b run other = ap (λ (o : Option (List ℕ)). unwrap_or o a) (sym run ∙ other)
+-- words ask for one order, and name one file
+one_order : (words : List (List ℕ)) (a b : Order) → IsOrder words a → IsOrder words b → a ≡ b
+one_order words a b asked other = ap (λ (o : Option Order). unwrap_or o a) (sym asked ∙ other)
+
+one_name : (words : List (List ℕ)) (a b : List ℕ) → IsFileOrder words a → IsFileOrder words b → a ≡ b
+one_name words a b first second =
+    ap (λ (o : Option (List ℕ)). unwrap_or o a) (sym first.named ∙ ap file_of (one_order words first.order second.order first.asked second.asked) ∙ second.named)
+
+-- a run names its file
+run_names : (words : List (List ℕ)) (name : List ℕ) → IsOrder words (to_run name) → IsFileOrder words name
+run_names words name asked = record { order = to_run name; asked = asked; named = refl }
+
+-- an order that reads no file names none
+names_none : (words : List (List ℕ)) (order : Order) (name : List ℕ) → IsOrder words order → file_of order ≡ None → IsFileOrder words name → ⊥
+names_none words order name asked none file =
+    none-some name (sym none ∙ ap file_of (one_order words order file.order asked file.asked) ∙ file.named)
 
 -- a file that tells its text holds that text alone
 told_text : (told : Option Names) (name text other : List ℕ) → IsSomeAnd told (λ names. names name ≡ Some text)
@@ -232,7 +281,7 @@ told_text : (told : Option Names) (name text other : List ℕ) → IsSomeAnd tol
 told_text None name text other tells held = absurd tells
 told_text (Some names) name text other tells held = let e : ◌≡◌ {A = Option (List ℕ)} (Some other) (Some text) = sym held ∙ tells in cc
 
-same_text : (call : Call) (text other name : List ℕ) → IsCalledWith call text → IsRun call.words name → IsReadAs call.files name other → other ≡ text
+same_text : (call : Call) (text other name : List ℕ) → IsCalledWith call text → IsFileOrder call.words name → IsReadAs call.files name other → other ≡ text
 same_text call text other name with_text run held =
     told_text call.files.told with_text.name text other with_text.file
     (subst (λ (n : List ℕ). IsReadAs call.files n other) (one_name call.words name with_text.name run with_text.words) held).held
@@ -240,23 +289,45 @@ same_text call text other name with_text run held =
 -- a text that holds a program isn't one with a fault
 run_has_no_fault : (call : Call) (text : List ℕ) (program : Program) → IsCalledFor call program → IsCalledWith call text → IsFaultless text
 run_has_no_fault call text program called with_text =
-    subst IsFaultless (same_text call text called.text called.name with_text called.words called.file) called.holds.faultless
+    subst IsFaultless (same_text call text called.text called.name with_text (run_names call.words called.name called.words) called.file) called.holds.faultless
+
+-- nor is one for which something is written without a corpus
+written_has_no_fault : (call : Call) (text : List ℕ) (order : Order) (bytes : List ℕ) → IsOrder call.words order → IsMeant call.files order bytes → IsCalledWith call text → IsFaultless text
+written_has_no_fault call text (to_run name) bytes asked meant with_text = absurd meant
+written_has_no_fault call text (to_check name) bytes asked meant with_text =
+    let file : IsFileOrder call.words name = record { order = to_check name; asked = asked; named = refl } in
+    subst IsFaultless (same_text call text meant.text name with_text file meant.file) meant.given.holds.faultless
+written_has_no_fault call text (to_plan name) bytes asked meant with_text =
+    let file : IsFileOrder call.words name = record { order = to_plan name; asked = asked; named = refl } in
+    subst IsFaultless (same_text call text meant.text name with_text file meant.file) meant.given.planned.holds.faultless
+written_has_no_fault call text (to_generate count) bytes asked meant with_text =
+    absurd (names_none call.words (to_generate count) with_text.name asked refl with_text.words)
+written_has_no_fault call text (to_demonstrate count) bytes asked meant with_text =
+    absurd (names_none call.words (to_demonstrate count) with_text.name asked refl with_text.words)
 
 -- the cause of a status where the text has a fault
 refused_cause : (call : Call) (status : Status) (text : List ℕ) (fault : ProgramFault) → IsCalledWith call text → HasFault text fault → HasCauseOf call status
     → ((told : ProgramFault) × (status ≡ Refused told) × AreOneFault fault told) ⊎ ((status ≡ ReadFault) × FilesFailed call.files)
-refused_cause call Done text fault with_text has cause = absurd (run_has_no_fault call text cause.program cause.called with_text fault has)
+refused_cause call Done text fault with_text has cause =
+    elim cause [
+      | inl run ↦ absurd (run_has_no_fault call text run.program run.called with_text fault has)
+      | inr wrote ↦ absurd (written_has_no_fault call text wrote.order wrote.bytes wrote.words wrote.meant with_text fault has)
+    ]
 refused_cause call (Refused other) text fault with_text has cause =
     let same = same_text call text cause.text cause.name with_text cause.words cause.file in
     inl (other, refl, cause.cause.only fault (subst (λ (t : List ℕ). HasFault t fault) (sym same) has))
-refused_cause call Usage text fault with_text has cause = absurd (cause.words with_text.name with_text.words)
+refused_cause call Usage text fault with_text has cause = absurd (no_order call.words with_text.words.order cause.words with_text.words.asked)
 refused_cause call (Corpus other) text fault with_text has cause = absurd (run_has_no_fault call text cause.program cause.called with_text fault has)
 refused_cause call ReadFault text fault with_text has cause =
     elim cause [
       | inl stopped ↦ inr (refl, stopped.0)
       | inr run ↦ absurd (run_has_no_fault call text run.program run.called with_text fault has)
     ]
-refused_cause call WriteFault text fault with_text has cause = absurd (run_has_no_fault call text cause.1.program cause.1.called with_text fault has)
+refused_cause call WriteFault text fault with_text has cause =
+    elim cause.1 [
+      | inl run ↦ absurd (run_has_no_fault call text run.program run.called with_text fault has)
+      | inr wrote ↦ absurd (written_has_no_fault call text wrote.order wrote.bytes wrote.words wrote.meant with_text fault has)
+    ]
 
 as_result : (call : Call) (err : SinkEnds) (status : Status) (fault : ProgramFault)
     → ((told : ProgramFault) × (status ≡ Refused told) × AreOneFault fault told) ⊎ ((status ≡ ReadFault) × FilesFailed call.files)
@@ -281,24 +352,39 @@ refused_of call err (Ok WriteFault) a text fault with_text has =
     ]
 refused_of call err (Err e) a text fault with_text has = inr (inr (inr refl))
 
--- with right words, a text without a fault, a corpus of documents and no failed call, all is done
+-- an order that can be carried out and names a file: the file tells a text without a fault
+tells_faultless : (call : Call) (order : Order) (name : List ℕ) → IsOrder call.words order → CanBeDone call order → IsFileOrder call.words name
+    → (text : List ℕ) × IsCalledWith call text × IsFaultless text
+tells_faultless call (to_run other) name asked can file =
+    (can.0.text, record { name = other; words = run_names call.words other asked; file = can.0.file }, can.0.faultless)
+tells_faultless call (to_check other) name asked can file =
+    (can.text, record { name = other; words = record { order = to_check other; asked = asked; named = refl }; file = can.file }, can.faultless)
+tells_faultless call (to_plan other) name asked can file =
+    (can.text, record { name = other; words = record { order = to_plan other; asked = asked; named = refl }; file = can.file }, can.faultless)
+tells_faultless call (to_generate count) name asked can file = absurd (names_none call.words (to_generate count) name asked refl file)
+tells_faultless call (to_demonstrate count) name asked can file = absurd (names_none call.words (to_demonstrate count) name asked refl file)
+
+-- with right words, a text without a fault and a corpus of documents, where they are read, and no failed call, all is done
 pub complete_of : (call : Call) (err : SinkEnds) (result : Result Status OutOfMemory) → IsAnswered call err result
-    → (text : List ℕ) → IsCalledWith call text → IsFaultless text → IsOfDocuments call.corpus → HasNoFault call err → IsDoneOrWanting result
-complete_of call err (Ok Done) a text with_text faultless of_documents no_fault = inl refl
-complete_of call err (Ok (Refused fault)) a text with_text faultless of_documents no_fault =
-    let same = same_text call text a.0.text a.0.name with_text a.0.words a.0.file in
-    absurd (faultless fault (subst (λ (t : List ℕ). HasFault t fault) same a.0.cause.has))
-complete_of call err (Ok Usage) a text with_text faultless of_documents no_fault = absurd (a.0.words with_text.name with_text.words)
-complete_of call err (Ok (Corpus fault)) a text with_text faultless of_documents no_fault =
-    absurd (no_corpus_fault (line_of a.0.program) call.corpus call.out fault a.0.ran of_documents)
-complete_of call err (Ok ReadFault) a text with_text faultless of_documents no_fault =
+    → (order : Order) → IsOrder call.words order → CanBeDone call order → HasNoFault call err → IsDoneOrWanting result
+complete_of call err (Ok Done) a order asked can no_fault = inl refl
+complete_of call err (Ok (Refused fault)) a order asked can no_fault =
+    let told = tells_faultless call order a.0.name asked can a.0.words in
+    let same = same_text call told.0 a.0.text a.0.name told.1 a.0.words a.0.file in
+    absurd (told.2 fault (subst (λ (t : List ℕ). HasFault t fault) same a.0.cause.has))
+complete_of call err (Ok Usage) a order asked can no_fault = absurd (no_order call.words order a.0.words asked)
+complete_of call err (Ok (Corpus fault)) a order asked can no_fault =
+    let name = a.0.called.name in
+    let run : CanBeDone call (to_run name) = subst (CanBeDone call) (one_order call.words order (to_run name) asked a.0.called.words) can in
+    absurd (no_corpus_fault (line_of a.0.program) call.corpus call.out fault a.0.ran run.1)
+complete_of call err (Ok ReadFault) a order asked can no_fault =
     elim a.0 [
       | inl stopped ↦ absurd (no_fault.files stopped.0)
       | inr run ↦ absurd (no_fault.corpus (run.ran.taken.broken run.ran.status_is.0).0)
     ]
-complete_of call err (Ok WriteFault) a text with_text faultless of_documents no_fault =
+complete_of call err (Ok WriteFault) a order asked can no_fault =
     elim a [ inl itself ↦ absurd (no_fault.out itself.0.0) | inr line ↦ absurd (no_fault.line line.failed) ]
-complete_of call err (Err e) a text with_text faultless of_documents no_fault = inr refl
+complete_of call err (Err e) a order asked can no_fault = inr refl
 
 pub outcome_of : (call : Call) (err : SinkEnds) (result : Result Status OutOfMemory) → IsAnswered call err result → Outcome call err result
 outcome_of call err result a = record {

@@ -12,6 +12,8 @@ use Rattle.aqlx_top.specs.declared.status.Status.TheVariants.{Done, Program as R
 use Rattle.aqlx_top.specs.declared.status.ProgramFault.{ProgramFault}
 use Rattle.aqlx_top.specs.declared.status.ProgramFault.TheVariants.{Large}
 use Rattle.aqlx_top.specs.declared.status.What.TheVariants.{Bytes}
+use Rattle.aqlx_top.specs.declared.modes.Shown.{Shown}
+use Rattle.aqlx_top.specs.declared.modes.Shown.TheVariants.{Check, Plan}
 use Rattle.aqlx_top.specs.Devices.{FilesEnds, SourceEnds, SinkEnds, FilesNeverFailed, HasSent}
 use Rattle.corpus_json.specs.Documents.{documents}
 use Rattle.corpus_json.specs.Lines.{lines_of}
@@ -21,9 +23,11 @@ use Rattle.aqlx_top.specs.Outcome.{IsReadAs, IsCalledFor, WroteFront, HasCauseOf
 use Rattle.aqlx_top.specs.ProgramFaults.{HasOnlyFault, AreOneFault, HoldsProgram}
 use Rattle.aqlx_top.specs.ProgramFile.{IsFrontOf}
 use Rattle.aqlx_top.specs.Progress.{IsRunTo}
+use Rattle.aqlx_top.specs.Modes.{GivesPlan}
 use Rattle.aqlx_top.specs.Run.{Program, line_of}
+use Rattle.aqlx_top.specs.Showings.{gives, IsTextShown, IsFileShown}
 use Rattle.aqlx_top.specs.Stages.{RanText, IsFileRunTo, IsFileInPart, IsTextRunTo, IsTextInPart}
-use Rattle.aqlx_top.specs.Words.{IsRun}
+use Rattle.aqlx_top.specs.Words.{to_run, IsOrder}
 use Rattle.aqlx_top.proofs.ProgramLaws.{only_large}
 
 -- ---- pieces that are alike for each document
@@ -128,6 +132,27 @@ fault_of_front : (told : Option Names) (name bytes : List ℕ) (fault : ProgramF
 fault_of_front None name bytes fault front cause = (bytes, tt, cause)
 fault_of_front (Some names) name bytes fault front cause = fault_at (names name) bytes fault front cause
 
+-- ---- what is shown of a file
+
+gives_of_held : (shown : Shown) (held text bytes : List ℕ) → text ≡ take (program_limit + 1) held → gives shown text bytes → gives shown held bytes
+gives_of_held Check held text bytes front given =
+    record { program = given.program; holds = program_of_held held text given.program front given.holds; bytes_are = given.bytes_are }
+gives_of_held Plan held text bytes front given =
+    elim (whole_or_large held text front) [
+      | inl whole ↦ subst (λ (t : List ℕ). GivesPlan t bytes) whole given
+      | inr large ↦ let small = given.planned.holds.holds.reads.small in let long = large.1 in absurd (omega arith)
+    ]
+
+given_at : (shown : Shown) (file : Option (List ℕ)) (text bytes : List ℕ) → IsFrontOf file (program_limit + 1) text → gives shown text bytes
+    → Held file (λ held. gives shown held bytes)
+given_at shown None text bytes front given = absurd front
+given_at shown (Some held) text bytes front given = (held, refl, gives_of_held shown held text bytes front given)
+
+given_by_front : (shown : Shown) (told : Option Names) (name text bytes : List ℕ) → IfSome told (λ names. IsFrontOf (names name) (program_limit + 1) text)
+    → gives shown text bytes → (held : List ℕ) × IfSome told (λ names. names name ≡ Some held) × gives shown held bytes
+given_by_front shown None name text bytes front given = (text, tt, given)
+given_by_front shown (Some names) name text bytes front given = given_at shown (names name) text bytes front given
+
 program_of_front : (told : Option Names) (name bytes : List ℕ) (program : Program) → IfSome told (λ names. IsFrontOf (names name) (program_limit + 1) bytes)
     → HoldsProgram bytes program → (text : List ℕ) × IfSome told (λ names. names name ≡ Some text) × HoldsProgram text program
 program_of_front None name bytes program front holds = (bytes, tt, holds)
@@ -170,16 +195,35 @@ file_part name bytes files corpus out (Err e) front unfailed part =
           inr (found.0, read_as files name found.0 found.1 unfailed, record { program = run.program; holds = found.2; ran = run.ran })
     ]
 
+file_shown_to : (shown : Shown) (name text : List ℕ) (files : FilesEnds) (out : SinkEnds) (status : Status)
+    → IfSome files.told (λ names. IsFrontOf (names name) (program_limit + 1) text) → FilesNeverFailed files
+    → IsTextShown (gives shown) text out status → IsFileShown (gives shown) name files out status
+file_shown_to shown name text files out status front unfailed came =
+    elim came [
+      | inl refused ↦
+          let found = fault_of_front files.told name text refused.fault front refused.cause in
+          inr (found.0, read_as files name found.0 found.1 unfailed, inl (record { fault = refused.fault; told = refused.told; cause = found.2; untouched = refused.untouched }))
+      | inr sent ↦
+          let found = given_by_front shown files.told name text sent.bytes front sent.given in
+          inr (found.0, read_as files name found.0 found.1 unfailed, inr (record { bytes = sent.bytes; given = found.2; sent = sent.sent }))
+    ]
+
+pub file_shown : (shown : Shown) (name text : List ℕ) (files : FilesEnds) (out : SinkEnds) (r : Result Status OutOfMemory)
+    → IfSome files.told (λ names. IsFrontOf (names name) (program_limit + 1) text) → FilesNeverFailed files
+    → IfOk r (IsTextShown (gives shown) text out) → IfOk r (IsFileShown (gives shown) name files out)
+file_shown shown name text files out (Ok status) front unfailed came = file_shown_to shown name text files out status front unfailed came
+file_shown shown name text files out (Err e) front unfailed came = tt
+
 -- ---- words that name a file
 
 called_by : (words : List (List ℕ)) (name text : List ℕ) (files : FilesEnds) (corpus : SourceEnds) (out : SinkEnds) (program : Program)
-    → IsRun words name → IsReadAs files name text → HoldsProgram text program → IsCalledFor (call_of words files corpus out) program
+    → IsOrder words (to_run name) → IsReadAs files name text → HoldsProgram text program → IsCalledFor (call_of words files corpus out) program
 called_by words name text files corpus out program run held holds = record { name = name; text = text; words = run; file = held; holds = holds }
 
 cause_of_run : (words : List (List ℕ)) (name text : List ℕ) (files : FilesEnds) (corpus : SourceEnds) (out : SinkEnds) (status : Status)
-    → IsRun words name → IsReadAs files name text → RanText text corpus out status → HasCauseOf (call_of words files corpus out) status
+    → IsOrder words (to_run name) → IsReadAs files name text → RanText text corpus out status → HasCauseOf (call_of words files corpus out) status
 cause_of_run words name text files corpus out Done run held f =
-    record { program = f.program; called = called_by words name text files corpus out f.program run held f.holds; ran = f.ran }
+    inl (record { program = f.program; called = called_by words name text files corpus out f.program run held f.holds; ran = f.ran })
 cause_of_run words name text files corpus out (Refused fault) run held f = absurd f.ran.status_is
 cause_of_run words name text files corpus out Usage run held f = absurd f.ran.status_is
 cause_of_run words name text files corpus out (Corpus fault) run held f =
@@ -187,29 +231,31 @@ cause_of_run words name text files corpus out (Corpus fault) run held f =
 cause_of_run words name text files corpus out ReadFault run held f =
     inr (record { program = f.program; called = called_by words name text files corpus out f.program run held f.holds; ran = f.ran })
 cause_of_run words name text files corpus out WriteFault run held f =
-    (f.ran.0, record { program = f.program; called = called_by words name text files corpus out f.program run held f.holds; ran = f.ran.1 })
+    (f.ran.0, inl (record { program = f.program; called = called_by words name text files corpus out f.program run held f.holds; ran = f.ran.1 }))
 
 cause_of_file : (words : List (List ℕ)) (name : List ℕ) (files : FilesEnds) (corpus : SourceEnds) (out : SinkEnds) (status : Status)
-    → IsRun words name → IsFileRunTo name files corpus out status → HasCauseOf (call_of words files corpus out) status
+    → IsOrder words (to_run name) → IsFileRunTo name files corpus out status → HasCauseOf (call_of words files corpus out) status
 cause_of_file words name files corpus out status run came =
     elim came [
-      | inl unread ↦ rw unread.0 (inl (unread.1, record { name = name; words = run; idle = unread.2 }))
+      | inl unread ↦ rw unread.0 (inl (unread.1, record { name = name; words = record { order = to_run name; asked = run; named = refl }; idle = unread.2 }))
       | inr read ↦ elim read.2 [
-        | inl refused ↦ rw refused.told (record { name = name; text = read.0; words = run; file = read.1; cause = refused.cause; idle = refused.idle })
+        | inl refused ↦
+            rw refused.told
+            (record { name = name; text = read.0; words = record { order = to_run name; asked = run; named = refl }; file = read.1; cause = refused.cause; idle = refused.idle })
         | inr f ↦ cause_of_run words name read.0 files corpus out status run read.1 f
       ]
     ]
 
 pub carried_out : (words : List (List ℕ)) (name : List ℕ) (files : FilesEnds) (corpus : SourceEnds) (out : SinkEnds) (r : Result Status OutOfMemory)
-    → IsRun words name → IfOk r (IsFileRunTo name files corpus out) → IfOk r (HasCauseOf (call_of words files corpus out))
+    → IsOrder words (to_run name) → IfOk r (IsFileRunTo name files corpus out) → IfOk r (HasCauseOf (call_of words files corpus out))
 carried_out words name files corpus out (Ok status) run came = cause_of_file words name files corpus out status run came
 carried_out words name files corpus out (Err e) run came = tt
 
 pub carried_out_in_part : (words : List (List ℕ)) (name : List ℕ) (files : FilesEnds) (corpus : SourceEnds) (out : SinkEnds) (r : Result Status OutOfMemory)
-    → IsRun words name → OnErr r (IsFileInPart name files corpus out) → OnErr r (WroteFront (call_of words files corpus out))
+    → IsOrder words (to_run name) → OnErr r (IsFileInPart name files corpus out) → OnErr r (WroteFront (call_of words files corpus out))
 carried_out_in_part words name files corpus out (Ok status) run part = tt
 carried_out_in_part words name files corpus out (Err e) run part =
     elim part [
       | inl nothing ↦ inl nothing
-      | inr f ↦ inr (record { program = f.2.program; called = called_by words name f.0 files corpus out f.2.program run f.1 f.2.holds; ran = f.2.ran })
+      | inr f ↦ inr (inl (record { program = f.2.program; called = called_by words name f.0 files corpus out f.2.program run f.1 f.2.holds; ran = f.2.ran }))
     ]

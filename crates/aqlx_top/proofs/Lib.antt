@@ -14,3 +14,4 @@ pub mod Compiling
 pub mod StatusLines
 pub mod Answers
 pub mod FileRuns
+pub mod Following

@@ -1,5 +1,5 @@
 -- What a call did to the objects that it was handed: their bytes and their counts of faults, before it and after it.
-use Rattle.std.specs.Prelude.{◌≡◌, ℕ, List, length, Option, IfSome}
+use Rattle.std.specs.Prelude.{◌≡◌, ℕ, List, length, take, Option, IfSome}
 use Rattle.std.specs.Io.KnownBytes.{Appends}
 use Rattle.aql_io.specs.Bytes.{Names}
 use Rattle.aql_io.specs.Causes.{Rose}
@@ -78,6 +78,10 @@ SinkNeverFailed sink = sink.faults_after ≡ sink.faults_before
 -- the sink gained these bytes, and no others
 abbrev pub Gained : SinkEnds → List ℕ → Type 0
 Gained sink bytes = Appends sink.held_before sink.held_after bytes
+
+-- the sink gained a beginning of these bytes
+abbrev pub GainedFront : SinkEnds → List ℕ → Type 0
+GainedFront sink bytes = (count : ℕ) × Gained sink (take count bytes)
 
 -- all bytes that the sink holds are flushed
 abbrev pub IsFlushed : SinkEnds → Type 0

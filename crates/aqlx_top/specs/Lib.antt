@@ -1,5 +1,5 @@
 -- Words of public clauses
--- the command words that ask for a run
+-- what the command words ask for
 pub mod Words
 -- what a call did to its objects
 pub mod Devices
@@ -17,9 +17,13 @@ pub mod ProgramTexts
 pub mod ProgramFaults
 -- the plan of a program
 pub mod Plans
+-- what is written in the modes that read no corpus
+pub mod Modes
 -- what the top call promises
 pub mod Outcome
 -- Words of private clauses
+-- orders as the code has them
+pub mod Orders
 -- what a plan gives for a document
 pub mod Planned
 -- what is read of a program file, and what it is compiled to
@@ -31,3 +35,4 @@ pub mod Progress
 pub mod Turns
 -- what the stages of a call come to
 pub mod Stages
+pub mod Showings

@@ -1,17 +1,19 @@
 -- The promise of the top call: what each answer says of the words, the files, the corpus and what was written.
-use Rattle.std.specs.Prelude.{◌≡◌, ◌≢◌, ℕ, ◌<◌, ◌⊎◌, true, List, [], length, Some, Result, Ok, Err, IfSome, IsSomeAnd, IsErr}
+use Rattle.std.specs.Prelude.{◌≡◌, ◌≢◌, ℕ, ◌<◌, ◌⊎◌, ⊤, true, List, [], length, Some, Result, Ok, Err, IfSome, IsSomeAnd, IsErr}
 use Rattle.span_token.specs.declared.refusal.OutOfMemory.{OutOfMemory}
 use Rattle.corpus_json.specs.Limits.{corpus_limit}
+use Rattle.demo_corpus.specs.Corpora.{generated_corpus}
 use Rattle.corpus_json.specs.Lines.{lines_of}
 use Rattle.aqlx_top.specs.declared.status.Status.{Status}
 use Rattle.aqlx_top.specs.declared.status.Status.TheVariants.{Done, Program as Refused, Usage, Corpus, ReadFault, WriteFault}
 use Rattle.aqlx_top.specs.declared.status.ProgramFault.{ProgramFault}
-use Rattle.aqlx_top.specs.Devices.{FilesEnds, SourceEnds, SinkEnds, FilesFailed, SourceFailed, SinkFailed, FilesNeverFailed, SourceNeverFailed, SinkNeverFailed, Gained, IsUntouched, IsUnread}
+use Rattle.aqlx_top.specs.Devices.{FilesEnds, SourceEnds, SinkEnds, FilesFailed, SourceFailed, SinkFailed, FilesNeverFailed, SourceNeverFailed, SinkNeverFailed, Gained, GainedFront, HasSent, IsUntouched, IsUnread}
+use Rattle.aqlx_top.specs.Modes.{GivesOk, GivesPlan, GivesSummary}
 use Rattle.aqlx_top.specs.ProgramFaults.{HasFault, HasOnlyFault, AreOneFault, IsFaultless, HoldsProgram}
 use Rattle.aqlx_top.specs.Run.{Program, Ran, RanInPart}
 use Rattle.aqlx_top.specs.Statuses.{HasLine, HasLinePart, message_of}
 use Rattle.aqlx_top.specs.Taken.{HasNoBadLine}
-use Rattle.aqlx_top.specs.Words.{IsRun, IsNoRun}
+use Rattle.aqlx_top.specs.Words.{Order, to_run, to_check, to_plan, to_generate, to_demonstrate, IsOrder, IsNoOrder, IsFileOrder}
 
 -- what a call is given, and what it did, standard error apart
 pub record Call : Type 0 where
@@ -29,11 +31,11 @@ pub record IsReadAs (files : FilesEnds) (name text : List ℕ) : Type 0 where
   pub held : IfSome files.told (λ names. names name ≡ Some text)
   pub unfailed : FilesNeverFailed files
 
--- the words name a program file that holds this program
+-- the words ask to run a program file that holds this program
 pub record IsCalledFor (call : Call) (program : Program) : Type 0 where
   pub name : List ℕ
   pub text : List ℕ
-  pub words : IsRun call.words name
+  pub words : IsOrder call.words (to_run name)
   pub file : IsReadAs call.files name text
   pub holds : HoldsProgram text program
 
@@ -49,44 +51,80 @@ pub record RanTowards (call : Call) : Type 0 where
   pub called : IsCalledFor call program
   pub ran : RanInPart program call.corpus call.out
 
+-- the file of this name holds a text that gives these bytes
+pub record IsGivenBy (files : FilesEnds) (name : List ℕ) (Gives : List ℕ → List ℕ → Type 0) (bytes : List ℕ) : Type 0 where
+  pub text : List ℕ
+  pub file : IsReadAs files name text
+  pub given : Gives text bytes
+
+-- what is to be written for an order that reads no corpus
+abbrev pub IsMeant : FilesEnds → Order → List ℕ → Type 0
+IsMeant files (to_run name) bytes = ⊥
+IsMeant files (to_check name) bytes = IsGivenBy files name GivesOk bytes
+IsMeant files (to_plan name) bytes = IsGivenBy files name GivesPlan bytes
+IsMeant files (to_generate count) bytes = (bytes ≡ generated_corpus count) × FilesNeverFailed files
+IsMeant files (to_demonstrate count) bytes = GivesSummary count bytes × FilesNeverFailed files
+
+-- the words ask for something that reads no corpus; all that is to be written for it is written and flushed
+pub record Wrote (call : Call) : Type 0 where
+  pub order : Order
+  pub words : IsOrder call.words order
+  pub bytes : List ℕ
+  pub meant : IsMeant call.files order bytes
+  pub unread : IsUnread call.corpus
+  pub sent : HasSent call.out bytes
+
+-- or a beginning of it is written
+pub record WroteInPart (call : Call) : Type 0 where
+  pub order : Order
+  pub words : IsOrder call.words order
+  pub bytes : List ℕ
+  pub meant : IsMeant call.files order bytes
+  pub unread : IsUnread call.corpus
+  pub front : GainedFront call.out bytes
+
 -- nothing was read of the corpus, and nothing was done with the output
 pub record IsIdle (corpus : SourceEnds) (out : SinkEnds) : Type 0 where
   pub unread : IsUnread corpus
   pub untouched : IsUntouched out
 
--- whatever a call answers: what it wrote is nothing, or a prefix of what the called program means
-abbrev pub WroteFront : Call → Type 0
-WroteFront call = Gained call.out [] ⊎ RanTowards call
+-- a prefix of what is asked for is written: of what the called program means, or of what another mode writes
+abbrev pub WroteTowards : Call → Type 0
+WroteTowards call = RanTowards call ⊎ WroteInPart call
 
--- the words ask for a run, and nothing is read of the corpus and written
+-- whatever a call answers: what it wrote is nothing, or a prefix of what is asked for
+abbrev pub WroteFront : Call → Type 0
+WroteFront call = Gained call.out [] ⊎ WroteTowards call
+
+-- the words name a program file, and nothing is read of the corpus and written
 pub record StoppedBefore (call : Call) : Type 0 where
   pub name : List ℕ
-  pub words : IsRun call.words name
+  pub words : IsFileOrder call.words name
   pub idle : IsIdle call.corpus call.out
 
 -- the words name a file whose text has this fault and no other, and nothing is read of the corpus and written
 pub record RefusedFor (call : Call) (fault : ProgramFault) : Type 0 where
   pub name : List ℕ
   pub text : List ℕ
-  pub words : IsRun call.words name
+  pub words : IsFileOrder call.words name
   pub file : IsReadAs call.files name text
   pub cause : HasOnlyFault text fault
   pub idle : IsIdle call.corpus call.out
 
--- the words ask for no run, and nothing is asked of the files, of the corpus and of the output
-pub record AsksForNoRun (call : Call) : Type 0 where
-  pub words : IsNoRun call.words
+-- the words ask for nothing, and nothing is asked of the files, of the corpus and of the output
+pub record AsksForNothing (call : Call) : Type 0 where
+  pub words : IsNoOrder call.words
   pub unasked : FilesNeverFailed call.files
   pub idle : IsIdle call.corpus call.out
 
 -- the cause of each status, before its line is written
 abbrev pub HasCauseOf : Call → Status → Type 0
-HasCauseOf call Done = RanTo call Done
+HasCauseOf call Done = RanTo call Done ⊎ Wrote call
 HasCauseOf call (Refused fault) = RefusedFor call fault
-HasCauseOf call Usage = AsksForNoRun call
+HasCauseOf call Usage = AsksForNothing call
 HasCauseOf call (Corpus fault) = RanTo call (Corpus fault)
 HasCauseOf call ReadFault = (FilesFailed call.files × StoppedBefore call) ⊎ RanTo call ReadFault
-HasCauseOf call WriteFault = SinkFailed call.out × RanTowards call
+HasCauseOf call WriteFault = SinkFailed call.out × WroteTowards call
 
 -- a status that has a line, in whose place a failed write of that line is answered
 pub record LineFailed (call : Call) (err : SinkEnds) : Type 0 where
@@ -120,11 +158,29 @@ pub record NoneFailed (call : Call) (err : SinkEnds) : Type 0 where
   pub out : SinkNeverFailed call.out
   pub line : SinkNeverFailed err
 
+-- the file of this name tells that it holds the text
+abbrev pub TellsText : FilesEnds → List ℕ → List ℕ → Type 0
+TellsText files name text = IsSomeAnd files.told (λ names. names name ≡ Some text)
+
 -- the words name a file that tells its text
 pub record IsCalledWith (call : Call) (text : List ℕ) : Type 0 where
   pub name : List ℕ
-  pub words : IsRun call.words name
-  pub file : IsSomeAnd call.files.told (λ names. names name ≡ Some text)
+  pub words : IsFileOrder call.words name
+  pub file : TellsText call.files name text
+
+-- the file of this name tells a program text without a fault
+pub record TellsFaultless (files : FilesEnds) (name : List ℕ) : Type 0 where
+  pub text : List ℕ
+  pub file : TellsText files name text
+  pub faultless : IsFaultless text
+
+-- what an order asks of its program file, where it reads one, and of the corpus, so that it can be carried out
+abbrev pub CanBeDone : Call → Order → Type 0
+CanBeDone call (to_run name) = TellsFaultless call.files name × IsOfDocuments call.corpus
+CanBeDone call (to_check name) = TellsFaultless call.files name
+CanBeDone call (to_plan name) = TellsFaultless call.files name
+CanBeDone call (to_generate count) = ⊤
+CanBeDone call (to_demonstrate count) = ⊤
 
 -- the answer is the refusal for this fault; of several cycles any may be told
 abbrev pub IsRefusal : ProgramFault → Result Status OutOfMemory → Type 0
@@ -150,9 +206,10 @@ pub record Outcome (call : Call) (err : SinkEnds) (result : Result Status OutOfM
   pub told : (status : Status) → result ≡ Ok status → status ≢ ReadFault → status ≢ WriteFault → NoneFailed call err
   -- with a failed read no write failed
   pub read : result ≡ Ok ReadFault → SinkNeverFailed call.out × SinkNeverFailed err
-  -- words that ask for no run have the status of usage, or memory or the line's writing failed
-  pub usage : IsNoRun call.words → (result ≡ Ok Usage) ⊎ ((result ≡ Ok WriteFault) × SinkFailed err) ⊎ IsErr result
+  -- words that ask for nothing have the status of usage, or memory or the line's writing failed
+  pub usage : IsNoOrder call.words → (result ≡ Ok Usage) ⊎ ((result ≡ Ok WriteFault) × SinkFailed err) ⊎ IsErr result
   -- a program text that has a fault is refused for it, or the file, the line's writing or memory failed
   pub refused : (text : List ℕ) (fault : ProgramFault) → IsCalledWith call text → HasFault text fault → IsRefusedOrWanting call err fault result
-  -- with right words, a program text without a fault, a corpus of documents and no failed call, all is done or memory is wanting
-  pub complete : (text : List ℕ) → IsCalledWith call text → IsFaultless text → IsOfDocuments call.corpus → HasNoFault call err → IsDoneOrWanting result
+  -- with right words, a program text without a fault and a corpus of documents, where they are read, and no failed call, all
+  -- is done or memory is wanting
+  pub complete : (order : Order) → IsOrder call.words order → CanBeDone call order → HasNoFault call err → IsDoneOrWanting result

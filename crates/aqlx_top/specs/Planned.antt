@@ -1,11 +1,13 @@
 -- What a plan gives for a document. Only private clauses cite this.
-use Rattle.std.specs.Prelude.{ℕ, List, map}
+use Rattle.std.specs.Prelude.{ℕ, List, length, map}
 use Rattle.span_token.specs.Documents.{Doc}
 use Rattle.row_values.specs.Datums.{Datum}
 use Rattle.row_values.specs.Outputs.{OutputNames}
 use Rattle.corpus_json.specs.Outputs.{output_line}
 use Rattle.algebra.specs.Plans.{Parts}
 use Rattle.algebra.specs.Values.{val}
+use Rattle.demo_corpus.specs.Summaries.{summary_of}
+use Rattle.demo_corpus.specs.Totals.{tally_of}
 
 -- the outputs with their columns
 abbrev pub names_in : Parts → List OutputNames
@@ -18,3 +20,7 @@ rows_by plan document = map (λ out. val plan.lists document plan.nodes out.node
 -- the line of a document
 abbrev pub line_by : Parts → Doc → List ℕ
 line_by plan document = output_line document (names_in plan) (rows_by plan document)
+
+-- the summary of the plan on documents
+abbrev pub summary_by : Parts → List Doc → List ℕ
+summary_by plan docs = summary_of (names_in plan) (tally_of (length plan.outputs) (map (rows_by plan) docs))

@@ -1,8 +1,8 @@
 -- The exit status of each status, and its line on standard error.
-use Rattle.std.specs.Prelude.{ℕ, List, [], ◌∷◌, ◌++◌, take, codes}
+use Rattle.std.specs.Prelude.{ℕ, List, [], ◌∷◌, ◌++◌, codes}
 use Rattle.std.specs.Fmt.{decimal}
 use Rattle.std.specs.List.{flat_map}
-use Rattle.aqlx_top.specs.Devices.{SinkEnds, Gained, HasSent, IsUntouched}
+use Rattle.aqlx_top.specs.Devices.{SinkEnds, GainedFront, HasSent, IsUntouched}
 use Rattle.aqlx_top.specs.declared.status.Status.{Status}
 use Rattle.aqlx_top.specs.declared.status.Status.TheVariants.{Done, Program, Usage, Corpus, ReadFault, WriteFault}
 use Rattle.aqlx_top.specs.declared.status.ProgramFault.{ProgramFault}
@@ -88,4 +88,4 @@ HasLine err status = HasSent err (message_of status)
 
 -- a beginning of the status's line is written on standard error
 abbrev pub HasLinePart : SinkEnds → Status → Type 0
-HasLinePart err status = (count : ℕ) × Gained err (take count (message_of status))
+HasLinePart err status = GainedFront err (message_of status)

@@ -103,7 +103,7 @@ fn write_for(
 }
 
 /// The document that was read, with its tokens kept or not.
-fn document_of<'d>(
+pub(crate) fn document_of<'d>(
     alloc: Global,
     with_tokens: bool,
     input: InputRef<'d>,
@@ -143,7 +143,7 @@ fn append_rows<'d>(
 }
 
 /// The rows that each output shows.
-fn all_shown<'r, 'd>(
+pub(crate) fn all_shown<'r, 'd>(
     alloc: Global,
     outputs: &[PlanOut],
     board: &'r [Option<Rows<'d>>],

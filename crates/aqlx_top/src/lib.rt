@@ -10,7 +10,9 @@
 
 mod answer;
 mod asks;
+mod demonstration;
 mod limits;
+mod modes;
 mod outputs;
 mod program;
 mod program_file;

@@ -49,13 +49,21 @@ pub(crate) struct Compiled {
     pub outputs: Vec<Output>,
 }
 
+/// The plan of the program that a file's bytes hold, or their fault.
+pub(crate) fn plan_of(alloc: Global, bytes: &[u8]) -> Result<Plan, Failure<ProgramFault>>
+    ensures planned { IfOk result (IsPlanOf bytes.now) }
+    ensures fault { IfErr result (HasCause bytes.now) }
+{
+    let text = text_of(bytes)?;
+    plan_program(alloc, text)
+}
+
 /// The program that a file's bytes hold, or their fault.
 pub(crate) fn compile(alloc: Global, bytes: &[u8]) -> Result<Compiled, Failure<ProgramFault>>
     ensures compiled { IfOk result (IsCompiledFrom bytes.now) }
     ensures fault { IfErr result (HasCause bytes.now) }
 {
-    let text = text_of(bytes)?;
-    let plan = plan_program(alloc, text)?;
+    let plan = plan_of(alloc, bytes)?;
     let outputs = outputs_of(alloc, &plan)?;
     Ok(Compiled { plan, outputs })
 }

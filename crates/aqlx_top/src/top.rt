@@ -1,31 +1,34 @@
-ghost use Rattle.std.specs.Prelude.{map, string_bytes, IfOk, OnErr};
+ghost use Rattle.std.specs.Prelude.{map, string_bytes, ℕ, List, IfOk, OnErr};
 ghost use Rattle.aqlx_top.specs.Devices.{files_between, source_between, sink_between};
 ghost use Rattle.aqlx_top.specs.Outcome.{Outcome, call_of, HasCauseOf, WroteFront};
+ghost use Rattle.aqlx_top.specs.Orders.{order_told};
+ghost use Rattle.aqlx_top.specs.Words.{IsOrder};
 ghost use Rattle.aqlx_top.specs.Stages.{IsFileRunTo, IsFileInPart, IsTextRunTo, IsTextInPart};
 
 use crate::Status;
-use crate::limits::PROGRAM_LIMIT;
+use crate::demonstration::demonstrate;
+use crate::limits::MOST_READ;
+use crate::modes::{Shown, generate, show_file};
 use crate::program::compile;
 use crate::program_file::read_file;
 use crate::run::run;
 use crate::status_line::report;
-use crate::words::run_of;
+use crate::words::{Order, order_of};
 use aql_io::{Files, Sink, Source};
 use span_token::{Failure, OutOfMemory};
 use std::alloc::Global;
 
-/// How many bytes of a program file are read: one more than a program has.
-const MOST: usize = PROGRAM_LIMIT + 1;
-
-/// Runs what `words` ask for: `run PROGRAM` reads the program file PROGRAM of `files`, reads the corpus
-/// to its end and writes to `out` the line of each document, in the corpus's order.
+/// Does what `words` ask for. `run PROGRAM` reads the program file PROGRAM of `files`, reads the corpus to
+/// its end and writes to `out` the line of each document, in the corpus's order. `check PROGRAM` writes
+/// `ok`, and `plan PROGRAM` the text of the program's plan. `gen N` writes N generated documents as a
+/// corpus, and `demo N` the summary of the demonstration on them, N from 0 to 100,000.
 ///
-/// The words match where they are `run` and one more word. At most 1,048,577 bytes of the program file
-/// are read, and a program with a fault is refused for its first one (`ProgramFault`). A status of 1 to
-/// 4 has its one line on `err`. With the statuses 1 and 2 nothing is read of the corpus and nothing is
-/// written to `out`; with 0, 3 and 4 all lines of the documents before the bad line, or before the end,
-/// are written and flushed; with 5 and after want of memory a prefix of them. It holds one line of the
-/// corpus, and one piece of output beyond the lines of one document.
+/// Words that ask for nothing have the status `Usage`. At most 1,048,577 bytes of the program file are
+/// read, and a program with a fault is refused for its first one (`ProgramFault`). A status of 1 to 4 has
+/// its one line on `err`. With the statuses 1 and 2 nothing is read of the corpus and nothing is written
+/// to `out`; with 0, 3 and 4 all lines of the documents before the bad line, or before the end, are
+/// written and flushed; with 5 and after want of memory a prefix of them. It holds one line of the corpus,
+/// and one piece of output beyond the lines of one document.
 ///
 /// Meaning: `Outcome`, `specs/Outcome.antt`; docs/FORMATS.md, "Exit status and standard error".
 pub fn aqlx<F: Files, S: Source, O: Sink, E: Sink>(
@@ -64,9 +67,35 @@ fn carry_out<F: Files, S: Source, O: Sink>(
         (source_between S.left S.faults corpus.old corpus.new)
         (sink_between O.held O.flushed O.faults out.old out.new))) }
 {
-    match run_of(words) {
-        Some(name) => run_file(alloc, name, files, corpus, out),
+    match order_of(words) {
+        Some(order) => follow(alloc, order, files, corpus, out),
         None => Ok(Status::Usage),
+    }
+}
+
+/// Does what is asked for.
+fn follow<F: Files, S: Source, O: Sink>(
+    alloc: Global,
+    order: Order<'_>,
+    files: &mut F,
+    corpus: &mut S,
+    out: &mut O,
+) -> Result<Status, OutOfMemory>
+    ensures cause { IfOk result (λ status. (words : List (List ℕ)) → IsOrder words (order_told order.entry) → HasCauseOf
+        (call_of words (files_between F.told F.faults files.old files.new)
+        (source_between S.left S.faults corpus.old corpus.new)
+        (sink_between O.held O.flushed O.faults out.old out.new)) status) }
+    ensures front { OnErr result ((words : List (List ℕ)) → IsOrder words (order_told order.entry) → WroteFront
+        (call_of words (files_between F.told F.faults files.old files.new)
+        (source_between S.left S.faults corpus.old corpus.new)
+        (sink_between O.held O.flushed O.faults out.old out.new))) }
+{
+    match order {
+        Order::Run(name) => run_file(alloc, name, files, corpus, out),
+        Order::Check(name) => show_file(alloc, Shown::Check, name, files, out),
+        Order::Plan(name) => show_file(alloc, Shown::Plan, name, files, out),
+        Order::Gen(count) => generate(alloc, count, out),
+        Order::Demo(count) => demonstrate(alloc, count, out),
     }
 }
 
@@ -85,7 +114,7 @@ fn run_file<F: Files, S: Source, O: Sink>(
         (source_between S.left S.faults corpus.old corpus.new)
         (sink_between O.held O.flushed O.faults out.old out.new)) }
 {
-    match read_file(alloc, files, name, MOST)? {
+    match read_file(alloc, files, name, MOST_READ)? {
         Some(bytes) => run_text(alloc, &bytes, corpus, out),
         None => Ok(Status::ReadFault),
     }

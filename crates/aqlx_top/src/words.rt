@@ -1,58 +1,94 @@
 //! What command words ask for.
 
-ghost use Rattle.std.specs.Prelude.{◌≡◌, IfNone, IfSome, List, map, option_map, string_bytes, ℕ};
-ghost use Rattle.aqlx_top.specs.Words.{IsRun, is_option, is_run, is_workers, run_of, run_of_four};
+ghost use Rattle.std.specs.Prelude.{◌≡◌, ◌≤◌, ◌&&◌, if◌then◌else◌, map, option_map, string_bytes, Some, None, nat_le, length};
+ghost use Rattle.std.specs.Char.{is_ascii_digit};
+ghost use Rattle.std.specs.List.{list_all};
+ghost use Rattle.std.specs.Str.{bytes_eq};
+ghost use Rattle.aqlx_top.specs.Orders.{order_told};
+ghost use Rattle.aqlx_top.specs.Words.{count_of, is_option, is_workers, number_behind, order_by, order_in_four, order_of};
 
 /// The most workers that may be asked for.
 const MOST_WORKERS: u32 = 16;
 
-/// The program file's name, where the command words are `run PROGRAM`, with or without the option
-/// `--workers N`, N from 1 to 16, before `run` or before or after PROGRAM; None for all others.
-///
-/// No worker is started yet: the option changes nothing.
-pub(crate) fn run_of(words: &Vec<String>) -> Option<&str>
-    ensures run { IfSome result (λ name. IsRun (map string_bytes words.now.items) name.now) }
-    ensures usage { IfNone result ((name : List ℕ) → ¬ (IsRun (map string_bytes words.now.items) name)) }
-{
-    named(words.as_slice())
+/// The most generated documents that may be asked for.
+const MOST_DOCUMENTS: u32 = 100_000;
+
+/// What is asked for: to run the program file of this name, to check it, to show its plan, to write so
+/// many generated documents, or the demonstration on so many.
+pub(crate) enum Order<'w> {
+    Run(&'w str),
+    Check(&'w str),
+    Plan(&'w str),
+    Gen(u32),
+    Demo(u32),
 }
 
-fn named(words: &[String]) -> Option<&str>
-    ensures { option_map (λ name. name.now) result ≡ run_of (map string_bytes words.now) }
+/// What the command words ask for: `MODE PROGRAM`, with or without the option `--workers N`, N from 1 to
+/// 16, before MODE or before or after PROGRAM; None for all others. MODE is `run`, `check` or `plan`, and
+/// PROGRAM any word, or it is `gen` or `demo`, and PROGRAM digits with a value of at most 100,000.
+///
+/// No worker is started yet: the option changes nothing.
+pub(crate) fn order_of(words: &Vec<String>) -> Option<Order<'_>>
+    ensures { option_map order_told result ≡ order_of (map string_bytes words.now.items) }
+{
+    order_in(words.as_slice())
+}
+
+fn order_in(words: &[String]) -> Option<Order<'_>>
+    ensures { option_map order_told result ≡ order_of (map string_bytes words.now) }
 {
     match words {
-        [mode, name] => {
-            if is_run(mode.as_str()) {
-                Some(name.as_str())
-            } else {
-                None
-            }
-        }
-        [a, b, c, d] => named_in_four(a.as_str(), b.as_str(), c.as_str(), d.as_str()),
+        [mode, word] => order_by(mode.as_str(), word.as_str()),
+        [a, b, c, d] => order_in_four(a.as_str(), b.as_str(), c.as_str(), d.as_str()),
         _ => None,
     }
 }
 
-/// The program file's name in four words.
-fn named_in_four<'w>(a: &'w str, b: &'w str, c: &'w str, d: &'w str) -> Option<&'w str>
-    ensures { option_map (λ name. name.now) result ≡ run_of_four a.now b.now c.now d.now }
+/// What four words ask for.
+fn order_in_four<'w>(a: &'w str, b: &'w str, c: &'w str, d: &'w str) -> Option<Order<'w>>
+    ensures { option_map order_told result ≡ order_in_four a.now b.now c.now d.now }
 {
-    if is_run(a) && is_option(c) && is_workers(d) {
-        return Some(b);
+    if is_option(c) && is_workers(d) {
+        return order_by(a, b);
     }
-    if is_run(a) && is_option(b) && is_workers(c) {
-        return Some(d);
+    if is_option(b) && is_workers(c) {
+        return order_by(a, d);
     }
-    if is_option(a) && is_workers(b) && is_run(c) {
-        return Some(d);
+    if is_option(a) && is_workers(b) {
+        return order_by(c, d);
     }
     None
 }
 
-fn is_run(word: &str) -> bool
-    ensures { result ≡ is_run word.now }
+/// What a mode asks for with a word behind it.
+fn order_by<'w>(mode: &str, word: &'w str) -> Option<Order<'w>>
+    ensures { option_map order_told result ≡ order_by mode.now word.now }
 {
-    word == "run"
+    if is_word(mode, "run") {
+        Some(Order::Run(word))
+    } else if is_word(mode, "check") {
+        Some(Order::Check(word))
+    } else if is_word(mode, "plan") {
+        Some(Order::Plan(word))
+    } else if is_word(mode, "gen") {
+        match count_of(word) {
+            Some(count) => Some(Order::Gen(count)),
+            None => None,
+        }
+    } else if is_word(mode, "demo") {
+        match count_of(word) {
+            Some(count) => Some(Order::Demo(count)),
+            None => None,
+        }
+    } else {
+        None
+    }
+}
+
+fn is_word(word: &str, wanted: &str) -> bool
+    ensures { result ≡ bytes_eq word.now wanted.now }
+{
+    word == wanted
 }
 
 fn is_option(word: &str) -> bool
@@ -62,16 +98,37 @@ fn is_option(word: &str) -> bool
 }
 
 /// Whether a word is digits with a value from 1 to 16.
-#[tactic(auto, using(crate::proofs::Numbers::cut_behind))]
 fn is_workers(word: &str) -> bool
     ensures { result ≡ is_workers word.now }
+{
+    match number_of(word, MOST_WORKERS) {
+        Some(number) => 1 <= number,
+        None => false,
+    }
+}
+
+/// The number of documents that a word asks for: digits, one at least, with a value of at most 100,000.
+fn count_of(word: &str) -> Option<u32>
+    ensures { result ≡ count_of word.now }
+{
+    if word.len() == 0 {
+        return None;
+    }
+    number_of(word, MOST_DOCUMENTS)
+}
+
+/// The number that a word of digits writes, where it is at most `most`; 0 for no digit.
+#[tactic(auto, using(crate::proofs::Numbers::cut_behind))]
+fn number_of(word: &str, most: u32) -> Option<u32>
+    requires small { most ≤ 100000 }
+    ensures { result ≡ (if list_all is_ascii_digit word.now && nat_le (number_behind 0 word.now) most then Some (number_behind 0 word.now) else None) }
 {
     let mut number: u32 = 0;
     for digit in word.as_bytes() {
         if !digit.is_ascii_digit() {
-            return false;
+            return None;
         }
-        number = (10 * number + u32::from(*digit - 48)).min(MOST_WORKERS + 1);
+        number = (10 * number + u32::from(*digit - 48)).min(most + 1);
     }
-    1 <= number && number <= MOST_WORKERS
+    if number <= most { Some(number) } else { None }
 }

@@ -10,6 +10,8 @@ mod documents;
 #[cfg(test)]
 mod language;
 #[cfg(test)]
+mod modes;
+#[cfg(test)]
 mod programs;
 #[cfg(test)]
 mod setup;

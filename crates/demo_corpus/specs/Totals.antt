@@ -3,14 +3,16 @@ use Rattle.std.specs.Prelude.{ℕ, List, [], length, map, slice_index_or}
 use Rattle.std.specs.List.{sum_by, range_with_len}
 use Rattle.row_values.specs.Datums.{Datum}
 use Rattle.row_values.specs.Rows.{RowList}
+use Rattle.corpus_json.specs.Outputs.{rows_of}
+use denote.Ref.{Bor}
 
 -- the rows of each output on one document, in the outputs' order
 abbrev pub Answer : Type 0
 Answer = List (List (List Datum))
 
--- those of lists of rows, one list for each output
-abbrev pub answer_of : List RowList → Answer
-answer_of lists = map (λ list. list.rows) lists
+-- those of borrowed lists of rows, one list for each output
+abbrev pub answer_of : List (Bor RowList) → Answer
+answer_of lists = map rows_of lists
 
 -- the number of rows of the output at this index on one document; equal rows count each time
 abbrev pub size_at : Answer → ℕ → ℕ

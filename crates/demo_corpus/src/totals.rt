@@ -38,9 +38,9 @@ impl Totals {
         })
     }
 
-    /// Counts the rows of one more document: those of each output, in the outputs' order. Equal rows
-    /// count each time. It takes no memory.
-    pub fn add(&mut self, rows: &[Rows<'_>])
+    /// Counts the rows of one more document: those of each output, in the outputs' order, borrowed. Equal
+    /// rows count each time. It takes no memory.
+    pub fn add(&mut self, rows: &[&Rows<'_>])
         requires one_of_each { length rows.now ≡ length self.old.totals }
         requires room { self.old.documents < 2 ^ 32 - 1 }
         ensures counted { (answers : List Answer) → self.old ≡ tally_of (length rows.now) answers
@@ -65,7 +65,7 @@ impl Totals {
 }
 
 /// Adds to each total the number of rows of its list.
-fn add_sizes(totals: &mut [u64], rows: &[Rows<'_>])
+fn add_sizes(totals: &mut [u64], rows: &[&Rows<'_>])
     requires one_of_each { length rows.now ≡ length totals.old }
     requires room { All (λ total. total < 2 ^ 64 - 2 ^ 32) totals.old }
     ensures added { EachIndex totals.new (λ k. slice_index totals.new k ≡ slice_index totals.old k + size_at (answer_of rows.now) k) }

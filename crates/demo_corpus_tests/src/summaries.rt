@@ -61,6 +61,17 @@ fn copies<'d>(alloc: Global, count: u32) -> Result<Rows<'d>, OutOfMemory> {
     Ok(rows)
 }
 
+/// The lists, borrowed.
+fn lent<'r, 'd>(alloc: Global, lists: &'r [Rows<'d>]) -> Result<Vec<&'r Rows<'d>>, OutOfMemory>
+    ensures { IfOk result (λ lent. vec_len lent ≡ length lists.now) }
+{
+    let mut lent = Vec::new(alloc);
+    for list in lists {
+        lent.push(list)?;
+    }
+    Ok(lent)
+}
+
 #[test]
 fn equal_rows_count_each_time(rt: HostRuntime) -> Result<(), Fail> {
     let alloc = rt.alloc();
@@ -68,9 +79,9 @@ fn equal_rows_count_each_time(rt: HostRuntime) -> Result<(), Fail> {
     let first = equal_rows(alloc, &ON_THE_FIRST)?;
     let second = equal_rows(alloc, &ON_THE_SECOND)?;
     let mut totals = Totals::new(alloc, 11)?;
-    totals.add(&first);
+    totals.add(&lent(alloc, &first)?);
     assert_eq!(rt; totals.summary(alloc, &outputs)?.as_str(), DEMO_OF_1);
-    totals.add(&second);
+    totals.add(&lent(alloc, &second)?);
     assert_eq!(rt; totals.summary(alloc, &outputs)?.as_str(), DEMO_OF_2);
     Ok(())
 }
@@ -81,8 +92,9 @@ fn totals_of_200(alloc: Global) -> Result<Totals, OutOfMemory>
 {
     let all = equal_rows(alloc, &ON_200)?;
     let none = equal_rows(alloc, &[0; 11])?;
+    let none = lent(alloc, &none)?;
     let mut totals = Totals::new(alloc, 11)?;
-    totals.add(&all);
+    totals.add(&lent(alloc, &all)?);
     'documents: for _i in 0u32..199 {
         totals.add(&none);
     }

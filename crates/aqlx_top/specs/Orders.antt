@@ -1,0 +1,11 @@
+-- Orders as the code has them. Only private clauses cite this.
+use Rattle.aqlx_top.specs.declared.words.Order.{Order as Told}
+use Rattle.aqlx_top.specs.declared.words.Order.TheVariants.{Run, Check, Plan, Gen, Demo}
+use Rattle.aqlx_top.specs.Words.{Order, to_run, to_check, to_plan, to_generate, to_demonstrate}
+
+abbrev pub order_told : Told → Order
+order_told (Run name) = to_run name.now
+order_told (Check name) = to_check name.now
+order_told (Plan name) = to_plan name.now
+order_told (Gen count) = to_generate count
+order_told (Demo count) = to_demonstrate count
