@@ -99,7 +99,7 @@ pub record IsUntouched (sink : SinkEnds) : Type 0 where
   pub flushed : sink.flushed_after ≡ sink.flushed_before
   pub faults : sink.faults_after ≡ sink.faults_before
 
--- nothing was asked of the source
+-- the source is as it was
 pub record IsUnread (source : SourceEnds) : Type 0 where
   pub left : source.left_after ≡ source.left_before
   pub faults : source.faults_after ≡ source.faults_before

@@ -83,7 +83,7 @@ pub record WroteInPart (call : Call) : Type 0 where
   pub unread : IsUnread call.corpus
   pub front : GainedFront call.out bytes
 
--- nothing was read of the corpus, and nothing was done with the output
+-- the corpus and the output are as they were
 pub record IsIdle (corpus : SourceEnds) (out : SinkEnds) : Type 0 where
   pub unread : IsUnread corpus
   pub untouched : IsUntouched out
@@ -111,7 +111,7 @@ pub record RefusedFor (call : Call) (fault : ProgramFault) : Type 0 where
   pub cause : HasOnlyFault text fault
   pub idle : IsIdle call.corpus call.out
 
--- the words ask for nothing, and nothing is asked of the files, of the corpus and of the output
+-- the words ask for nothing, no call of the files failed, and the corpus and the output are as they were
 pub record AsksForNothing (call : Call) : Type 0 where
   pub words : IsNoOrder call.words
   pub unasked : FilesNeverFailed call.files
