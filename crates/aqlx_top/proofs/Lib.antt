@@ -2,7 +2,6 @@ pub mod Sinks
 pub mod Lists
 pub mod LimitLaws
 pub mod FileLemmas
-pub mod Documents
 pub mod Readings
 pub mod Turns
 pub mod ProgramLaws

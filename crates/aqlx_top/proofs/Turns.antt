@@ -23,7 +23,7 @@ use Rattle.aqlx_top.specs.Devices.{SourceEnds, SinkEnds, source_ends, IsFlushed,
 use Rattle.aqlx_top.specs.Endings.{InPart, Came, written_for}
 use Rattle.aqlx_top.specs.Progress.{Stands, Finished, IsRunTo, IsReadTo}
 use Rattle.aqlx_top.specs.Taken.{How, at_end, failed, at_limit, left_off, is_at_end, IsTaken, HasNoBadLine}
-use Rattle.aqlx_top.proofs.Documents.{pieces-append, documents_from_bad}
+use Rattle.aqlx_top.specs.DocumentLaws.{pieces-append, documents_from_bad}
 use Rattle.aqlx_top.proofs.Readings.{IsLeftOff, lines_so_far, line_read, end_read, failed_read, limit_read, long_read}
 use Rattle.aqlx_top.proofs.Sinks.{appends_more, appends_nothing}
 

@@ -9,6 +9,9 @@ pub mod Statuses
 -- what was taken from the corpus, and how a run ends
 pub mod Taken
 pub mod Endings
+pub mod DocumentLaws
+-- a corpus in pieces
+pub mod Pieces
 -- what a program means
 pub mod Run
 -- what a program file holds, and its faults
