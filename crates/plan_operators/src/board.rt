@@ -16,8 +16,8 @@ use std::alloc::Global;
 ///
 /// Each node that an output shows, and each that a needed node reads, is evaluated once, in the order of
 /// their numbers. Rows are given up to the last node that reads them as its left input, so that what only
-/// passes through isn't copied; what is given up and what nobody needs has no rows here. Clauses speak of the
-/// nodes that outputs show alone. `tools` are made of the plan's tables.
+/// passes through isn't copied; what is given up and what nobody needs has no rows here. `tools` are made of
+/// the plan's tables.
 ///
 /// Meaning: `val`, `specs/Values.antt` of `algebra`.
 pub fn evaluate<'d>(

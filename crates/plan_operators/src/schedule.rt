@@ -9,7 +9,7 @@ use span_token::OutOfMemory;
 use std::alloc::Global;
 use std::marker::Model;
 
-/// A plan with the numbers up to which its nodes' rows are kept, which are found once for all documents.
+/// A plan with the last readers of its nodes' rows, which are found once for all documents.
 ///
 /// Contracts see the plan.
 #[derive(Drop)]
@@ -49,8 +49,8 @@ impl<'p> Schedule<'p> {
         self.plan
     }
 
-    /// Whether somebody reads the rows of node `n`, from 0: false only where no output needs the node on any
-    /// document.
+    /// Whether somebody reads the rows of node `n`, from 0; it is so for each node that an output needs on
+    /// some document.
     pub fn is_read(&self, n: u32) -> bool
         requires in_range { n < length self.now.nodes }
         ensures { (doc : Doc) → IsNeeded self.now.lists doc self.now.nodes (map (λ out. out.node) self.now.outputs) n → IsTrue result }
@@ -58,7 +58,7 @@ impl<'p> Schedule<'p> {
         self.untils[n as usize] > 0
     }
 
-    /// For each node the number of the node up to which its rows are kept, at least.
+    /// For each node the number from which on nobody reads it.
     pub(crate) fn untils(&self) -> &[u64]
         ensures { IsScheduled self.now result.now }
     {
