@@ -17,7 +17,7 @@ use Rattle.aqlx_top.specs.declared.status.Status.TheVariants.{Done, Program as R
 use Rattle.aqlx_top.specs.declared.status.ProgramFault.{ProgramFault}
 use Rattle.aqlx_top.specs.declared.status.CorpusFault.{CorpusFault}
 use Rattle.aqlx_top.specs.declared.status.CorpusFault.TheVariants.{BadLine, LineLong, CorpusLarge}
-use Rattle.aqlx_top.specs.Devices.{FilesEnds, SourceEnds, SinkEnds, FilesFailed, SinkFailed, FilesNeverFailed, SinkNeverFailed, Gained, GainedFront, IsUntouched}
+use Rattle.aqlx_top.specs.Devices.{SourceEnds, SinkEnds, FilesFailed, SinkFailed, SinkNeverFailed, Gained, GainedFront, IsUntouched, IsUnread}
 use Rattle.aqlx_top.specs.Endings.{InPart, Came, written_for}
 use Rattle.aqlx_top.specs.Outcome.{Call, IsReadAs, IsCalledFor, IsCalledWith, IsMeant, RanTo, Wrote, WroteFront, HasCauseOf, IsAnswered, CanBeDone, IsOfDocuments, HasNoFault, NoneFailed, IsRefusedOrWanting, IsDoneOrWanting, Outcome}
 use Rattle.aqlx_top.specs.ProgramFaults.{HasFault, IsFaultless, AreOneFault}
@@ -25,7 +25,7 @@ use Rattle.aqlx_top.specs.Run.{Program, line_of}
 use Rattle.aqlx_top.specs.Stages.{IsToldAs}
 use Rattle.aqlx_top.specs.Statuses.{HasLine}
 use Rattle.aqlx_top.specs.Taken.{How, at_end, failed, at_limit, left_off, is_at_end, HasNoBadLine, IsFirstBad}
-use Rattle.aqlx_top.specs.Words.{Order, to_run, to_check, to_plan, to_generate, to_demonstrate, order_of, file_of, IsOrder, IsNoOrder, IsFileOrder}
+use Rattle.aqlx_top.specs.Words.{Order, to_run, to_check, to_plan, to_generate, to_demonstrate, order_of, file_of, IsOrder, IsNoRun, IsNoOrder, IsFileOrder}
 use Rattle.aqlx_top.proofs.Sinks.{appends_nothing}
 
 -- an untouched sink gained nothing
@@ -96,14 +96,6 @@ quiet_run : (call : Call) (err : SinkEnds) (status : Status) → status ≢ Read
 quiet_run call err status not_read run line =
     record { files = run.called.file.unfailed; corpus = run.ran.read not_read; out = run.ran.wrote.unfailed; line = line }
 
--- of what is to be written without a corpus, the files were read without a failed call
-meant_unfailed : (files : FilesEnds) (order : Order) (bytes : List ℕ) → IsMeant files order bytes → FilesNeverFailed files
-meant_unfailed files (to_run name) bytes meant = absurd meant
-meant_unfailed files (to_check name) bytes meant = meant.file.unfailed
-meant_unfailed files (to_plan name) bytes meant = meant.file.unfailed
-meant_unfailed files (to_generate count) bytes meant = meant.1
-meant_unfailed files (to_demonstrate count) bytes meant = meant.1
-
 -- a status other than a failed read or write says that no call failed
 pub told_of : (call : Call) (err : SinkEnds) (result : Result Status OutOfMemory) → IsAnswered call err result
     → (status : Status) → result ≡ Ok status → status ≢ ReadFault → status ≢ WriteFault → NoneFailed call err
@@ -111,12 +103,12 @@ told_of call err (Ok Done) a status is not_read not_written =
     elim a.0 [
       | inl run ↦ quiet_run call err Done (λ e. cc) run a.1.faults
       | inr wrote ↦
-          record { files = meant_unfailed call.files wrote.order wrote.bytes wrote.meant; corpus = wrote.unread.faults; out = wrote.sent.unfailed; line = a.1.faults }
+          record { files = wrote.unfailed; corpus = wrote.unread.faults; out = wrote.sent.unfailed; line = a.1.faults }
     ]
 told_of call err (Ok (Refused fault)) a status is not_read not_written =
     record { files = a.0.file.unfailed; corpus = a.0.idle.unread.faults; out = a.0.idle.untouched.faults; line = a.1.unfailed }
 told_of call err (Ok Usage) a status is not_read not_written =
-    record { files = a.0.unasked; corpus = a.0.idle.unread.faults; out = a.0.idle.untouched.faults; line = a.1.unfailed }
+    record { files = a.0.unfailed; corpus = a.0.idle.unread.faults; out = a.0.idle.untouched.faults; line = a.1.unfailed }
 told_of call err (Ok (Corpus fault)) a status is not_read not_written = quiet_run call err (Corpus fault) (λ e. cc) a.0 a.1.unfailed
 told_of call err (Ok ReadFault) a status is not_read not_written = let same : status ≡ ReadFault = cc in absurd (not_read same)
 told_of call err (Ok WriteFault) a status is not_read not_written = let same : status ≡ WriteFault = cc in absurd (not_written same)
@@ -258,6 +250,10 @@ no_corpus_fault piece corpus out CorpusLarge came of_documents =
     let below = good.0 in
     absurd (omega arith)
 
+-- words that ask for no run ask for another order
+pub other_order : (words : List (List ℕ)) (order : Order) → IsOrder words order → IsNoRun words → (name : List ℕ) → ¬ (order ≡ to_run name)
+other_order words order asked none = λ name is. none name (subst (IsOrder words) is asked)
+
 -- words ask for one order, and name one file
 one_order : (words : List (List ℕ)) (a b : Order) → IsOrder words a → IsOrder words b → a ≡ b
 one_order words a b asked other = ap (λ (o : Option Order). unwrap_or o a) (sym asked ∙ other)
@@ -386,8 +382,9 @@ complete_of call err (Ok WriteFault) a order asked can no_fault =
     elim a [ inl itself ↦ absurd (no_fault.out itself.0.0) | inr line ↦ absurd (no_fault.line line.failed) ]
 complete_of call err (Err e) a order asked can no_fault = inr refl
 
-pub outcome_of : (call : Call) (err : SinkEnds) (result : Result Status OutOfMemory) → IsAnswered call err result → Outcome call err result
-outcome_of call err result a = record {
+pub outcome_of : (call : Call) (err : SinkEnds) (result : Result Status OutOfMemory) → (IsNoRun call.words → IsUnread call.corpus) → IsAnswered call err result → Outcome call err result
+outcome_of call err result unread a = record {
+  unread = unread;
   answered = a;
   front = front_of call err result a;
   told = told_of call err result a;
@@ -398,10 +395,10 @@ outcome_of call err result a = record {
 }
 
 -- what was carried out, and what was told of it
-pub outcome_told : (call : Call) (err : SinkEnds) (status : Status) (r : Result Status OutOfMemory) → HasCauseOf call status
+pub outcome_told : (call : Call) (err : SinkEnds) (status : Status) (r : Result Status OutOfMemory) → (IsNoRun call.words → IsUnread call.corpus) → HasCauseOf call status
     → IfOk r (IsToldAs err status) → OnErr r (IsUntouched err) → Outcome call err r
-outcome_told call err status (Ok told) cause reported untouched = outcome_of call err (Ok told) (answered_of call err status told cause reported)
-outcome_told call err status (Err e) cause reported untouched = outcome_of call err (Err e) (front_of_cause call status cause, untouched)
+outcome_told call err status (Ok told) unread cause reported untouched = outcome_of call err (Ok told) unread (answered_of call err status told cause reported)
+outcome_told call err status (Err e) unread cause reported untouched = outcome_of call err (Err e) unread (front_of_cause call status cause, untouched)
 
-pub outcome_wanting : (call : Call) (err : SinkEnds) (r : Result Status OutOfMemory) (e : OutOfMemory) → r ≡ Err e → WroteFront call → IsUntouched err → Outcome call err r
-outcome_wanting call err r e is_err front untouched = rw is_err (outcome_of call err (Err e) (front, untouched))
+pub outcome_wanting : (call : Call) (err : SinkEnds) (r : Result Status OutOfMemory) (e : OutOfMemory) → r ≡ Err e → (IsNoRun call.words → IsUnread call.corpus) → WroteFront call → IsUntouched err → Outcome call err r
+outcome_wanting call err r e is_err unread front untouched = rw is_err (outcome_of call err (Err e) unread (front, untouched))

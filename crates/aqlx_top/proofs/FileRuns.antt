@@ -246,15 +246,17 @@ cause_of_file words name files corpus out status run came =
       ]
     ]
 
-pub carried_out : (words : List (List ℕ)) (name : List ℕ) (files : FilesEnds) (corpus : SourceEnds) (out : SinkEnds) (r : Result Status OutOfMemory)
-    → IsOrder words (to_run name) → IfOk r (IsFileRunTo name files corpus out) → IfOk r (HasCauseOf (call_of words files corpus out))
-carried_out words name files corpus out (Ok status) run came = cause_of_file words name files corpus out status run came
-carried_out words name files corpus out (Err e) run came = tt
+pub run_cause : (name : List ℕ) (files : FilesEnds) (corpus : SourceEnds) (out : SinkEnds) (r : Result Status OutOfMemory)
+    → IfOk r (IsFileRunTo name files corpus out)
+    → IfOk r (λ status. (words : List (List ℕ)) → IsOrder words (to_run name) → HasCauseOf (call_of words files corpus out) status)
+run_cause name files corpus out (Ok status) came = λ words run. cause_of_file words name files corpus out status run came
+run_cause name files corpus out (Err e) came = tt
 
-pub carried_out_in_part : (words : List (List ℕ)) (name : List ℕ) (files : FilesEnds) (corpus : SourceEnds) (out : SinkEnds) (r : Result Status OutOfMemory)
-    → IsOrder words (to_run name) → OnErr r (IsFileInPart name files corpus out) → OnErr r (WroteFront (call_of words files corpus out))
-carried_out_in_part words name files corpus out (Ok status) run part = tt
-carried_out_in_part words name files corpus out (Err e) run part =
+pub run_front : (name : List ℕ) (files : FilesEnds) (corpus : SourceEnds) (out : SinkEnds) (r : Result Status OutOfMemory)
+    → OnErr r (IsFileInPart name files corpus out)
+    → OnErr r ((words : List (List ℕ)) → IsOrder words (to_run name) → WroteFront (call_of words files corpus out))
+run_front name files corpus out (Ok status) part = tt
+run_front name files corpus out (Err e) part = λ words run.
     elim part [
       | inl nothing ↦ inl nothing
       | inr f ↦ inr (inl (record { program = f.2.program; called = called_by words name f.0 files corpus out f.2.program run f.1 f.2.holds; ran = f.2.ran }))

@@ -1,7 +1,10 @@
 -- From what the modes that read no corpus come to, to the cause of a call's status.
-use Rattle.std.proofs.Common.{◌≡◌, ℕ, List, [], ap, subst, sym, refl, Option, Some, Result, Ok, Err, IfOk, OnErr, inl, inr, ◌⊎◌}
+use Rattle.std.proofs.Common.{◌≡◌, ◌∙◌, ℕ, zero, suc, List, [], length, take, ap, subst, sym, refl, arith, append-nil, Option, Some, Result, Ok, Err, IfOk, OnErr, inl, inr, ◌⊎◌}
+use Rattle.std.proofs.lemmas.List.{take_all}
+use Rattle.std.specs.Io.KnownBytes.{Appends}
 use Rattle.span_token.specs.declared.refusal.OutOfMemory.{OutOfMemory}
-use Rattle.algebra.specs.Plans.{Parts}
+use Rattle.algebra.specs.Nodes.{IsPlan}
+use Rattle.algebra.specs.Plans.{Parts, AreOutputs}
 use Rattle.demo_corpus.specs.declared.demo.TheConstants.{DEMO}
 use Rattle.demo_corpus.specs.Corpora.{generated_corpus}
 use Rattle.demo_corpus.specs.Generator.{first_documents}
@@ -9,20 +12,22 @@ use Rattle.aqlx_top.specs.declared.status.Status.{Status}
 use Rattle.aqlx_top.specs.declared.status.Status.TheVariants.{Done, Program as Refused, Usage, Corpus, ReadFault, WriteFault}
 use Rattle.aqlx_top.specs.declared.modes.Shown.{Shown}
 use Rattle.aqlx_top.specs.declared.modes.Shown.TheVariants.{Check, Plan}
-use Rattle.aqlx_top.specs.Devices.{FilesEnds, SourceEnds, SinkEnds, GainedFront, IsUntouched, IsUnread, FilesNeverFailed}
+use Rattle.aqlx_top.specs.Devices.{FilesEnds, SourceEnds, SinkEnds, sink_ends, GainedFront, IsUntouched, IsUnread, FilesNeverFailed}
 use Rattle.aqlx_top.specs.Modes.{GivesSummary, summary_on}
 use Rattle.aqlx_top.specs.Outcome.{IsMeant, IsGivenBy, HasCauseOf, WroteFront, call_of}
 use Rattle.aqlx_top.specs.Planned.{summary_by}
 use Rattle.aqlx_top.specs.Plans.{IsPlanOf}
-use Rattle.aqlx_top.specs.Showings.{gives, shown_text, IsSent, IsFileShown, IsSummarySent}
+use Rattle.aqlx_top.specs.Showings.{gives, shown_text, IsSent, IsTextShown, IsFileShown, IsSummarySent}
 use Rattle.aqlx_top.specs.Words.{Order, to_run, to_check, to_plan, to_generate, to_demonstrate, file_of, IsOrder}
 use Rattle.aqlx_top.proofs.Answers.{gained_nothing}
 use Rattle.aqlx_top.proofs.Planning.{plan_counts}
+use Rattle.aqlx_top.proofs.Sinks.{appends_more}
+use Rattle.aqlx_top.proofs.Turns.{rose_later}
 
 -- what is shown follows from the plan
-pub shown_of : (shown : Shown) (text : List ℕ) (plan : Parts) → IsPlanOf text plan → gives shown text (shown_text shown plan)
-shown_of Check text plan planned = record { program = planned.program; holds = planned.holds; bytes_are = refl }
-shown_of Plan text plan planned = record { plan = plan; planned = planned; bytes_are = refl }
+pub shown_of : (shown : Shown) (text : List ℕ) (plan : Parts) → IsPlan plan.nodes → AreOutputs plan.nodes plan.outputs → IsPlanOf text plan → gives shown text (shown_text shown plan)
+shown_of Check text plan nodes outputs planned = record { program = planned.program; holds = planned.holds; bytes_are = refl }
+shown_of Plan text plan nodes outputs planned = record { plan = plan; nodes = nodes; outputs = outputs; planned = planned; bytes_are = refl }
 
 -- so does the summary of the demonstration
 pub summary_given : (count : ℕ) (plan : Parts) → IsPlanOf DEMO.now plan → GivesSummary count (summary_by plan (first_documents count))
@@ -30,11 +35,11 @@ summary_given count plan planned = record { program = planned.program; holds = p
 
 module _ (words : List (List ℕ)) (files : FilesEnds) (corpus : SourceEnds) (out : SinkEnds) (unread : IsUnread corpus) where
   -- an order for which these bytes are to be written, and they are, or their writing failed
-  pub sent_cause : (order : Order) (bytes : List ℕ) (status : Status) → IsOrder words order → IsMeant files order bytes → IsSent out bytes status
+  pub sent_cause : (order : Order) (bytes : List ℕ) (status : Status) → IsOrder words order → IsMeant files order bytes → FilesNeverFailed files → IsSent out bytes status
       → HasCauseOf (call_of words files corpus out) status
-  sent_cause order bytes status asked meant sent =
+  sent_cause order bytes status asked meant unfailed sent =
       elim sent [
-        | inl done ↦ rw done.0 (inr (record { order = order; words = asked; bytes = bytes; meant = meant; unread = unread; sent = done.1 }))
+        | inl done ↦ rw done.0 (inr (record { order = order; words = asked; bytes = bytes; meant = meant; unfailed = unfailed; unread = unread; sent = done.1 }))
         | inr broken ↦ rw broken.0 (broken.1, inr (record { order = order; words = asked; bytes = bytes; meant = meant; unread = unread; front = broken.2 }))
       ]
 
@@ -59,36 +64,89 @@ module _ (words : List (List ℕ)) (files : FilesEnds) (corpus : SourceEnds) (ou
                 idle = record { unread = unread; untouched = refused.untouched };
               })
           | inr sent ↦
-              sent_cause order sent.bytes status asked (means sent.bytes (record { text = read.0; file = read.1; given = sent.given })) sent.sent
+              sent_cause order sent.bytes status asked (means sent.bytes (record { text = read.0; file = read.1; given = sent.given })) read.1.unfailed sent.sent
         ]
       ]
 
-  pub checked : (name : List ℕ) (r : Result Status OutOfMemory) → IfOk r (IsFileShown (gives Check) name files out)
-      → IfOk r (λ status. IsOrder words (to_check name) → HasCauseOf (call_of words files corpus out) status)
-  checked name (Ok status) came = λ asked. shown_cause (to_check name) name (gives Check) status asked refl (λ bytes given. given) came
-  checked name (Err e) came = tt
+-- what the modes come to, for whatever words ask for them
+module _ (files : FilesEnds) (corpus : SourceEnds) (out : SinkEnds) (unread : IsUnread corpus) where
+  pub check_cause : (name : List ℕ) (r : Result Status OutOfMemory) → IfOk r (IsFileShown (gives Check) name files out)
+      → IfOk r (λ status. (words : List (List ℕ)) → IsOrder words (to_check name) → HasCauseOf (call_of words files corpus out) status)
+  check_cause name (Ok status) came = λ words asked. shown_cause words files corpus out unread (to_check name) name (gives Check) status asked refl (λ bytes given. given) came
+  check_cause name (Err e) came = tt
 
-  pub planned : (name : List ℕ) (r : Result Status OutOfMemory) → IfOk r (IsFileShown (gives Plan) name files out)
-      → IfOk r (λ status. IsOrder words (to_plan name) → HasCauseOf (call_of words files corpus out) status)
-  planned name (Ok status) came = λ asked. shown_cause (to_plan name) name (gives Plan) status asked refl (λ bytes given. given) came
-  planned name (Err e) came = tt
+  pub plan_cause : (name : List ℕ) (r : Result Status OutOfMemory) → IfOk r (IsFileShown (gives Plan) name files out)
+      → IfOk r (λ status. (words : List (List ℕ)) → IsOrder words (to_plan name) → HasCauseOf (call_of words files corpus out) status)
+  plan_cause name (Ok status) came = λ words asked. shown_cause words files corpus out unread (to_plan name) name (gives Plan) status asked refl (λ bytes given. given) came
+  plan_cause name (Err e) came = tt
 
-  pub generated : (count : ℕ) (r : Result Status OutOfMemory) → FilesNeverFailed files → IfOk r (IsSent out (generated_corpus count))
-      → IfOk r (λ status. IsOrder words (to_generate count) → HasCauseOf (call_of words files corpus out) status)
-  generated count (Ok status) unfailed sent = λ asked. sent_cause (to_generate count) (generated_corpus count) status asked (refl, unfailed) sent
-  generated count (Err e) unfailed sent = tt
+  pub gen_cause : (count : ℕ) (r : Result Status OutOfMemory) → FilesNeverFailed files → IfOk r (IsSent out (generated_corpus count))
+      → IfOk r (λ status. (words : List (List ℕ)) → IsOrder words (to_generate count) → HasCauseOf (call_of words files corpus out) status)
+  gen_cause count (Ok status) unfailed sent = λ words asked. sent_cause words files corpus out unread (to_generate count) (generated_corpus count) status asked refl unfailed sent
+  gen_cause count (Err e) unfailed sent = tt
 
-  pub demonstrated : (count : ℕ) (r : Result Status OutOfMemory) → FilesNeverFailed files → IfOk r (IsSummarySent count out)
-      → IfOk r (λ status. IsOrder words (to_demonstrate count) → HasCauseOf (call_of words files corpus out) status)
-  demonstrated count (Ok status) unfailed came = λ asked. sent_cause (to_demonstrate count) came.bytes status asked (came.given, unfailed) came.sent
-  demonstrated count (Err e) unfailed came = tt
+  pub demo_cause : (count : ℕ) (r : Result Status OutOfMemory) → FilesNeverFailed files → IfOk r (IsSummarySent count out)
+      → IfOk r (λ status. (words : List (List ℕ)) → IsOrder words (to_demonstrate count) → HasCauseOf (call_of words files corpus out) status)
+  demo_cause count (Ok status) unfailed came = λ words asked. sent_cause words files corpus out unread (to_demonstrate count) came.bytes status asked came.given unfailed came.sent
+  demo_cause count (Err e) unfailed came = tt
 
-  pub generated_in_part : (count : ℕ) (r : Result Status OutOfMemory) → FilesNeverFailed files → OnErr r (GainedFront out (generated_corpus count))
-      → OnErr r (IsOrder words (to_generate count) → WroteFront (call_of words files corpus out))
-  generated_in_part count (Ok status) unfailed front = tt
-  generated_in_part count (Err e) unfailed front = λ asked.
-      inr (inr (record { order = to_generate count; words = asked; bytes = generated_corpus count; meant = (refl, unfailed); unread = unread; front = front }))
+  pub gen_front : (count : ℕ) (r : Result Status OutOfMemory) → OnErr r (GainedFront out (generated_corpus count))
+      → OnErr r ((words : List (List ℕ)) → IsOrder words (to_generate count) → WroteFront (call_of words files corpus out))
+  gen_front count (Ok status) front = tt
+  gen_front count (Err e) front = λ words asked.
+      inr (inr (record { order = to_generate count; words = asked; bytes = generated_corpus count; meant = refl; unread = unread; front = front }))
 
-  pub untouched_front : (order : Order) (r : Result Status OutOfMemory) → OnErr r (IsUntouched out) → OnErr r (IsOrder words order → WroteFront (call_of words files corpus out))
+  pub untouched_front : (order : Order) (r : Result Status OutOfMemory) → OnErr r (IsUntouched out)
+      → OnErr r ((words : List (List ℕ)) → IsOrder words order → WroteFront (call_of words files corpus out))
   untouched_front order (Ok status) untouched = tt
-  untouched_front order (Err e) untouched = λ asked. inl (gained_nothing out untouched)
+  untouched_front order (Err e) untouched = λ words asked. inl (gained_nothing out untouched)
+
+-- and for these words
+pub asked_cause : (words : List (List ℕ)) (order : Order) (files : FilesEnds) (corpus : SourceEnds) (out : SinkEnds) (r : Result Status OutOfMemory) → IsOrder words order
+    → IfOk r (λ status. (all : List (List ℕ)) → IsOrder all order → HasCauseOf (call_of all files corpus out) status) → IfOk r (HasCauseOf (call_of words files corpus out))
+asked_cause words order files corpus out (Ok status) asked cause = cause words asked
+asked_cause words order files corpus out (Err e) asked cause = tt
+
+pub asked_front : (words : List (List ℕ)) (order : Order) (files : FilesEnds) (corpus : SourceEnds) (out : SinkEnds) (r : Result Status OutOfMemory) → IsOrder words order
+    → OnErr r ((all : List (List ℕ)) → IsOrder all order → WroteFront (call_of all files corpus out)) → OnErr r (WroteFront (call_of words files corpus out))
+asked_front words order files corpus out (Ok status) asked front = tt
+asked_front words order files corpus out (Err e) asked front = front words asked
+
+-- what is written for a text, and for the demonstration
+pub text_sent : (shown : Shown) (text : List ℕ) (plan : Parts) (out : SinkEnds) (status : Status) (bytes : List ℕ) → IsPlan plan.nodes → AreOutputs plan.nodes plan.outputs → IsPlanOf text plan
+    → bytes ≡ shown_text shown plan → IsSent out bytes status → IsTextShown (gives shown) text out status
+text_sent shown text plan out status bytes nodes outputs planned is sent =
+    inr (record { bytes = bytes; given = subst (gives shown text) (sym is) (shown_of shown text plan nodes outputs planned); sent = sent })
+
+pub summary_sent : (count : ℕ) (plan : Parts) (out : SinkEnds) (status : Status) (bytes : List ℕ) → IsPlanOf DEMO.now plan
+    → bytes ≡ summary_by plan (first_documents count) → IsSent out bytes status → IsSummarySent count out status
+summary_sent count plan out status bytes planned is sent = record { bytes = bytes; given = subst (GivesSummary count) (sym is) (summary_given count plan planned); sent = sent }
+
+-- of nothing a beginning is nothing
+take_none : (n : ℕ) → take {A = ℕ} n [] ≡ []
+take_none zero = refl
+take_none (suc n) = refl
+
+-- what was written and then flushed
+pub flushed_after : (h h' h'' : Option (List ℕ)) (f f' f'' x x' x'' : ℕ) (bytes : List ℕ) (status : Status) → Appends h h' bytes → x' ≡ x
+    → IsSent (sink_ends h' h'' f' f'' x' x'') [] status → IsSent (sink_ends h h'' f f'' x x'') bytes status
+flushed_after h h' h'' f f' f'' x x' x'' bytes status wrote stands sent =
+    elim sent [
+      | inl done ↦
+          inl (done.0, record { gained = all done.1.gained; flushed = done.1.flushed; unfailed = done.1.unfailed ∙ stands })
+      | inr broken ↦
+          inr (
+            broken.0,
+            (
+              rose_later x x' x'' stands broken.1,
+              (
+                length bytes,
+                subst (λ (bs : List ℕ). Appends h h'' bs) (sym (take_all (length bytes) bytes (omega arith)))
+                    (all (subst (λ (bs : List ℕ). Appends h' h'' bs) (take_none broken.2.0) broken.2.1)),
+              ),
+            ),
+          )
+    ]
+  where
+    all : Appends h' h'' [] → Appends h h'' bytes
+    all nothing = subst (λ (bs : List ℕ). Appends h h'' bs) (append-nil bytes) (appends_more h h' h'' bytes [] wrote nothing)

@@ -14,3 +14,5 @@ pub mod StatusLines
 pub mod Answers
 pub mod FileRuns
 pub mod Following
+pub mod Counting
+pub mod Orders

@@ -72,7 +72,7 @@ maps_alike : (f g : ℕ → ℕ) → ((k : ℕ) → f k ≡ g k) → (ks : List 
 maps_alike f g alike [] = refl
 maps_alike f g alike (k ∷ ks) = ap₂ (λ (n : ℕ) (ns : List ℕ). n ∷ ns) (alike k) (maps_alike f g alike ks)
 
-tally : ℕ → List ℕ → Tally
+abbrev tally : ℕ → List ℕ → Tally
 tally documents totals = record { documents = documents; totals = totals }
 
 -- so the tally of one answer more is the same

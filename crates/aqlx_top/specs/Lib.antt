@@ -9,9 +9,6 @@ pub mod Statuses
 -- what was taken from the corpus, and how a run ends
 pub mod Taken
 pub mod Endings
-pub mod DocumentLaws
--- a corpus in pieces
-pub mod Pieces
 -- what a program means
 pub mod Run
 -- what a program file holds, and its faults
@@ -24,6 +21,9 @@ pub mod Plans
 pub mod Modes
 -- what the top call promises
 pub mod Outcome
+-- Laws of what is written for lines, and of a corpus in pieces
+pub mod DocumentLaws
+pub mod Pieces
 -- Words of private clauses
 -- orders as the code has them
 pub mod Orders

@@ -1,7 +1,8 @@
 -- What is written in the modes that read no corpus.
 use Rattle.std.specs.Prelude.{◌≡◌, ℕ, List, codes, length, map}
 use Rattle.span_token.specs.Documents.{Doc}
-use Rattle.algebra.specs.Plans.{Parts}
+use Rattle.algebra.specs.Nodes.{IsPlan}
+use Rattle.algebra.specs.Plans.{Parts, AreOutputs}
 use Rattle.plan_maker.specs.PlanTexts.{text_of}
 use Rattle.demo_corpus.specs.declared.demo.TheConstants.{DEMO}
 use Rattle.demo_corpus.specs.Generator.{first_documents}
@@ -17,9 +18,11 @@ pub record GivesOk (text bytes : List ℕ) : Type 0 where
   pub holds : HoldsProgram text program
   pub bytes_are : bytes ≡ codes "ok\n"
 
--- for one whose plan is shown: the plan's text
+-- for one whose plan is shown: the text of a plan of it, whose nodes read nodes before them, and whose outputs show nodes
 pub record GivesPlan (text bytes : List ℕ) : Type 0 where
   pub plan : Parts
+  pub nodes : IsPlan plan.nodes
+  pub outputs : AreOutputs plan.nodes plan.outputs
   pub planned : IsPlanOf text plan
   pub bytes_are : bytes ≡ text_of plan
 

@@ -13,7 +13,7 @@ use Rattle.aqlx_top.specs.ProgramFaults.{HasFault, HasOnlyFault, AreOneFault, Is
 use Rattle.aqlx_top.specs.Run.{Program, Ran, RanInPart}
 use Rattle.aqlx_top.specs.Statuses.{HasLine, HasLinePart, message_of}
 use Rattle.aqlx_top.specs.Taken.{HasNoBadLine}
-use Rattle.aqlx_top.specs.Words.{Order, to_run, to_check, to_plan, to_generate, to_demonstrate, IsOrder, IsNoOrder, IsFileOrder}
+use Rattle.aqlx_top.specs.Words.{Order, to_run, to_check, to_plan, to_generate, to_demonstrate, IsOrder, IsNoRun, IsNoOrder, IsFileOrder}
 
 -- what a call is given, and what it did, standard error apart
 pub record Call : Type 0 where
@@ -57,24 +57,26 @@ pub record IsGivenBy (files : FilesEnds) (name : List ℕ) (Gives : List ℕ →
   pub file : IsReadAs files name text
   pub given : Gives text bytes
 
--- what is to be written for an order that reads no corpus
+-- these bytes are to be written for an order that reads no corpus
 abbrev pub IsMeant : FilesEnds → Order → List ℕ → Type 0
 IsMeant files (to_run name) bytes = ⊥
 IsMeant files (to_check name) bytes = IsGivenBy files name GivesOk bytes
 IsMeant files (to_plan name) bytes = IsGivenBy files name GivesPlan bytes
-IsMeant files (to_generate count) bytes = (bytes ≡ generated_corpus count) × FilesNeverFailed files
-IsMeant files (to_demonstrate count) bytes = GivesSummary count bytes × FilesNeverFailed files
+IsMeant files (to_generate count) bytes = bytes ≡ generated_corpus count
+IsMeant files (to_demonstrate count) bytes = GivesSummary count bytes
 
--- the words ask for something that reads no corpus; all that is to be written for it is written and flushed
+-- the words ask for something that reads no corpus; all that is to be written for it is written and flushed, and no call of
+-- the files, the corpus and the output failed
 pub record Wrote (call : Call) : Type 0 where
   pub order : Order
   pub words : IsOrder call.words order
   pub bytes : List ℕ
   pub meant : IsMeant call.files order bytes
+  pub unfailed : FilesNeverFailed call.files
   pub unread : IsUnread call.corpus
   pub sent : HasSent call.out bytes
 
--- or a beginning of it is written
+-- the words ask for something that reads no corpus, and a beginning of what is to be written for it is written
 pub record WroteInPart (call : Call) : Type 0 where
   pub order : Order
   pub words : IsOrder call.words order
@@ -114,7 +116,7 @@ pub record RefusedFor (call : Call) (fault : ProgramFault) : Type 0 where
 -- the words ask for nothing, no call of the files failed, and the corpus and the output are as they were
 pub record AsksForNothing (call : Call) : Type 0 where
   pub words : IsNoOrder call.words
-  pub unasked : FilesNeverFailed call.files
+  pub unfailed : FilesNeverFailed call.files
   pub idle : IsIdle call.corpus call.out
 
 -- the cause of each status, before its line is written
@@ -204,6 +206,8 @@ pub record Outcome (call : Call) (err : SinkEnds) (result : Result Status OutOfM
   pub front : WroteFront call
   -- a call that failed is told, as a failed read or a failed write, or memory is wanting
   pub told : (status : Status) → result ≡ Ok status → status ≢ ReadFault → status ≢ WriteFault → NoneFailed call err
+  -- words that ask for no run leave the corpus as it was
+  pub unread : IsNoRun call.words → IsUnread call.corpus
   -- with a failed read no write failed
   pub read : result ≡ Ok ReadFault → SinkNeverFailed call.out × SinkNeverFailed err
   -- words that ask for nothing have the status of usage, or memory or the line's writing failed

@@ -1,6 +1,7 @@
 -- What the modes that read no corpus come to. Only private clauses cite this.
-use Rattle.std.specs.Prelude.{◌≡◌, ℕ, ◌⊎◌, List, codes}
+use Rattle.std.specs.Prelude.{◌≡◌, ℕ, ◌+◌, ◌⊎◌, List, [], ◌∷◌, ◌++◌, codes, length}
 use Rattle.algebra.specs.Plans.{Parts}
+use Rattle.demo_corpus.specs.Totals.{Answer, Tally, tally_of}
 use Rattle.plan_maker.specs.PlanTexts.{text_of}
 use Rattle.aqlx_top.specs.declared.status.Status.{Status}
 use Rattle.aqlx_top.specs.declared.status.Status.TheVariants.{Done, Program as Refused, ReadFault, WriteFault}
@@ -53,3 +54,9 @@ pub record IsSummarySent (count : ℕ) (out : SinkEnds) (status : Status) : Type
   pub bytes : List ℕ
   pub given : GivesSummary count bytes
   pub sent : IsSent out bytes status
+
+-- the rows of the outputs, so many, on one document more are counted
+pub record IsCounted (outputs : ℕ) (answer : Answer) (before now : Tally) : Type 0 where
+  pub counted : (answers : List Answer) → before ≡ tally_of outputs answers → now ≡ tally_of outputs (answers ++ answer ∷ [])
+  pub documents : now.documents ≡ before.documents + 1
+  pub as_many : length now.totals ≡ length before.totals

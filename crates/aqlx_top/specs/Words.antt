@@ -25,18 +25,19 @@ abbrev pub number_behind : ℕ → List ℕ → ℕ
 number_behind n [] = n
 number_behind n (digit ∷ digits) = number_behind (10 * n + (digit - 48)) digits
 
--- a word of digits with a value from one number to another
+-- a word of digits, or none, whose value is from one number to another; no digits have the value 0
 abbrev pub is_between : ℕ → ℕ → List ℕ → Bool
 is_between least most word = list_all is_ascii_digit word && (nat_le least (number_behind 0 word) && nat_le (number_behind 0 word) most)
 
--- the option of a number of workers: its name and its word
+-- the name of the option
 abbrev pub is_option : List ℕ → Bool
 is_option word = bytes_eq word (codes "--workers")
 
+-- a number of workers: digits with a value from 1 to 16
 abbrev pub is_workers : List ℕ → Bool
 is_workers word = is_between 1 worker_limit word
 
--- the number of documents that a word asks for: digits, one at least
+-- the number of documents that a word asks for: digits, one at least, with a value of at most 100,000
 abbrev pub count_of : List ℕ → Option ℕ
 count_of word = if nat_le 1 (length word) && is_between 0 document_limit word then Some (number_behind 0 word) else None
 
@@ -64,6 +65,10 @@ order_of words = None
 
 abbrev pub IsOrder : List (List ℕ) → Order → Type 0
 IsOrder words order = order_of words ≡ Some order
+
+-- the words ask for no run
+abbrev pub IsNoRun : List (List ℕ) → Type 0
+IsNoRun words = (name : List ℕ) → ¬ (IsOrder words (to_run name))
 
 -- the words ask for nothing
 abbrev pub IsNoOrder : List (List ℕ) → Type 0

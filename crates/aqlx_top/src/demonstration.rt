@@ -1,12 +1,12 @@
 //! The demonstration: a program on generated documents, and how many rows it has.
 
-ghost use Rattle.std.specs.Prelude.{◌≡◌, ◌<◌, ◌+◌, ◌-◌, ◌^◌, ◌++◌, ◌∷◌, [], IfOk, OnErr, OnOk, List, length, string_bytes};
+ghost use Rattle.std.specs.Prelude.{◌≡◌, ◌<◌, ◌≤◌, ◌-◌, ◌^◌, All, None, IfOk, OnErr, OnOk, length, slice_index_or, string_bytes};
 ghost use Rattle.corpus_json.specs.Inputs.{doc_of, doc_of_ref};
 ghost use Rattle.demo_corpus.specs.Generator.{first_documents, generated};
-ghost use Rattle.demo_corpus.specs.Totals.{Answer, tally_of};
+ghost use Rattle.plan_operators.specs.Boards.{Holds};
 ghost use Rattle.aqlx_top.specs.Devices.{sink_between, IsUntouched};
 ghost use Rattle.aqlx_top.specs.Planned.{rows_by, summary_by};
-ghost use Rattle.aqlx_top.specs.Showings.{IsSummarySent};
+ghost use Rattle.aqlx_top.specs.Showings.{IsCounted, IsSummarySent};
 
 use crate::Status;
 use crate::answer::{all_shown, document_of};
@@ -19,8 +19,9 @@ use aql_io::Sink;
 use corpus_json::{Input, InputRef};
 use demo_corpus::{DEMO, Totals, gen_document};
 use plan_operators::{Schedule, evaluate};
+use row_values::Rows;
 use scalar_ops::Tools;
-use span_token::OutOfMemory;
+use span_token::{Document, OutOfMemory};
 use std::alloc::Global;
 
 /// Evaluates the demonstration's program on the first `count` generated documents, and writes and flushes
@@ -71,16 +72,49 @@ fn count_document(
     requires tables { tools.old ≡ schedule.now.lists }
     requires one_of_each { length totals.old.totals ≡ length schedule.now.outputs }
     requires room { totals.old.documents < 2 ^ 32 - 1 }
-    ensures counted { OnOk result ((answers : List Answer) → totals.old ≡ tally_of (length schedule.now.outputs) answers
-        → totals.new ≡ tally_of (length schedule.now.outputs) (answers ++ rows_by schedule.now (generated i) ∷ [])) }
-    ensures documents { OnOk result (totals.new.documents ≡ totals.old.documents + 1) }
-    ensures outputs { OnOk result (length totals.new.totals ≡ length totals.old.totals) }
+    ensures counted { OnOk result (IsCounted (length schedule.now.outputs) (rows_by schedule.now (generated i)) totals.old totals.new) }
     ensures same { tools.new ≡ tools.old }
 {
     let input = gen_document(alloc, i)?;
-    let document = document_of(alloc, with_tokens, lent(&input))?;
+    count_rows(alloc, schedule, with_tokens, tools, lent(&input), totals)
+}
+
+/// Counts the rows of the outputs on a document.
+fn count_rows(
+    alloc: Global,
+    schedule: &Schedule<'_>,
+    with_tokens: bool,
+    tools: &mut Tools<'_>,
+    input: InputRef<'_>,
+    totals: &mut Totals,
+) -> Result<(), OutOfMemory>
+    requires tables { tools.old ≡ schedule.now.lists }
+    requires short { length input.text.now ≤ 16777216 }
+    requires one_of_each { length totals.old.totals ≡ length schedule.now.outputs }
+    requires room { totals.old.documents < 2 ^ 32 - 1 }
+    ensures counted { OnOk result (IsCounted (length schedule.now.outputs) (rows_by schedule.now (doc_of_ref input.entry)) totals.old totals.new) }
+    ensures same { tools.new ≡ tools.old }
+{
+    let document = document_of(alloc, with_tokens, input)?;
     let board = evaluate(alloc, tools, &document, schedule)?;
-    let shown = all_shown(alloc, schedule.plan().outputs(), board.as_slice())?;
+    count_shown(alloc, schedule.plan(), &document, board.as_slice(), totals)
+}
+
+/// Counts the rows that the outputs show on a document; `board` has those of each output's node.
+fn count_shown<'d>(
+    alloc: Global,
+    plan: &Plan,
+    document: &Document<'d>,
+    board: &[Option<Rows<'d>>],
+    totals: &mut Totals,
+) -> Result<(), OutOfMemory>
+    requires long { length board.now ≡ length plan.now.nodes }
+    requires shown { All (λ out. Holds plan.now.lists document.now plan.now.nodes out.node (slice_index_or board.now out.node None)) plan.now.outputs }
+    requires one_of_each { length totals.old.totals ≡ length plan.now.outputs }
+    requires room { totals.old.documents < 2 ^ 32 - 1 }
+    ensures counted { OnOk result (IsCounted (length plan.now.outputs) (rows_by plan.now document.now) totals.old totals.new) }
+{
+    let shown = all_shown(alloc, plan.outputs(), board)?;
     totals.add(shown.as_slice());
     Ok(())
 }

@@ -1,7 +1,8 @@
 //! The top call: command words, a program and a corpus in, output lines and a status out.
 //!
-//! `aqlx` writes exactly the bytes that the program means on the corpus, in the corpus's order, and
-//! answers each other status only for its named cause; whatever it answers, what it wrote is a prefix
+//! `aqlx` runs a program, checks it or shows its plan, generates a corpus or runs the demonstration on one.
+//! A run writes exactly the bytes that the program means on the corpus, in the corpus's order, and each
+//! other status is answered only for its named cause; whatever it answers, what it wrote is a prefix
 //! of the defined output. `plan_program` gives the plan of a program's text, or the text's first fault.
 //! Stands on `aql_io` for files, sources and sinks, on `corpus_json` for lines and documents, on
 //! `aql_lexer`, `aql_parser`, `view_graph` and `aql_types` for programs, and on `plan_maker` and

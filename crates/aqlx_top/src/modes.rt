@@ -1,6 +1,8 @@
 //! The modes that read no corpus: a program is checked, its plan shown, or a corpus generated.
 
 ghost use Rattle.std.specs.Prelude.{◌≡◌, [], IfOk, OnErr, string_bytes};
+ghost use Rattle.algebra.specs.Nodes.{IsPlan};
+ghost use Rattle.algebra.specs.Plans.{AreOutputs};
 ghost use Rattle.demo_corpus.specs.Corpora.{generated_corpus};
 ghost use Rattle.aqlx_top.specs.Devices.{files_between, sink_between, GainedFront, IsUntouched};
 ghost use Rattle.aqlx_top.specs.Showings.{gives, shown_text, IsFileShown, IsSent, IsTextShown};
@@ -54,12 +56,22 @@ fn show_text<O: Sink>(
 {
     match plan_of(alloc, bytes) {
         Ok(plan) => {
+            told_of(&plan);
             let text = text_shown(alloc, shown, &plan)?;
             Ok(send(out, text.as_bytes()))
         }
         Err(Failure::Fault(fault)) => Ok(Status::Program(fault)),
         Err(Failure::OutOfMemory) => Err(OutOfMemory),
     }
+}
+
+/// Nothing is done: it says what holds of every plan.
+fn told_of(plan: &Plan)
+    ensures nodes { IsPlan plan.now.nodes }
+    ensures outputs { AreOutputs plan.now.nodes plan.now.outputs }
+{
+    let _ = plan.outputs();
+    let _ = plan.nodes().as_slice();
 }
 
 /// What is shown of a program by its plan.

@@ -9,7 +9,7 @@ use view_graph::NameFault;
 /// How a run ended, want of memory apart.
 #[derive(Debug, Drop)]
 pub enum Status {
-    /// The corpus was read to its end and every line was written.
+    /// All that was asked for is written; `run` has read the corpus to its end.
     Done,
     /// The program has a fault; nothing was written to the output.
     Program(ProgramFault),

@@ -1,8 +1,8 @@
-ghost use Rattle.std.specs.Prelude.{map, string_bytes, ℕ, List, IfOk, OnErr};
-ghost use Rattle.aqlx_top.specs.Devices.{files_between, source_between, sink_between};
+ghost use Rattle.std.specs.Prelude.{◌≡◌, map, string_bytes, ℕ, List, IfOk, OnErr};
+ghost use Rattle.aqlx_top.specs.Devices.{files_between, source_between, sink_between, IsUnread};
 ghost use Rattle.aqlx_top.specs.Outcome.{Outcome, call_of, HasCauseOf, WroteFront};
 ghost use Rattle.aqlx_top.specs.Orders.{order_told};
-ghost use Rattle.aqlx_top.specs.Words.{IsOrder};
+ghost use Rattle.aqlx_top.specs.Words.{to_run, IsOrder, IsNoRun};
 ghost use Rattle.aqlx_top.specs.Stages.{IsFileRunTo, IsFileInPart, IsTextRunTo, IsTextInPart};
 
 use crate::Status;
@@ -25,10 +25,11 @@ use std::alloc::Global;
 ///
 /// Words that ask for nothing have the status `Usage`. At most 1,048,577 bytes of the program file are
 /// read, and a program with a fault is refused for its first one (`ProgramFault`). A status of 1 to 4 has
-/// its one line on `err`. With the statuses 1 and 2 nothing is read of the corpus and nothing is written
-/// to `out`; with 0, 3 and 4 all lines of the documents before the bad line, or before the end, are
-/// written and flushed; with 5 and after want of memory a prefix of them. It holds one line of the corpus,
-/// and one piece of output beyond the lines of one document.
+/// its one line on `err`. With the statuses 1 and 2, and in other modes than `run`, nothing is read of the
+/// corpus. With 1 and 2 nothing is written to `out`; with 0 all is written and flushed, and so are with 3,
+/// and with 4 after a failed read of the corpus, the lines of all documents before the bad line or the
+/// failed read; with 5 and after want of memory a prefix is written. `run` holds one line of the corpus, and
+/// one piece of output beyond the lines of one document; `plan` and `demo` hold their text.
 ///
 /// Meaning: `Outcome`, `specs/Outcome.antt`; docs/FORMATS.md, "Exit status and standard error".
 pub fn aqlx<F: Files, S: Source, O: Sink, E: Sink>(
@@ -66,6 +67,7 @@ fn carry_out<F: Files, S: Source, O: Sink>(
         (call_of (map string_bytes words.now.items) (files_between F.told F.faults files.old files.new)
         (source_between S.left S.faults corpus.old corpus.new)
         (sink_between O.held O.flushed O.faults out.old out.new))) }
+    ensures unread { IsNoRun (map string_bytes words.now.items) → IsUnread (source_between S.left S.faults corpus.old corpus.new) }
 {
     match order_of(words) {
         Some(order) => follow(alloc, order, files, corpus, out),
@@ -89,6 +91,7 @@ fn follow<F: Files, S: Source, O: Sink>(
         (call_of words (files_between F.told F.faults files.old files.new)
         (source_between S.left S.faults corpus.old corpus.new)
         (sink_between O.held O.flushed O.faults out.old out.new))) }
+    ensures unread { ((name : List ℕ) → ¬ (order_told order.entry ≡ to_run name)) → IsUnread (source_between S.left S.faults corpus.old corpus.new) }
 {
     match order {
         Order::Run(name) => run_file(alloc, name, files, corpus, out),

@@ -6,6 +6,6 @@ use Rattle.aqlx_top.proofs.demonstration.summary.Given as goal
 
 abbrev pub invariant-documents : goal.invariant-documents
 invariant-documents l = record {
-  tables : l.tools ≡ l.schedule.lists;
-  counted : l.totals ≡ tally_of (length l.schedule.outputs) (map (rows_by l.schedule) (first_documents l.i));
+  tables : l.tools ≡ l.fn.plan.lists;
+  counted : l.totals ≡ tally_of (length l.fn.plan.outputs) (map (rows_by l.fn.plan) (first_documents l.i));
 }
