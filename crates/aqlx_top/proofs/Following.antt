@@ -137,13 +137,11 @@ flushed_after h h' h'' f f' f'' x x' x'' bytes status wrote stands sent =
       | inr broken ↦
           inr (
             broken.0,
+            rose_later x x' x'' stands broken.1,
             (
-              rose_later x x' x'' stands broken.1,
-              (
-                length bytes,
-                subst (λ (bs : List ℕ). Appends h h'' bs) (sym (take_all (length bytes) bytes (omega arith)))
-                    (all (subst (λ (bs : List ℕ). Appends h' h'' bs) (take_none broken.2.0) broken.2.1)),
-              ),
+              length bytes,
+              subst (λ (bs : List ℕ). Appends h h'' bs) (sym (take_all (length bytes) bytes (omega arith)))
+                  (all (subst (λ (bs : List ℕ). Appends h' h'' bs) (take_none broken.2.0) broken.2.1)),
             ),
           )
     ]

@@ -10,8 +10,8 @@ use Rattle.aqlx_top.proofs.Planning.{tally_alike}
 use Rattle.aqlx_top.proofs.Showing as law
 use Rattle.aqlx_top.proofs.demonstration.count_shown.Goals as goal
 
-pub returns-clause-counted : goal.returns-clause-counted
-returns-clause-counted c =
+pub returns : goal.returns
+returns c =
     let board : List (Option RowList) = c.args.board.now in
     let outs : List PlanOut = c.args.plan.now.outputs in
     let rows = c.as_slice.result.now in
@@ -22,10 +22,12 @@ returns-clause-counted c =
     ∙ map-map (λ (list : RowList). list.rows) (law.list_of board) outs in
     let many : length rows ≡ length outs = sym (length-map rows rows_of) ∙ ap length are ∙ length-map outs (λ (out : PlanOut). (law.list_of board out).rows) in
     record {
-      counted = λ answers is.
-          subst (λ n. c.args.totals.now ≡ tally_of n answers → c.add.new.self ≡ tally_of n (answers ++ answer_of rows ∷ [])) many (c.add.ensures.counted answers) is
-          ∙ ap (λ (answer : Answer). tally_of (length outs) (answers ++ answer ∷ [])) are
-          ∙ tally_alike (length outs) answers shown (rows_by c.args.plan.now c.args.document.now) (law.same_bags c.args.plan.now c.args.document.now board outs c.requires.shown);
-      documents = c.add.ensures.documents;
-      as_many = c.add.ensures.outputs;
+      counted = record {
+        counted = λ answers is.
+            subst (λ n. c.args.totals.now ≡ tally_of n answers → c.add.new.self ≡ tally_of n (answers ++ answer_of rows ∷ [])) many (c.add.ensures.counted answers) is
+            ∙ ap (λ (answer : Answer). tally_of (length outs) (answers ++ answer ∷ [])) are
+            ∙ tally_alike (length outs) answers shown (rows_by c.args.plan.now c.args.document.now) (law.same_bags c.args.plan.now c.args.document.now board outs c.requires.shown);
+        documents = c.add.ensures.documents;
+        as_many = c.add.ensures.outputs;
+      };
     }
