@@ -1,5 +1,5 @@
 -- From what the modes that read no corpus come to, to the cause of a call's status.
-use Rattle.std.proofs.Common.{◌≡◌, ◌∙◌, ℕ, zero, suc, List, [], length, take, ap, subst, sym, refl, arith, append-nil, Option, Some, Result, Ok, Err, IfOk, OnErr, inl, inr, ◌⊎◌}
+use Rattle.std.proofs.Common.{◌≡◌, ◌∙◌, ℕ, zero, suc, List, [], length, take, subst, sym, refl, arith, append-nil, Option, Some, Result, Ok, Err, IfOk, OnErr, inl, inr}
 use Rattle.std.proofs.lemmas.List.{take_all}
 use Rattle.std.specs.Io.KnownBytes.{Appends}
 use Rattle.span_token.specs.declared.refusal.OutOfMemory.{OutOfMemory}
@@ -9,16 +9,15 @@ use Rattle.demo_corpus.specs.declared.demo.TheConstants.{DEMO}
 use Rattle.demo_corpus.specs.Corpora.{generated_corpus}
 use Rattle.demo_corpus.specs.Generator.{first_documents}
 use Rattle.aqlx_top.specs.declared.status.Status.{Status}
-use Rattle.aqlx_top.specs.declared.status.Status.TheVariants.{Done, Program as Refused, Usage, Corpus, ReadFault, WriteFault}
 use Rattle.aqlx_top.specs.declared.modes.Shown.{Shown}
 use Rattle.aqlx_top.specs.declared.modes.Shown.TheVariants.{Check, Plan}
 use Rattle.aqlx_top.specs.Devices.{FilesEnds, SourceEnds, SinkEnds, sink_ends, GainedFront, IsUntouched, IsUnread, FilesNeverFailed}
-use Rattle.aqlx_top.specs.Modes.{GivesSummary, summary_on}
+use Rattle.aqlx_top.specs.Modes.{GivesSummary}
 use Rattle.aqlx_top.specs.Outcome.{IsMeant, IsGivenBy, HasCauseOf, WroteFront, call_of}
 use Rattle.aqlx_top.specs.Planned.{summary_by}
 use Rattle.aqlx_top.specs.Plans.{IsPlanOf}
 use Rattle.aqlx_top.specs.Showings.{gives, shown_text, IsSent, IsTextShown, IsFileShown, IsSummarySent}
-use Rattle.aqlx_top.specs.Words.{Order, to_run, to_check, to_plan, to_generate, to_demonstrate, file_of, IsOrder}
+use Rattle.aqlx_top.specs.Words.{Order, to_check, to_plan, to_generate, to_demonstrate, file_of, IsOrder}
 use Rattle.aqlx_top.proofs.Answers.{gained_nothing}
 use Rattle.aqlx_top.proofs.Planning.{plan_counts}
 use Rattle.aqlx_top.proofs.Sinks.{appends_more}

@@ -1,7 +1,7 @@
 -- The number of a word of digits, cut at one more than it may be.
-use Rattle.std.proofs.Common.{◌≡◌, ℕ, suc, ◌+◌, ◌*◌, ◌-◌, ◌≤◌, ◌<◌, Bool, true, false, ◌&&◌, nat_le, min, List, [], ◌∷◌, length, get_or, drop, ap, ap₂, sym, ◌∙◌, arith, inl, inr, Option, Some, None, if◌then◌else◌}
+use Rattle.std.proofs.Common.{◌≡◌, ℕ, suc, ◌+◌, ◌*◌, ◌-◌, ◌≤◌, ◌<◌, Bool, true, ◌&&◌, nat_le, min, List, [], ◌∷◌, length, get_or, drop, ap, sym, ◌∙◌, arith, inl, inr, Option, Some, None, if◌then◌else◌}
 use Rattle.std.proofs.Math.Seq.{drop-cons}
-use Rattle.std.proofs.lemmas.Bool.{cases_lt, le-leb, lt-leb}
+use Rattle.std.proofs.lemmas.Bool.{cases_lt, lt-leb}
 use Rattle.std.specs.Char.{is_ascii_digit}
 use Rattle.std.specs.List.{list_all}
 use Rattle.aqlx_top.specs.Words.{number_behind}
