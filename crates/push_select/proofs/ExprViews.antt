@@ -1,9 +1,10 @@
 -- An expression that is made of a list is seen through its elements.
-use Rattle.std.proofs.Common.{◌≡◌, ◌∙◌, ◌-◌, ◌&&◌, ℕ, Bool, List, [], ◌∷◌, map, refl, ap, ap₂, sym, arith, Bor}
+use Rattle.std.proofs.Common.{◌≡◌, ◌∙◌, ◌+◌, ◌-◌, ◌<◌, ◌&&◌, ℕ, Bool, List, [], ◌∷◌, ◌++◌, map, length, take, get_or, refl, ap, ap₂, sym, arith, Bor}
 use Rattle.std.specs.Prelude.{nat_le}
 use Rattle.std.specs.List.{list_all}
 use Rattle.std.specs.declared.vec.Vec.{Vec}
 use Rattle.std.specs.declared.alloc.Global.{Global}
+use Rattle.std.proofs.lemmas.List.{map-append, map_more}
 use Rattle.std.proofs.lemmas.List.Folds.{list_all-append, list_all-map}
 use mathlib.Core.Former.{Count}
 use Rattle.scalar_ops.specs.declared.op.Op.{Op}
@@ -66,6 +67,14 @@ none_less (c ∷ conds) = ap₂ (λ (t : Term) (ts : List Term). t ∷ ts) (rena
 pub terms_renamed_lent : (rename : ℕ → ℕ) (conds : List (Bor Expr)) → map (λ (cond : Bor Expr). renamed rename (term_of cond.now)) conds ≡ map (renamed rename) (terms_lent conds)
 terms_renamed_lent rename [] = refl
 terms_renamed_lent rename (c ∷ conds) = ap (λ (ts : List Term). renamed rename (term_of c.now) ∷ ts) (terms_renamed_lent rename conds)
+
+-- one copy more
+pub copies_more : {X : Type 0} (f : X → Term) (xs : List X) (i : ℕ) (x : X) (before after : List Expr) (copy : Expr) → i < length xs → x ≡ get_or xs i x → map term_of before ≡ map f (take i xs)
+    → after ≡ before ++ copy ∷ [] → term_of copy ≡ f x → map term_of after ≡ map f (take (i + 1) xs)
+copies_more f xs i x before after copy below at so_far put is =
+    ap (λ (es : List Expr). map term_of es) put
+    ∙ (map-append term_of before (copy ∷ [])
+    ∙ (ap₂ (λ (ts : List Term) (t : Term). ts ++ t ∷ []) so_far (is ∙ ap f at) ∙ sym (map_more f xs i x below)))
 
 -- ---- what is read
 

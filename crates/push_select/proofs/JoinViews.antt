@@ -1,12 +1,13 @@
 -- The join that a condition of the code stands for, and what it means.
-use Rattle.std.proofs.Common.{◌≡◌, ◌∙◌, ℕ, ◌+◌, ◌-◌, ◌<◌, ◌≤◌, Bool, true, false, ◌&&◌, List, [], ◌∷◌, map, length, get_or, refl, sym, ap, ap₂, subst, arith, Option, Some, None}
+use Rattle.std.proofs.Common.{◌≡◌, ◌∙◌, ℕ, ◌+◌, ◌-◌, ◌<◌, ◌≤◌, Bool, true, false, ◌&&◌, List, [], ◌∷◌, map, length, take, get_or, refl, sym, ap, ap₂, subst, arith, Option, Some, None}
 use Rattle.std.specs.Prelude.{nat_lt}
 use Rattle.std.specs.List.{All}
 use Rattle.std.specs.declared.vec.Vec.{Vec}
 use Rattle.std.specs.declared.alloc.Global.{Global}
 use Rattle.std.proofs.lemmas.Bool.{ltb-true, ltb-false}
 use Rattle.std.proofs.lemmas.Bool.Decides.{nat_tests}
-use Rattle.std.proofs.lemmas.List.Elements.{All-head, All-tail}
+use Rattle.std.proofs.lemmas.List.{take_more, take_all}
+use Rattle.std.proofs.lemmas.List.Elements.{All-head, All-tail, All-push}
 use Rattle.span_token.specs.Documents.{Doc as Document}
 use Rattle.span_token.specs.Extents.{Extent}
 use Rattle.span_token.specs.Relations.{do_overlap}
@@ -73,6 +74,19 @@ columns_both (a ∷ []) x y m found two at next is so = absurd (omega (arith, tw
 columns_both (a ∷ b ∷ []) x y m found two at next is so =
     ap₂ (λ (m n : Option ℕ). both m n) (is ∙ ap (λ (e : Expr). column_of (term_of e)) at) (so ∙ ap (λ (e : Expr). column_of (term_of e)) next)
 columns_both (a ∷ b ∷ c ∷ args) x y m found two at next is so = absurd (omega (arith, two))
+
+-- ---- conditions one by one
+
+-- no join is found for any so far, nor for one more
+pub none_more : (width : ℕ) (conds : List Expr) (i : ℕ) (cond : Expr) (found : Option Join) → i < length conds → cond ≡ get_or conds i cond → found ≡ join_of width (term_of cond)
+    → ((j : Join) → found ≡ Some j → ⊥) → All (λ (c : Expr). join_of width (term_of c) ≡ None) (take i conds) → All (λ (c : Expr). join_of width (term_of c) ≡ None) (take (i + 1) conds)
+none_more width conds i cond (Some j) below at is none so_far = absurd (none j refl)
+none_more width conds i cond None below at is none so_far =
+    subst (All (λ (c : Expr). join_of width (term_of c) ≡ None)) (sym (take_more conds i cond below))
+    (All-push (λ (c : Expr). join_of width (term_of c) ≡ None) (take i conds) (get_or conds i cond) so_far (sym (is ∙ ap (λ (e : Expr). join_of width (term_of e)) at)))
+
+pub none_all : (width : ℕ) (conds : List Expr) (i : ℕ) → length conds ≤ i → All (λ (c : Expr). join_of width (term_of c) ≡ None) (take i conds) → All (λ (c : Expr). join_of width (term_of c) ≡ None) conds
+none_all width conds i past so_far = subst (All (λ (c : Expr). join_of width (term_of c) ≡ None)) (take_all i conds past) so_far
 
 -- ---- what it is
 

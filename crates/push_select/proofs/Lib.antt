@@ -7,6 +7,12 @@ pub mod SideViews
 -- the join that a condition stands for
 pub mod JoinViews
 -- joins in place of products
-pub mod Joining
+pub mod JoiningRows
+-- nodes that combine two others
+pub mod BelowViews
 -- nodes that take the place of others
 pub mod Placing
+-- sides that are narrowed
+pub mod Narrowing
+-- where conditions stand in plans that grow
+pub mod Standing

@@ -1,3 +1,6 @@
+-- Words of public clauses
+-- where conditions stand in a plan that is pushed
+pub mod Pushed
 -- Words of private clauses
 -- conditions taken apart by the side that they read
 pub mod Conditions

@@ -23,7 +23,7 @@ pub(crate) struct Choice {
 }
 
 /// The first of the conditions that a join stands for, on rows whose left side has `width` columns.
-pub(crate) fn choice(conds: &[Expr], width: u32) -> Option<Choice>
+pub(crate) fn chosen(conds: &[Expr], width: u32) -> Option<Choice>
     ensures some { IfSome result (λ choice. IsChoice width conds.now choice) }
     ensures none { IfNone result (All (λ cond. join_of width (term_of cond) ≡ None) conds.now) }
 {

@@ -1,92 +1,108 @@
-//! Pairs of rows of two nodes, by a join where a condition stands for one.
+//! Rows of two nodes put together, by a join where a condition stands for one.
 
-ghost use Rattle.std.specs.Prelude.{◌+◌, map, IfOk, All};
+ghost use Rattle.std.specs.Prelude.{◌≡◌, None, map, IfOk, OnOk, All, slice_get};
 ghost use Rattle.scalar_ops.specs.Expressions.{ReadsBelow};
 ghost use Rattle.scalar_ops.specs.Views.{term_of};
-ghost use Rattle.algebra.specs.declared.node.Node.TheVariants.{Select, Cross};
+ghost use Rattle.algebra.specs.declared.node.Node.TheVariants.{Select};
 ghost use Rattle.algebra.specs.Growth.{Stands};
 ghost use Rattle.algebra.specs.Nodes.{IsNode, IsPlan};
 ghost use Rattle.algebra.specs.Shapes.{shapes_of};
-ghost use Rattle.push_select.specs.Joins.{IsChoice};
-ghost use Rattle.push_select.specs.Places.{width_at, IsPlain, HasPairs};
+ghost use Rattle.push_select.specs.Joins.{join_of, IsChoice};
+ghost use Rattle.push_select.specs.Places.{all_pairs, joined_by, cross_of, join_of_pair, joint_width, IsPlain, Combines};
+ghost use Rattle.push_select.specs.Pushed.{width_at, ReadsBoth, StandAbove, ArePushed};
 
-use crate::join::{Choice, choice};
+use crate::below::Pair;
+use crate::join::{Choice, Join, chosen};
 use algebra::{Node, Nodes};
 use scalar_ops::{Expr, Exprs};
 use span_token::OutOfMemory;
 
 /// A node of the pairs of a left and a right row on which every condition holds: a join by the first of
 /// them that one stands for, and else a product, with the others in a selection above.
-pub(crate) fn joined(
-    nodes: &mut Nodes,
-    left: u32,
-    right: u32,
-    conditional: bool,
-    conds: Vec<Expr>,
-) -> Result<u32, OutOfMemory>
-    requires both { IsNode (shapes_of nodes.old) (Cross left right conditional) }
-    requires reads { All (ReadsBelow (width_at nodes.old left + width_at nodes.old right)) (map term_of conds.items) }
-    ensures pairs { IfOk result (λ n. HasPairs nodes.old nodes.new left right n (map term_of conds.items)) }
+pub(crate) fn paired(nodes: &mut Nodes, pair: Pair, conds: Vec<Expr>) -> Result<u32, OutOfMemory>
+    requires both { IsNode (shapes_of nodes.old) (cross_of pair) }
+    requires reads { All (ReadsBelow (joint_width nodes.old pair)) (map term_of conds.items) }
+    requires joint { All (ReadsBoth (width_at nodes.old pair.left)) (map term_of conds.items) }
+    requires pushed { ArePushed nodes.old }
+    ensures combines { IfOk result (λ n. Combines nodes.old nodes.new pair n all_pairs (map term_of conds.items)) }
+    ensures pushed { OnOk result (ArePushed nodes.new) }
 {
     let _plan = nodes.as_slice();
-    let width = nodes.shape(left).width;
-    match choice(conds.as_slice(), width) {
+    let width = nodes.shape(pair.left).width;
+    match chosen(conds.as_slice(), width) {
         Some(found) => {
-            let n = spans_joined(nodes, left, right, conditional, found, conds)?;
+            let n = found_joined(nodes, pair, found, conds)?;
             Ok(n)
         }
         None => {
-            let n = crossed(nodes, left, right, conditional, conds)?;
+            let n = crossed(nodes, pair, conds)?;
             Ok(n)
         }
     }
 }
 
 /// The same by the join that is found, with the other conditions above.
-fn spans_joined(
+fn found_joined(
     nodes: &mut Nodes,
-    left: u32,
-    right: u32,
-    conditional: bool,
+    pair: Pair,
     found: Choice,
     conds: Vec<Expr>,
 ) -> Result<u32, OutOfMemory>
     requires plan { IsPlan nodes.old }
-    requires both { IsNode (shapes_of nodes.old) (Cross left right conditional) }
-    requires reads { All (ReadsBelow (width_at nodes.old left + width_at nodes.old right)) (map term_of conds.items) }
-    requires found { IsChoice (width_at nodes.old left) conds.items found }
-    ensures pairs { IfOk result (λ n. HasPairs nodes.old nodes.new left right n (map term_of conds.items)) }
+    requires both { IsNode (shapes_of nodes.old) (cross_of pair) }
+    requires reads { All (ReadsBelow (joint_width nodes.old pair)) (map term_of conds.items) }
+    requires joint { All (ReadsBoth (width_at nodes.old pair.left)) (map term_of conds.items) }
+    requires found { IsChoice (width_at nodes.old pair.left) conds.items found }
+    requires pushed { ArePushed nodes.old }
+    ensures combines { IfOk result (λ n. Combines nodes.old nodes.new pair n all_pairs (map term_of conds.items)) }
+    ensures pushed { OnOk result (ArePushed nodes.new) }
 {
     let mut others = conds;
     let _joins = others.remove(found.place);
-    let both = nodes.add(Node::SpanJoin {
-        left,
-        right,
-        kind: found.join.kind,
-        lc: found.join.lc,
-        rc: found.join.rc,
-        conditional,
-    })?;
-    let n = filtered(nodes, both, others)?;
+    let n = joined(nodes, pair, found.join, others)?;
     Ok(n)
 }
 
-/// The same by a product, with all conditions above.
-fn crossed(
+/// A node of the pairs that a join picks on which every condition holds.
+pub(crate) fn joined(
     nodes: &mut Nodes,
-    left: u32,
-    right: u32,
-    conditional: bool,
+    pair: Pair,
+    join: Join,
     conds: Vec<Expr>,
 ) -> Result<u32, OutOfMemory>
-    requires both { IsNode (shapes_of nodes.old) (Cross left right conditional) }
-    requires reads { All (ReadsBelow (width_at nodes.old left + width_at nodes.old right)) (map term_of conds.items) }
-    ensures pairs { IfOk result (λ n. HasPairs nodes.old nodes.new left right n (map term_of conds.items)) }
+    requires both { IsNode (shapes_of nodes.old) (join_of_pair pair join) }
+    requires reads { All (ReadsBelow (joint_width nodes.old pair)) (map term_of conds.items) }
+    requires joint { All (ReadsBoth (width_at nodes.old pair.left)) (map term_of conds.items) }
+    requires pushed { ArePushed nodes.old }
+    ensures combines { IfOk result (λ n. Combines nodes.old nodes.new pair n (joined_by join) (map term_of conds.items)) }
+    ensures pushed { OnOk result (ArePushed nodes.new) }
+{
+    let both = nodes.add(Node::SpanJoin {
+        left: pair.left,
+        right: pair.right,
+        kind: join.kind,
+        lc: join.lc,
+        rc: join.rc,
+        conditional: pair.conditional,
+    })?;
+    let n = filtered(nodes, both, conds)?;
+    Ok(n)
+}
+
+/// A node of all pairs on which every condition holds, of which no join stands for one.
+fn crossed(nodes: &mut Nodes, pair: Pair, conds: Vec<Expr>) -> Result<u32, OutOfMemory>
+    requires both { IsNode (shapes_of nodes.old) (cross_of pair) }
+    requires reads { All (ReadsBelow (joint_width nodes.old pair)) (map term_of conds.items) }
+    requires joint { All (ReadsBoth (width_at nodes.old pair.left)) (map term_of conds.items) }
+    requires no_join { All (λ cond. join_of (width_at nodes.old pair.left) (term_of cond) ≡ None) conds.items }
+    requires pushed { ArePushed nodes.old }
+    ensures combines { IfOk result (λ n. Combines nodes.old nodes.new pair n all_pairs (map term_of conds.items)) }
+    ensures pushed { OnOk result (ArePushed nodes.new) }
 {
     let both = nodes.add(Node::Cross {
-        left,
-        right,
-        conditional,
+        left: pair.left,
+        right: pair.right,
+        conditional: pair.conditional,
     })?;
     let n = filtered(nodes, both, conds)?;
     Ok(n)
@@ -96,7 +112,10 @@ fn crossed(
 fn filtered(nodes: &mut Nodes, input: u32, conds: Vec<Expr>) -> Result<u32, OutOfMemory>
     requires plain { IsPlain nodes.old input }
     requires valid { IsNode (shapes_of nodes.old) (Select input (map term_of conds.items)) }
+    requires above { StandAbove nodes.old (map term_of conds.items) (slice_get nodes.old input) }
+    requires pushed { ArePushed nodes.old }
     ensures stands { IfOk result (λ n. Stands nodes.old nodes.new n (Select input (map term_of conds.items))) }
+    ensures pushed { OnOk result (ArePushed nodes.new) }
 {
     if conds.is_empty() {
         return Ok(input);

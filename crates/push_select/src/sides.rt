@@ -19,20 +19,18 @@ pub(crate) struct Sides {
 
 /// The sides of conditions on rows whose left side has `width` columns, with each `And` taken apart. What
 /// reads no column is told of the left side.
-pub(crate) fn sides(alloc: Global, conds: &[Expr], width: u32) -> Result<Sides, OutOfMemory>
+pub(crate) fn by_side(alloc: Global, conds: &[Expr], width: u32) -> Result<Sides, OutOfMemory>
     ensures { IfOk result (λ sides. AreSides width (map term_of conds.now) sides) }
 {
     let mut rest = parted(alloc, conds)?;
-    let left = of_left(alloc, rest.as_slice(), width)?;
+    let on_left = of_left(alloc, rest.as_slice(), width)?;
     drop_left(&mut rest, width);
-    let right = of_right(alloc, rest.as_slice(), width)?;
+    let on_right = of_right(alloc, rest.as_slice(), width)?;
     drop_right(&mut rest, width);
-    let on_left = lent_copied(alloc, left.as_slice())?;
-    let on_right = lent_shifted(alloc, right.as_slice(), width)?;
+    let left = lent_copied(alloc, on_left.as_slice())?;
+    let right = lent_shifted(alloc, on_right.as_slice(), width)?;
     let joint = lent_copied(alloc, rest.as_slice())?;
-    Ok(Sides {
-        left: Exprs::from(on_left),
-        right: Exprs::from(on_right),
-        joint,
-    })
+    let left = Exprs::from(left);
+    let right = Exprs::from(right);
+    Ok(Sides { left, right, joint })
 }
