@@ -80,8 +80,8 @@ columns_both (a ∷ b ∷ c ∷ args) x y m found two at next is so = absurd (om
 -- no join is found for any so far, nor for one more
 pub none_more : (width : ℕ) (conds : List Expr) (i : ℕ) (cond : Expr) (found : Option Join) → i < length conds → cond ≡ get_or conds i cond → found ≡ join_of width (term_of cond)
     → ((j : Join) → found ≡ Some j → ⊥) → All (λ (c : Expr). join_of width (term_of c) ≡ None) (take i conds) → All (λ (c : Expr). join_of width (term_of c) ≡ None) (take (i + 1) conds)
-none_more width conds i cond (Some j) below at is none so_far = absurd (none j refl)
-none_more width conds i cond None below at is none so_far =
+none_more width conds i cond (Some j) below at is lacks so_far = absurd (lacks j refl)
+none_more width conds i cond None below at is lacks so_far =
     subst (All (λ (c : Expr). join_of width (term_of c) ≡ None)) (sym (take_more conds i cond below))
     (All-push (λ (c : Expr). join_of width (term_of c) ≡ None) (take i conds) (get_or conds i cond) so_far (sym (is ∙ ap (λ (e : Expr). join_of width (term_of e)) at)))
 

@@ -113,8 +113,8 @@ joins_selected-returns-clause-stands t c =
 pub pair_narrowed-shape-width-requires : goal.pair_narrowed-shape-width-requires
 pair_narrowed-shape-width-requires t c = record { in_range = node_there c.args.nodes.now c.args.pair.left c.requires.both.left_below }
 
-pub pair_narrowed-narrowed-left-requires : goal.pair_narrowed-narrowed-left-requires
-pair_narrowed-narrowed-left-requires t c = (
+pub pair_narrowed-narrowed-requires : goal.pair_narrowed-narrowed-requires
+pair_narrowed-narrowed-requires t c = (
   omega arith,
   (
     left-valid c.args.nodes.now c.args.pair c.requires.both (map term_of c.args.conds.now) c.requires.reads c.in_ok-parts.parts
@@ -123,13 +123,13 @@ pair_narrowed-narrowed-left-requires t c = (
   ),
 )
 
-pub pair_narrowed-narrowed-right-requires : goal.pair_narrowed-narrowed-right-requires
-pair_narrowed-narrowed-right-requires t c = (
+pub pair_narrowed-narrowed-requires-2 : goal.pair_narrowed-narrowed-requires-2
+pair_narrowed-narrowed-requires-2 t c = (
   omega arith,
   (
     right-valid c.args.nodes.now c.args.pair c.requires.both (map term_of c.args.conds.now) c.requires.reads c.in_ok-parts.parts
         (sides_at c.args.nodes.now c.args.pair.left c.shape-width.result (map term_of c.args.conds.now) c.in_ok-parts.parts c.shape-width.ensures c.in_ok-parts.ensures)
-        c.narrowed-left.new.nodes c.in_ok-left.left c.in_ok-left.ensures.narrows,
+        c.narrowed.new.nodes c.in_ok-left.left c.in_ok-left.ensures.narrows,
     c.in_ok-left.ensures.pushed,
   ),
 )
@@ -138,7 +138,7 @@ pub pair_narrowed-returns-clause-narrows : goal.pair_narrowed-returns-clause-nar
 pair_narrowed-returns-clause-narrows t c =
     pair-narrows c.args.nodes.now c.args.pair c.requires.both (map term_of c.args.conds.now) c.requires.reads c.in_ok-parts.parts
     (sides_at c.args.nodes.now c.args.pair.left c.shape-width.result (map term_of c.args.conds.now) c.in_ok-parts.parts c.shape-width.ensures c.in_ok-parts.ensures)
-    c.narrowed-left.new.nodes c.in_ok-left.left c.in_ok-left.ensures.narrows c.narrowed-right.new.nodes c.in_ok-right.right _ c.in_ok-right.ensures.narrows refl refl refl refl
+    c.narrowed.new.nodes c.in_ok-left.left c.in_ok-left.ensures.narrows c.narrowed-2.new.nodes c.in_ok-right.right _ c.in_ok-right.ensures.narrows refl refl refl refl
 
 -- ---- one node
 
