@@ -2,6 +2,7 @@
 use Rattle.std.proofs.Common.{◌≡◌, ◌∙◌, ℕ, ◌+◌, ◌-◌, ◌<◌, ◌≤◌, Bool, true, false, ◌&&◌, List, [], ◌∷◌, map, length, take, get_or, refl, sym, ap, ap₂, subst, arith, Option, Some, None}
 use Rattle.std.specs.Prelude.{nat_lt}
 use Rattle.std.specs.List.{All}
+use Rattle.std.specs.Option.{IfNone}
 use Rattle.std.specs.declared.vec.Vec.{Vec}
 use Rattle.std.specs.declared.alloc.Global.{Global}
 use Rattle.std.proofs.lemmas.Bool.{ltb-true, ltb-false}
@@ -27,8 +28,9 @@ use Rattle.algebra.specs.declared.node.JoinKind.TheVariants as kind
 use Rattle.algebra.specs.JoiningLaws.{holding-predicate}
 use Rattle.algebra.specs.Operators.{does_join}
 use Rattle.algebra.specs.Predicates.{of_columns}
+use Rattle.push_select.specs.declared.join.Choice.{Choice}
 use Rattle.push_select.specs.declared.join.Join.{Join}
-use Rattle.push_select.specs.Joins.{kinds_of, column_of, both, two_columns, join_by_sides, join_between, join_with, join_by, join_of}
+use Rattle.push_select.specs.Joins.{kinds_of, column_of, both, two_columns, join_by_sides, join_between, join_with, join_by, join_of, rank_of, IsOfOtherRank}
 use Rattle.push_select.proofs.ExprViews.{call_view}
 
 none_some : {X : Type 0} (x : X) → None ≡ Some x → ⊥
@@ -77,16 +79,47 @@ columns_both (a ∷ b ∷ c ∷ args) x y m found two at next is so = absurd (om
 
 -- ---- conditions one by one
 
--- no join is found for any so far, nor for one more
-pub none_more : (width : ℕ) (conds : List Expr) (i : ℕ) (cond : Expr) (found : Option Join) → i < length conds → cond ≡ get_or conds i cond → found ≡ join_of width (term_of cond)
-    → ((j : Join) → found ≡ Some j → ⊥) → All (λ (c : Expr). join_of width (term_of c) ≡ None) (take i conds) → All (λ (c : Expr). join_of width (term_of c) ≡ None) (take (i + 1) conds)
-none_more width conds i cond (Some j) below at is lacks so_far = absurd (lacks j refl)
-none_more width conds i cond None below at is lacks so_far =
-    subst (All (λ (c : Expr). join_of width (term_of c) ≡ None)) (sym (take_more conds i cond below))
-    (All-push (λ (c : Expr). join_of width (term_of c) ≡ None) (take i conds) (get_or conds i cond) so_far (sym (is ∙ ap (λ (e : Expr). join_of width (term_of e)) at)))
+-- what holds of all so far, and of one more
+pub all_more : (P : Expr → Type 0) (conds : List Expr) (i : ℕ) (cond : Expr) → i < length conds → cond ≡ get_or conds i cond → All P (take i conds) → P cond → All P (take (i + 1) conds)
+all_more P conds i cond below at so_far one =
+    subst (All P) (sym (take_more conds i cond below)) (All-push P (take i conds) (get_or conds i cond) so_far (subst P at one))
 
-pub none_all : (width : ℕ) (conds : List Expr) (i : ℕ) → length conds ≤ i → All (λ (c : Expr). join_of width (term_of c) ≡ None) (take i conds) → All (λ (c : Expr). join_of width (term_of c) ≡ None) conds
-none_all width conds i past so_far = subst (All (λ (c : Expr). join_of width (term_of c) ≡ None)) (take_all i conds past) so_far
+pub all_of : (P : Expr → Type 0) (conds : List Expr) (i : ℕ) → length conds ≤ i → All P (take i conds) → All P conds
+all_of P conds i past so_far = subst (All P) (take_all i conds past) so_far
+
+-- the answer's fact where there is none
+pub when_none : {X : Type 0} (P : Type 0) (found : Option X) → ((x : X) → found ≡ Some x → ⊥) → IfNone found P → P
+when_none P None lacks fact = fact
+when_none P (Some x) lacks fact = absurd (lacks x refl)
+
+no_rank : (j : Join) → (rank_of j.kind ≡ 0 → ⊥) → (rank_of j.kind ≡ 1 → ⊥) → (rank_of j.kind ≡ 2 → ⊥) → ⊥
+no_rank j near over inside = by j.kind near over inside
+  where
+    by : (k : JoinKind) → (rank_of k ≡ 0 → ⊥) → (rank_of k ≡ 1 → ⊥) → (rank_of k ≡ 2 → ⊥) → ⊥
+    by (kind.Follows min max) near over inside = near refl
+    by (kind.FollowsTok min max) near over inside = near refl
+    by kind.Overlaps near over inside = over refl
+    by kind.Contains near over inside = inside refl
+    by (kind.FollowsBack min max) near over inside = near refl
+    by (kind.FollowsTokBack min max) near over inside = near refl
+    by kind.ContainsBack near over inside = inside refl
+
+unranked : (found : Option Join) → IsOfOtherRank 0 found → IsOfOtherRank 1 found → IsOfOtherRank 2 found → found ≡ None
+unranked None near over inside = refl
+unranked (Some j) near over inside = absurd (no_rank j near over inside)
+
+-- a join of no rank is none
+pub all_unranked : (width : ℕ) (conds : List Expr) → All (λ (c : Expr). IsOfOtherRank 0 (join_of width (term_of c))) conds → All (λ (c : Expr). IsOfOtherRank 1 (join_of width (term_of c))) conds
+    → All (λ (c : Expr). IsOfOtherRank 2 (join_of width (term_of c))) conds → All (λ (c : Expr). join_of width (term_of c) ≡ None) conds
+all_unranked width conds near over inside = λ k d at. unranked (join_of width (term_of (get_or conds k d))) (near k d at) (over k d at) (inside k d at)
+
+-- of three answers the last is none, as those before it: then no join is found
+pub none_of_all : (width : ℕ) (conds : List Expr) (near over inside : Option Choice) → ((x : Choice) → near ≡ Some x → ⊥) → ((x : Choice) → over ≡ Some x → ⊥)
+    → IfNone near (All (λ (c : Expr). IsOfOtherRank 0 (join_of width (term_of c))) conds) → IfNone over (All (λ (c : Expr). IsOfOtherRank 1 (join_of width (term_of c))) conds)
+    → IfNone inside (All (λ (c : Expr). IsOfOtherRank 2 (join_of width (term_of c))) conds) → IfNone inside (All (λ (c : Expr). join_of width (term_of c) ≡ None) conds)
+none_of_all width conds near over (Some x) a b p q r = tt
+none_of_all width conds near over None a b p q r =
+    all_unranked width conds (when_none (All (λ (c : Expr). IsOfOtherRank 0 (join_of width (term_of c))) conds) near a p) (when_none (All (λ (c : Expr). IsOfOtherRank 1 (join_of width (term_of c))) conds) over b q) r
 
 -- ---- what it is
 

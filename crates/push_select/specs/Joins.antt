@@ -67,6 +67,21 @@ join_of width (number n) = None
 join_of width (string t) = None
 join_of width (call o args) = join_by width o (list_of args)
 
+-- which join is taken first of several: one by a distance, then one by an overlap, then one by a containment
+abbrev pub rank_of : JoinKind → ℕ
+rank_of (kind.Follows min max) = 0
+rank_of (kind.FollowsTok min max) = 0
+rank_of kind.Overlaps = 1
+rank_of kind.Contains = 2
+rank_of (kind.FollowsBack min max) = 0
+rank_of (kind.FollowsTokBack min max) = 0
+rank_of kind.ContainsBack = 2
+
+-- no join, or one of another rank
+abbrev pub IsOfOtherRank : ℕ → Option Join → Type 0
+IsOfOtherRank rank None = Unit {0}
+IsOfOtherRank rank (Some j) = rank_of j.kind ≡ rank → ⊥
+
 -- a condition at a place, and the join that it stands for
 pub record IsChoice (width : ℕ) (conds : List Expr) (choice : Choice) : Type 0 where
   pub cond : Expr

@@ -1,8 +1,8 @@
 //! The join by spans that a condition stands for.
 
-ghost use Rattle.std.specs.Prelude.{◌≡◌, map, IfSome, IfNone, All, None};
+ghost use Rattle.std.specs.Prelude.{◌≡◌, map, IfSome, IfNone, All, None, Some};
 ghost use Rattle.scalar_ops.specs.Views.{term_of};
-ghost use Rattle.push_select.specs.Joins.{kinds_of, column_of, two_columns, join_between, join_by, join_of, IsChoice};
+ghost use Rattle.push_select.specs.Joins.{kinds_of, column_of, two_columns, join_between, join_by, join_of, rank_of, IsOfOtherRank, IsChoice};
 
 use algebra::JoinKind;
 use scalar_ops::{Expr, Op};
@@ -22,17 +22,59 @@ pub(crate) struct Choice {
     pub join: Join,
 }
 
-/// The first of the conditions that a join stands for, on rows whose left side has `width` columns.
+/// The condition that a join stands for, on rows whose left side has `width` columns; of several the first
+/// of the lowest rank.
 pub(crate) fn chosen(conds: &[Expr], width: u32) -> Option<Choice>
     ensures some { IfSome result (λ choice. IsChoice width conds.now choice) }
     ensures none { IfNone result (All (λ cond. join_of width (term_of cond) ≡ None) conds.now) }
 {
+    if let Some(near) = first_of(conds, width, 0) {
+        return Some(near);
+    }
+    if let Some(over) = first_of(conds, width, 1) {
+        return Some(over);
+    }
+    first_of(conds, width, 2)
+}
+
+/// The first of the conditions that a join of this rank stands for.
+fn first_of(conds: &[Expr], width: u32, rank: u8) -> Option<Choice>
+    ensures some { IfSome result (λ choice. IsChoice width conds.now choice) }
+    ensures none { IfNone result (All (λ cond. IsOfOtherRank rank (join_of width (term_of cond))) conds.now) }
+{
     for (place, cond) in conds.iter().enumerate() {
-        if let Some(join) = join_of(cond, width) {
+        if let Some(join) = ranked(cond, width, rank) {
             return Some(Choice { place, join });
         }
     }
     None
+}
+
+/// The join of this rank that a condition stands for.
+fn ranked(cond: &Expr, width: u32, rank: u8) -> Option<Join>
+    ensures some { IfSome result (λ join. join_of width (term_of cond.now) ≡ Some join) }
+    ensures none { IfNone result (IsOfOtherRank rank (join_of width (term_of cond.now))) }
+{
+    let join = join_of(cond, width)?;
+    if rank_of(join.kind) == rank {
+        Some(join)
+    } else {
+        None
+    }
+}
+
+/// Which join is taken first of several: one by a distance, then one by an overlap, then by a containment.
+fn rank_of(kind: JoinKind) -> u8
+    ensures { result ≡ rank_of kind }
+{
+    match kind {
+        JoinKind::Follows { .. }
+        | JoinKind::FollowsTok { .. }
+        | JoinKind::FollowsBack { .. }
+        | JoinKind::FollowsTokBack { .. } => 0,
+        JoinKind::Overlaps => 1,
+        JoinKind::Contains | JoinKind::ContainsBack => 2,
+    }
 }
 
 /// The join that a condition stands for: a predicate of two columns, one of each side.

@@ -12,8 +12,8 @@ use std::alloc::Global;
 ///
 /// A condition of a selection right above a product or a join goes down to the side that it reads alone;
 /// one that reads no column goes to the left. A condition that is `Follows`, `FollowsTok`, `Overlaps` or
-/// `Contains` of two plain columns, one of each side, makes the product a join of its kind; of several it is
-/// the first. The others stay in a selection above it. No condition goes down past another node.
+/// `Contains` of two plain columns, one of each side, makes the product a join of its kind: the first that is
+/// a distance, else the first overlap, else the first containment. The others stay in a selection above it. No condition goes down past another node.
 ///
 /// Meaning: `ArePushed`, `specs/Pushed.antt`.
 pub fn push(alloc: Global, plan: Plan) -> Result<Plan, OutOfMemory>

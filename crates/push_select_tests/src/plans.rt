@@ -18,7 +18,7 @@ const NODES: &str = "0 Doc
 ";
 
 /// Conditions on the two views, and what their plan has in place of a product and a selection above it.
-static PUSHED: [(&str, &str); 6] = [
+static PUSHED: [(&str, &str); 7] = [
     (
         "FollowsTok(a.x, b.y, 0, 2)",
         "5 Cross 2 4
@@ -62,6 +62,16 @@ out C 9
 7 Select 6
 8 Project 7
 out C 8
+",
+    ),
+    (
+        "Contains(a.x, b.y) and ContainsRegex(/c/, a.x) and Overlaps(a.x, b.y)",
+        "5 Select 2
+6 Cross 5 4
+7 SpanJoin 5 4
+8 Select 7
+9 Project 8
+out C 9
 ",
     ),
     (
