@@ -1,0 +1,18 @@
+-- expressions that are made of a list
+pub mod ExprViews
+-- conditions that are taken apart
+pub mod Parting
+-- conditions by the side that they read
+pub mod SideViews
+-- the join that a condition stands for
+pub mod JoinViews
+-- joins in place of products
+pub mod JoiningRows
+-- nodes that combine two others
+pub mod BelowViews
+-- nodes that take the place of others
+pub mod Placing
+-- sides that are narrowed
+pub mod Narrowing
+-- where conditions stand in plans that grow
+pub mod Standing

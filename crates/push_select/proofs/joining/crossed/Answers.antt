@@ -1,0 +1,24 @@
+use Rattle.std.proofs.Common.{map}
+use Rattle.scalar_ops.specs.Views.{term_of}
+use Rattle.push_select.specs.Places.{all_pairs, cross_of}
+use Rattle.push_select.proofs.Placing.{node_there, above-valid, above-combines}
+use Rattle.push_select.proofs.Standing.{pushed-add, above-last, above-cross}
+use Rattle.push_select.proofs.joining.crossed.Goals as goal
+
+pub filtered-requires-clause-valid : goal.filtered-requires-clause-valid
+filtered-requires-clause-valid c =
+    above-valid c.args.nodes.now c.add.new.self c.in_ok-both.both c.args.pair all_pairs c.in_ok-both.ensures.stands.has (map term_of c.args.conds.items) c.requires.reads
+
+pub filtered-requires-clause-above : goal.filtered-requires-clause-above
+filtered-requires-clause-above c =
+    above-last c.args.nodes.now c.add.new.self c.in_ok-both.both (cross_of c.args.pair) (map term_of c.args.conds.items) c.in_ok-both.ensures.ok.0 c.in_ok-both.ensures.ok.1
+    (above-cross c.args.nodes.now c.add.new.self c.args.pair c.args.conds.items c.in_ok-both.ensures.stands.grows (node_there c.args.nodes.now c.args.pair.left c.requires.both.left_below)
+    c.requires.joint c.requires.no_join)
+
+pub filtered-requires-clause-pushed : goal.filtered-requires-clause-pushed
+filtered-requires-clause-pushed c = pushed-add c.args.nodes.now c.add.new.self (cross_of c.args.pair) c.in_ok-both.ensures.ok.1 c.requires.pushed tt
+
+pub returns-clause-combines : goal.returns-clause-combines
+returns-clause-combines c =
+    above-combines c.args.nodes.now c.add.new.self c.in_ok-both.both c.args.pair all_pairs c.in_ok-both.ensures.stands.has c.filtered.new.nodes c.in_ok-n.n (map term_of c.args.conds.items)
+    c.in_ok-both.ensures.stands.grows c.in_ok-n.ensures.stands

@@ -1,0 +1,19 @@
+//! Plans in which conditions stand as low as they can, and joins by spans take the place of products.
+//!
+//! `push` puts a plan together anew, so that each output shows the rows that it showed, as a bag, on every
+//! document: a condition of a selection over a product or a join goes down to the side that it reads alone,
+//! and a predicate of a span of each side makes the product a join (`specs/Pushed.antt`). Stands on
+//! `algebra` for plans, for what a rewrite owes, and for the laws of selections and joins.
+#![tactic(auto)]
+
+mod below;
+mod conditions;
+mod copying;
+mod join;
+mod joining;
+mod pushing;
+mod reading;
+mod selection;
+mod sides;
+
+pub use pushing::push;

@@ -1,0 +1,141 @@
+//! Selections, with their conditions as low as they can stand.
+
+ghost use Rattle.std.specs.Prelude.{map, IfOk, OnOk, All};
+ghost use Rattle.scalar_ops.specs.Expressions.{ReadsBelow};
+ghost use Rattle.scalar_ops.specs.Views.{term_of};
+ghost use Rattle.algebra.specs.declared.node.Node.TheVariants.{Select};
+ghost use Rattle.algebra.specs.Growth.{Stands, IsAt};
+ghost use Rattle.algebra.specs.Nodes.{IsNode};
+ghost use Rattle.algebra.specs.Shapes.{shapes_of};
+ghost use Rattle.push_select.specs.Places.{cross_of, join_of_pair, joint_width, Narrows, NarrowsPair};
+ghost use Rattle.push_select.specs.Pushed.{ArePushed};
+
+use crate::below::{Below, Pair, combined_by};
+use crate::join::Join;
+use crate::joining::{joined, paired};
+use crate::sides::by_side;
+use algebra::{Node, Nodes};
+use scalar_ops::{Expr, Exprs};
+use span_token::OutOfMemory;
+use std::alloc::Global;
+
+/// Two nodes that are narrowed, and the conditions that read both.
+#[derive(Debug, Drop)]
+struct NarrowedPair {
+    pair: Pair,
+    joint: Vec<Expr>,
+}
+
+/// A node that stands for the selection of the rows of `input` on which every condition holds.
+#[cycle(selection)]
+pub(crate) fn selected(
+    alloc: Global,
+    nodes: &mut Nodes,
+    input: u32,
+    conds: Exprs,
+) -> Result<u32, OutOfMemory>
+    requires valid { IsNode (shapes_of nodes.old) (Select input conds) }
+    requires pushed { ArePushed nodes.old }
+    ensures stands { IfOk result (λ n. Stands nodes.old nodes.new n (Select input conds)) }
+    ensures pushed { OnOk result (ArePushed nodes.new) }
+{
+    match combined_by(nodes.get(input)) {
+        Below::Product(pair) => {
+            let n = pairs_selected(alloc, nodes, input, pair, conds)?;
+            Ok(n)
+        }
+        Below::Joined(pair, join) => {
+            let n = joins_selected(alloc, nodes, input, pair, join, conds)?;
+            Ok(n)
+        }
+        Below::Other => {
+            let n = nodes.add(Node::Select { input, conds })?;
+            Ok(n)
+        }
+    }
+}
+
+/// The same of a product.
+#[cycle(selection)]
+fn pairs_selected(
+    alloc: Global,
+    nodes: &mut Nodes,
+    input: u32,
+    pair: Pair,
+    conds: Exprs,
+) -> Result<u32, OutOfMemory>
+    requires at { IsAt nodes.old input (cross_of pair) }
+    requires valid { IsNode (shapes_of nodes.old) (Select input conds) }
+    requires pushed { ArePushed nodes.old }
+    ensures stands { IfOk result (λ n. Stands nodes.old nodes.new n (Select input conds)) }
+    ensures pushed { OnOk result (ArePushed nodes.new) }
+{
+    let narrowed = pair_narrowed(alloc, nodes, pair, conds.as_slice())?;
+    let n = paired(nodes, narrowed.pair, narrowed.joint)?;
+    Ok(n)
+}
+
+/// The same of a join.
+#[cycle(selection)]
+fn joins_selected(
+    alloc: Global,
+    nodes: &mut Nodes,
+    input: u32,
+    pair: Pair,
+    join: Join,
+    conds: Exprs,
+) -> Result<u32, OutOfMemory>
+    requires at { IsAt nodes.old input (join_of_pair pair join) }
+    requires valid { IsNode (shapes_of nodes.old) (Select input conds) }
+    requires pushed { ArePushed nodes.old }
+    ensures stands { IfOk result (λ n. Stands nodes.old nodes.new n (Select input conds)) }
+    ensures pushed { OnOk result (ArePushed nodes.new) }
+{
+    let narrowed = pair_narrowed(alloc, nodes, pair, conds.as_slice())?;
+    let n = joined(nodes, narrowed.pair, join, narrowed.joint)?;
+    Ok(n)
+}
+
+/// Two nodes, each narrowed by those of the conditions that read it alone.
+#[cycle(selection)]
+fn pair_narrowed(
+    alloc: Global,
+    nodes: &mut Nodes,
+    pair: Pair,
+    conds: &[Expr],
+) -> Result<NarrowedPair, OutOfMemory>
+    requires both { IsNode (shapes_of nodes.old) (cross_of pair) }
+    requires reads { All (ReadsBelow (joint_width nodes.old pair)) (map term_of conds.now) }
+    requires pushed { ArePushed nodes.old }
+    ensures narrows { IfOk result (λ narrowed. NarrowsPair nodes.old nodes.new pair (map term_of conds.now) narrowed) }
+    ensures pushed { OnOk result (ArePushed nodes.new) }
+{
+    let width = nodes.shape(pair.left).width;
+    let parts = by_side(alloc, conds, width)?;
+    let left = narrowed(alloc, nodes, pair.left, parts.left)?;
+    let right = narrowed(alloc, nodes, pair.right, parts.right)?;
+    let conditional = pair.conditional;
+    Ok(NarrowedPair {
+        pair: Pair {
+            left,
+            right,
+            conditional,
+        },
+        joint: parts.joint,
+    })
+}
+
+/// A node of the rows of `input` on which every condition holds: `input` itself where there is none.
+#[cycle(selection)]
+fn narrowed(alloc: Global, nodes: &mut Nodes, input: u32, conds: Exprs) -> Result<u32, OutOfMemory>
+    requires valid { IsNode (shapes_of nodes.old) (Select input conds) }
+    requires pushed { ArePushed nodes.old }
+    ensures narrows { IfOk result (λ n. Narrows nodes.old nodes.new input n conds) }
+    ensures pushed { OnOk result (ArePushed nodes.new) }
+{
+    if conds.as_slice().is_empty() {
+        return Ok(input);
+    }
+    let n = selected(alloc, nodes, input, conds)?;
+    Ok(n)
+}

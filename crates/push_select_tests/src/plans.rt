@@ -1,0 +1,131 @@
+//! Plans of programs that are pushed, by their texts.
+
+use crate::programs::typed;
+use plan_maker::{lower, plan_text};
+use push_select::push;
+use std::test::Fail;
+
+/// Two views of a column each: `x` is column 0 of its product with the other, and `y` column 1.
+const VIEWS: &str = "create view A as extract regex /a/ on d.text as x from Document d;
+     create view B as extract regex /b/ on d.text as y from Document d;";
+
+/// Their nodes.
+const NODES: &str = "0 Doc
+1 Regex 0
+2 Project 1
+3 Regex 0
+4 Project 3
+";
+
+/// Conditions on the two views, and what their plan has in place of a product and a selection above it.
+static PUSHED: [(&str, &str); 7] = [
+    (
+        "FollowsTok(a.x, b.y, 0, 2)",
+        "5 Cross 2 4
+6 SpanJoin 2 4
+7 Project 6
+out C 7
+",
+    ),
+    (
+        "Contains(b.y, a.x)",
+        "5 Cross 2 4
+6 SpanJoin 2 4
+7 Project 6
+out C 7
+",
+    ),
+    (
+        "ContainsRegex(/c/, b.y) and GreaterThan(GetBegin(b.y), GetBegin(a.x))",
+        "5 Cross 2 4
+6 Select 4
+7 Cross 2 6
+8 Select 7
+9 Project 8
+out C 9
+",
+    ),
+    (
+        "Overlaps(b.y, a.x) and And(Equals(a.x, b.y), MatchesRegex(/d/, b.y))",
+        "5 Cross 2 4
+6 Select 4
+7 SpanJoin 2 6
+8 Select 7
+9 Project 8
+out C 9
+",
+    ),
+    (
+        "Follows(a.x, b.y, 0, 9) and Follows(b.y, a.x, 0, 9)",
+        "5 Cross 2 4
+6 SpanJoin 2 4
+7 Select 6
+8 Project 7
+out C 8
+",
+    ),
+    (
+        "Contains(a.x, b.y) and ContainsRegex(/c/, a.x) and Overlaps(a.x, b.y)",
+        "5 Select 2
+6 Cross 5 4
+7 SpanJoin 5 4
+8 Select 7
+9 Project 8
+out C 9
+",
+    ),
+    (
+        "Or(Overlaps(a.x, b.y), Contains(a.x, b.y))",
+        "5 Cross 2 4
+6 Cross 2 4
+7 Select 6
+8 Project 7
+out C 8
+",
+    ),
+];
+
+#[test]
+fn conditions_go_down_and_products_become_joins(rt: HostRuntime) -> Result<(), Fail> {
+    let alloc = rt.alloc();
+    for (conds, want) in &PUSHED {
+        let program = format!(in alloc;
+            "{VIEWS} create view C as select a.x, b.y from A a, B b where {conds}; output view C;"
+        )?;
+        let plan = push(alloc, lower(alloc, typed(alloc, program.as_str())?)?)?;
+        let got = plan_text(alloc, &plan)?;
+        let want = format!(in alloc; "{NODES}{want}")?;
+        assert_eq!(rt; got.as_str(), want.as_str(), "of {conds}");
+    }
+    Ok(())
+}
+
+/// Three views: `b` is joined to `a`, and `c` to both.
+const THREE: &str = "create view Word as extract regex /[a-z]+/ on d.text as word from Document d;
+     create view Three as
+       select a.word as first, b.word as second, c.word as third from Word a, Word b, Word c
+       where Follows(a.word, b.word, 0, 1) and FollowsTok(b.word, c.word, 0, 1) and ContainsRegex(/x/, c.word)
+       consolidate on a.word order by first limit 3;
+     output view Three;";
+
+#[test]
+fn three_views_have_no_product_that_is_read(rt: HostRuntime) -> Result<(), Fail> {
+    let alloc = rt.alloc();
+    let plan = push(alloc, lower(alloc, typed(alloc, THREE)?)?)?;
+    let got = plan_text(alloc, &plan)?;
+    let want = "0 Doc
+1 Regex 0
+2 Project 1
+3 Cross 2 2
+4 SpanJoin 2 2
+5 Cross 4 2
+6 Select 2
+7 SpanJoin 4 6
+8 Consolidate 7
+9 Project 8
+10 OrderLimit 9
+out Three 10
+";
+    assert_eq!(rt; got.as_str(), want);
+    Ok(())
+}
