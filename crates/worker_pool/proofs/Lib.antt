@@ -1,0 +1,8 @@
+-- pages: what is known of nodes on one document
+pub mod Paging
+-- boards that are filled document by document
+pub mod Boarding
+-- what workers share, and what is sent to them
+pub mod Crosses
+-- seats that are dealt to workers
+pub mod Seating
