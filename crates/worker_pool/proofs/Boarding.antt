@@ -1,19 +1,16 @@
 -- Boards that are filled document by document, with the results of pages.
-use Rattle.std.proofs.Common.{◌≡◌, ◌≢◌, ◌⊎◌, inl, inr, ℕ, ◌<◌, ◌≤◌, ◌+◌, ◌*◌, Bool, true, false, List, [], ◌∷◌, length, get_or, set, refl, sym, ap, subst, ◌∙◌, arith, Option, Some, None, true≢false}
+use Rattle.std.proofs.Common.{◌≡◌, ◌≢◌, ◌⊎◌, inl, inr, ℕ, ◌<◌, ◌≤◌, ◌+◌, ◌*◌, Bool, true, false, List, [], ◌∷◌, length, get_or, set, refl, sym, ap, subst, ◌∙◌, arith, add-mul, Option, Some, None, true≢false}
 use Rattle.std.specs.Prelude.{IsSome, is_some, option_map, slice_get, replicate, All, Contains}
-use Rattle.std.specs.List.{AllZip}
 use Rattle.std.proofs.lemmas.Bool.{cases_eq, cases_lt}
-use Rattle.std.proofs.lemmas.List.{length-set, length-replicate, get_or-set_same, get_or-set_other, get_or-replicate, get_or_past}
-use Rattle.std.proofs.lemmas.List.Elements.{All-contains, All-head, All-map, All-tail, All-weaker}
-use Rattle.std.proofs.lemmas.Option.{none-some, same_Some, slice_get_within}
-use Rattle.std.proofs.Math.Nat.{add-mul}
+use Rattle.std.proofs.lemmas.List.{length-set, length-replicate, get_or-replicate, get_or_past}
+use Rattle.std.proofs.lemmas.List.Elements.{All-contains, All-map, All-weaker}
+use Rattle.std.proofs.lemmas.Option.{none-some, slice_get_within}
 use Rattle.span_token.specs.Documents.{Doc as Document}
 use Rattle.row_values.specs.Rows.{RowList}
 use Rattle.algebra.specs.declared.node.Node.{Node}
 use Rattle.algebra.specs.declared.output.PlanOut.{PlanOut}
 use Rattle.algebra.specs.ItemLaws.{place_of}
-use Rattle.algebra.specs.Items.{Place, HasInput, item_at, output_nodes}
-use Rattle.algebra.specs.Needed.{IsNeeded}
+use Rattle.algebra.specs.Items.{item_at, item_count, output_nodes}
 use Rattle.algebra.specs.Nodes.{IsPlan}
 use Rattle.algebra.specs.Plans.{Parts}
 use Rattle.run_core.specs.declared.event.Event.TheVariants.{Claim, Publish}
@@ -24,9 +21,9 @@ use Rattle.run_core.specs.StepLaws.{standing-after, claim-here, publish-here}
 use Rattle.run_core.specs.Wanted.{IsWanted, IsReady}
 use Rattle.run_core.specs.WantedLaws.{wanted-grows, ready-grows, wanted-least, all-published}
 use Rattle.run_tables.specs.Items.{ItemRows}
-use Rattle.worker_pool.specs.Evaluations.{IsComplete, AreOutputRows}
+use Rattle.worker_pool.specs.Evaluations.{IsComplete}
 use Rattle.worker_pool.specs.Filling.{IsDoneOn, IsFilledTo, IsFilling, HasPut}
-use Rattle.worker_pool.specs.Pages.{empty_page, known_at, rows_on, IsResultOf, IsPage, IsNext}
+use Rattle.worker_pool.specs.Pages.{known_at, rows_on, AreKnown, IsBlank, IsResultOf, IsPage, IsNext}
 use Rattle.worker_pool.proofs.Paging.{document_at, set_known, more-put, page-put, result-has, agrees}
 
 not_some : {X : Type 0} (o : Option X) → is_some o ≡ false → o ≡ None
@@ -52,28 +49,18 @@ has-put board worker item list below =
       others = λ i other. standing-after mid (Publish worker item) (Some list) i other ∙ standing-after board (Claim worker item) None i other;
     }
 
-abbrev nothing : Option ItemRows
-nothing = None
-
--- nothing is known on an empty page
-empty_at : (count n : ℕ) → known_at (empty_page count) n ≡ None
-empty_at count n = elim (cases_lt n count) [
-  | inl below ↦ get_or-replicate count n nothing nothing below
-  | inr past ↦ get_or_past (empty_page count) n nothing (omega (arith, length-replicate count nothing, past))
-]
-
-empty_rows : (count n : ℕ) → rows_on (empty_page count) n ≡ None
-empty_rows count n = ap (λ (x : Option ItemRows). option_map (λ (y : ItemRows). y.rows) x) (empty_at count n)
+-- where nothing is known, there are no rows
+blank_rows : (known : List (Option ItemRows)) → IsBlank known → (n : ℕ) → rows_on known n ≡ None
+blank_rows known blank n = ap (λ (x : Option ItemRows). option_map (λ (y : ItemRows). y.rows) x) (blank n)
 
 fresh_at : (plan : Parts) (docs : List Document) (i : ℕ) → standing (fresh plan docs) i ≡ untouched
-fresh_at plan docs i = elim (cases_lt i (length docs * length plan.nodes)) [
-  | inl below ↦ get_or-replicate (length docs * length plan.nodes) i untouched untouched below
-  | inr past ↦ get_or_past (replicate (length docs * length plan.nodes) untouched) i untouched (omega (arith, length-replicate (length docs * length plan.nodes) untouched, past))
+fresh_at plan docs i = elim (cases_lt i (item_count plan docs)) [
+  | inl below ↦ get_or-replicate (item_count plan docs) i untouched untouched below
+  | inr past ↦ get_or_past (replicate (item_count plan docs) untouched) i untouched (omega (arith, length-replicate (item_count plan docs) untouched, past))
 ]
 
--- before the first document
-pub filled-fresh : (plan : Parts) (docs : List Document) → IsFilledTo plan docs 0 (item_at plan 0 0) (fresh plan docs)
-filled-fresh plan docs = record {
+fresh_filled : (plan : Parts) (docs : List Document) → IsFilledTo plan docs 0 (item_at plan 0 0) (fresh plan docs)
+fresh_filled plan docs = record {
   plan_is = refl;
   docs_are = refl;
   before = λ e below. absurd (omega (arith, below));
@@ -81,14 +68,22 @@ filled-fresh plan docs = record {
   behind = λ i past. fresh_at plan docs i;
 }
 
+-- before the first document
+pub filled-fresh : (plan plan' : Parts) (docs docs' : List Document) (board : State) → plan' ≡ plan → docs' ≡ docs → board ≡ fresh plan' docs' → IsFilledTo plan docs 0 (item_at plan 0 0) board
+filled-fresh plan plan' docs docs' board plan_is docs_are is =
+    subst (λ (p : Parts). IsFilledTo p docs 0 (item_at p 0 0) board) plan_is
+    (subst (λ (ds : List Document). IsFilledTo plan' ds 0 (item_at plan' 0 0) board) docs_are
+    (subst (IsFilledTo plan' docs' 0 (item_at plan' 0 0)) (sym is) (fresh_filled plan' docs')))
+
 -- the first item of the next document
 next_first : (plan : Parts) (d : ℕ) → item_at plan (d + 1) 0 ≡ item_at plan d 0 + length plan.nodes
 next_first plan d = omega (arith, add-mul d 1 (length plan.nodes))
 
 module _ (board : State) (d : ℕ) where
   -- a document begins
-  start : IsFilledTo board.plan board.docs d (item_at board.plan d 0) board → d < length board.docs → IsFilling board.plan board.docs d board (empty_page (length board.plan.nodes))
-  start filled there = record {
+  start : (known : List (Option ItemRows)) → IsFilledTo board.plan board.docs d (item_at board.plan d 0) board → IsPage board.plan board.docs d known → IsBlank known
+      → IsFilling board.plan board.docs d board known
+  start known filled page blank = record {
     filled = record {
       plan_is = refl;
       docs_are = refl;
@@ -96,13 +91,9 @@ module _ (board : State) (d : ℕ) where
       together = filled.together;
       behind = λ i past. filled.behind i (omega (arith, past, next_first board.plan d));
     };
-    page = record {
-      sized = length-replicate (length board.plan.nodes) nothing;
-      there = there;
-      each = λ n found is. absurd (none-some found (sym (empty_at (length board.plan.nodes) n) ∙ is));
-    };
-    shown = λ n. ap (λ (s : Standing). s.rows) (filled.behind (item_at board.plan d n) (omega arith)) ∙ sym (empty_rows (length board.plan.nodes) n);
-    closed = λ n node is there. absurd (true≢false (sym there ∙ ap is_some (empty_rows (length board.plan.nodes) n)));
+    page = page;
+    shown = λ n. ap (λ (s : Standing). s.rows) (filled.behind (item_at board.plan d n) (omega arith)) ∙ sym (blank_rows known blank n);
+    closed = λ n node is there. absurd (true≢false (sym there ∙ ap is_some (blank_rows known blank n)));
   }
 
   module _ (known : List (Option ItemRows)) (filling : IsFilling board.plan board.docs d board known) where
@@ -186,7 +177,7 @@ module _ (board : State) (d : ℕ) where
           }
 
     -- a document is done where its outputs are known
-    module _ (planned : IsPlan board.plan.nodes) (outputs : All (λ (out : PlanOut). IsSome (known_at known out.node)) board.plan.outputs) where
+    module _ (planned : IsPlan board.plan.nodes) (outputs : AreKnown known board.plan.outputs) where
       known_seen : (x : Option ItemRows) → IsSome x → IsSome (option_map (λ (y : ItemRows). y.rows) x)
       known_seen None e = absurd (true≢false (sym e))
       known_seen (Some x) e = refl
@@ -211,7 +202,7 @@ module _ (board : State) (d : ℕ) where
         docs_are = refl;
         before = λ e earlier. elim (cases_lt e d) [
           | inl before ↦ filling.filled.before e before
-          | inr last ↦ subst (IsDoneOn board.plan board.docs board) (omega (arith, earlier, last)) done_here
+          | inr last ↦ let same : d ≡ e = omega (arith, earlier, last) in subst (λ (k : ℕ). IsDoneOn board.plan board.docs board k) same done_here
         ];
         together = filling.filled.together;
         behind = filling.filled.behind;
@@ -225,43 +216,62 @@ module _ (plan : Parts) (docs : List Document) (d : ℕ) (board : State) where
   from_board : (P : Parts → List Document → Type 0) → board.plan ≡ plan → board.docs ≡ docs → P board.plan board.docs → P plan docs
   from_board P plan_is docs_are holds = subst (λ (p : Parts). P p docs) plan_is (subst (λ (ds : List Document). P board.plan ds) docs_are holds)
 
-  pub filling-start : IsFilledTo plan docs d (item_at plan d 0) board → d < length docs → IsFilling plan docs d board (empty_page (length plan.nodes))
-  filling-start filled there =
-      from_board (λ p ds. IsFilling p ds d board (empty_page (length p.nodes))) filled.plan_is filled.docs_are
-      (start board d (at_board (λ p ds. IsFilledTo p ds d (item_at p d 0) board) filled.plan_is filled.docs_are filled) (at_board (λ p ds. d < length ds) filled.plan_is filled.docs_are there))
+  -- what a page that is blank makes of it
+  pub filling-start : (d' : ℕ) (known : List (Option ItemRows)) → d' ≡ d → IsFilledTo plan docs d (item_at plan d 0) board → IsPage plan docs d' known → IsBlank known → IsFilling plan docs d' board known
+  filling-start d' known document filled page blank =
+      subst (λ (k : ℕ). IsFilling plan docs k board known) (sym document)
+      (from_board (λ p ds. IsFilling p ds d board known) filled.plan_is filled.docs_are
+      (start board d known (at_board (λ p ds. IsFilledTo p ds d (item_at p d 0) board) filled.plan_is filled.docs_are filled)
+      (at_board (λ p ds. IsPage p ds d known) filled.plan_is filled.docs_are (subst (λ (k : ℕ). IsPage plan docs k known) document page)) blank))
 
   module _ (known : List (Option ItemRows)) (filling : IsFilling plan docs d board known) where
     own : IsFilling board.plan board.docs d board known
     own = at_board (λ p ds. IsFilling p ds d board known) filling.filled.plan_is filling.filled.docs_are filling
 
-    module _ (n : ℕ) (next : IsNext plan known n) where
+    -- the node that is taken up next, and its item
+    module _ (n : ℕ) (next : IsNext plan known n) (item : ℕ) (is : item ≡ item_at plan d n) where
       own_next : IsNext board.plan known n
       own_next = at_board (λ p ds. IsNext p known n) filling.filled.plan_is filling.filled.docs_are next
 
-      pub next-may_claim : MayClaim board (item_at plan d n)
-      next-may_claim = from_board (λ p ds. MayClaim board (item_at p d n)) filling.filled.plan_is filling.filled.docs_are (may_claim board d known own n own_next)
+      pub next-may_claim : MayClaim board item
+      next-may_claim =
+          subst (MayClaim board) (sym is) (from_board (λ p ds. MayClaim board (item_at p d n)) filling.filled.plan_is filling.filled.docs_are (may_claim board d known own n own_next))
 
-      pub next-unpublished : (standing board (item_at plan d n)).rows ≡ None
-      next-unpublished = from_board (λ p ds. (standing board (item_at p d n)).rows ≡ None) filling.filled.plan_is filling.filled.docs_are (unpublished board d known own n own_next)
+      pub next-unpublished : (standing board item).rows ≡ None
+      next-unpublished =
+          subst (λ (i : ℕ). (standing board i).rows ≡ None) (sym is)
+          (from_board (λ p ds. (standing board (item_at p d n)).rows ≡ None) filling.filled.plan_is filling.filled.docs_are (unpublished board d known own n own_next))
 
-      module _ (found : ItemRows) (result : IsResultOf plan docs d n found) where
+      -- and its rows
+      module _ (found : ItemRows) (result : IsResultOf plan docs d n found) (list : RowList) (same : list ≡ found.rows) where
         own_result : IsResultOf board.plan board.docs d n found
         own_result = at_board (λ p ds. IsResultOf p ds d n found) filling.filled.plan_is filling.filled.docs_are result
 
-        pub next-value : IsValueAt board.plan board.docs (item_at plan d n) found.rows
+        own_item : item_at board.plan d n ≡ item
+        own_item = ap (λ (p : Parts). item_at p d n) filling.filled.plan_is ∙ sym is
+
+        pub next-value : IsValueAt board.plan board.docs item list
         next-value =
-            subst (λ (p : Parts). IsValueAt board.plan board.docs (item_at p d n) found.rows) filling.filled.plan_is (value board d known own n own_next found own_result)
+            subst (λ (i : ℕ). IsValueAt board.plan board.docs i list) own_item
+            (subst (IsValueAt board.plan board.docs (item_at board.plan d n)) (sym same) (value board d known own n own_next found own_result))
 
-        pub filling-put : (new : State) → HasPut board new (item_at plan d n) found.rows → IsFilling plan docs d new (set known n (Some found))
-        filling-put new put =
-            from_board (λ p ds. IsFilling p ds d new (set known n (Some found))) filling.filled.plan_is filling.filled.docs_are
-            (after_put board d known own n own_next found own_result new (at_board (λ p ds. HasPut board new (item_at p d n) found.rows) filling.filled.plan_is filling.filled.docs_are put))
+        own_put : (new : State) → HasPut board new item list → HasPut board new (item_at board.plan d n) found.rows
+        own_put new put =
+            subst (λ (i : ℕ). HasPut board new i found.rows) (sym own_item) (subst (HasPut board new item) same put)
 
-    pub filling-done : IsPlan plan.nodes → All (λ (out : PlanOut). IsSome (known_at known out.node)) plan.outputs → IsFilledTo plan docs (d + 1) (item_at plan (d + 1) 0) board
-    filling-done planned outputs =
-        from_board (λ p ds. IsFilledTo p ds (d + 1) (item_at p (d + 1) 0) board) filling.filled.plan_is filling.filled.docs_are
+        pub filling-put : (new : State) (d' : ℕ) (known' : List (Option ItemRows)) → HasPut board new item list → d' ≡ d → known' ≡ set known n (Some found) → IsFilling plan docs d' new known'
+        filling-put new d' known' put document page =
+            subst (λ (k : ℕ). IsFilling plan docs k new known') (sym document)
+            (subst (λ (page : List (Option ItemRows)). IsFilling plan docs d new page) (sym page)
+            (from_board (λ p ds. IsFilling p ds d new (set known n (Some found))) filling.filled.plan_is filling.filled.docs_are
+            (after_put board d known own n own_next found own_result new (own_put new put))))
+
+    pub filling-done : (d' : ℕ) → d ≡ d' → IsPlan plan.nodes → AreKnown known plan.outputs → IsFilledTo plan docs (d' + 1) (item_at plan (d' + 1) 0) board
+    filling-done d' document planned outputs =
+        subst (λ (k : ℕ). IsFilledTo plan docs (k + 1) (item_at plan (k + 1) 0) board) document
+        (from_board (λ p ds. IsFilledTo p ds (d + 1) (item_at p (d + 1) 0) board) filling.filled.plan_is filling.filled.docs_are
         (done board d known own (at_board (λ p ds. IsPlan p.nodes) filling.filled.plan_is filling.filled.docs_are planned)
-        (at_board (λ p ds. All (λ (out : PlanOut). IsSome (known_at known out.node)) p.outputs) filling.filled.plan_is filling.filled.docs_are outputs))
+        (at_board (λ p ds. AreKnown known p.outputs) filling.filled.plan_is filling.filled.docs_are outputs)))
 
 -- a board on which all documents are done is complete
 module _ (board : State) (sound : IsSound board) (filled : IsFilledTo board.plan board.docs (length board.docs) (item_at board.plan (length board.docs) 0) board) where
@@ -285,20 +295,3 @@ module _ (board : State) (sound : IsSound board) (filled : IsFilledTo board.plan
 pub complete-filled : (plan : Parts) (docs : List Document) (board : State) → IsSound board → IsFilledTo plan docs (length docs) (item_at plan (length docs) 0) board → IsComplete board
 complete-filled plan docs board sound filled =
     complete board sound (at_board plan docs 0 board (λ p ds. IsFilledTo p ds (length ds) (item_at p (length ds) 0) board) filled.plan_is filled.docs_are filled)
-
--- rows of outputs that are known are what the outputs show
-module _ (plan : Parts) (docs : List Document) (d : ℕ) (doc : Document) (doc_is : slice_get docs d ≡ Some doc) (known : List (Option ItemRows)) (page : IsPage plan docs d known) where
-  show_one : (n : ℕ) (list : RowList) (x : Option ItemRows) → known_at known n ≡ x → n < length plan.nodes → option_map (λ (y : ItemRows). y.rows) x ≡ Some list → HasInput plan.lists doc plan.nodes (Some n) list
-  show_one n list None is below e = absurd (none-some list e)
-  show_one n list (Some found) is below e =
-      subst (HasInput plan.lists doc plan.nodes (Some n)) (same_Some found.rows list e) (result-has plan docs d doc doc_is n found below (page.each n found is))
-
-  pub shows-known : (outs : List PlanOut) (shown : List RowList) → All (λ (out : PlanOut). out.node < length plan.nodes) outs
-      → AllZip (λ (out : PlanOut) (list : RowList). rows_on known out.node ≡ Some list) outs shown → AllZip (λ (out : PlanOut) (list : RowList). HasInput plan.lists doc plan.nodes (Some out.node) list) outs shown
-  shows-known [] [] below are = tt
-  shows-known [] (list ∷ shown) below are = absurd are
-  shows-known (out ∷ outs) [] below are = absurd are
-  shows-known (out ∷ outs) (list ∷ shown) below are = (
-    show_one out.node list (known_at known out.node) refl (All-head (λ (o : PlanOut). o.node < length plan.nodes) out outs below) are.0,
-    shows-known outs shown (All-tail (λ (o : PlanOut). o.node < length plan.nodes) out outs below) are.1,
-  )

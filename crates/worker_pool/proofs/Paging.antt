@@ -1,11 +1,12 @@
 -- Pages: what is known of the nodes of a plan on one document, and the node that is taken up next.
-use Rattle.std.proofs.Common.{◌≡◌, ◌≢◌, ◌⊎◌, inl, inr, ℕ, ◌<◌, ◌+◌, Bool, true, false, cond, List, [], ◌∷◌, length, get_or, set, refl, sym, ap, subst, ◌∙◌, arith, Option, Some, None, true≢false}
+use Rattle.std.proofs.Common.{◌≡◌, ◌≢◌, ◌⊎◌, inl, inr, ℕ, ◌<◌, ◌+◌, Bool, true, false, cond, List, [], ◌∷◌, length, get_or, set, refl, sym, ap, subst, ◌∙◌, arith, Option, Some, None, Result, OnOk, true≢false}
 use Rattle.std.specs.Prelude.{◌↔◌, IsTrue, IsSome, IfSome, is_some, map, not, option_map, slice_get, Contains}
-use Rattle.std.proofs.lemmas.Bool.{cases_eq}
-use Rattle.std.proofs.lemmas.List.{length-map, length-set, get_or-map, get_or-set_same, get_or-set_other}
+use Rattle.std.proofs.lemmas.Bool.{cases_eq, cases_lt}
+use Rattle.std.proofs.lemmas.List.{length-map, length-replicate, length-set, get_or-map, get_or-replicate, get_or-set_same, get_or-set_other, get_or_past}
 use Rattle.std.proofs.lemmas.List.Elements.{All-weaker}
 use Rattle.std.proofs.lemmas.List.Sums.{sum_by-set}
 use Rattle.std.proofs.lemmas.Option.{none-some, same_Some, slice_get_cases, slice_get_read}
+use Rattle.std.proofs.lemmas.Result.{on_ok_weaker}
 use Rattle.aql_base.specs.Bags.{SameBag}
 use Rattle.span_token.specs.Documents.{Doc as Document}
 use Rattle.row_values.specs.Rows.{RowList}
@@ -24,7 +25,7 @@ use Rattle.algebra.specs.Values.{val}
 use Rattle.run_core.specs.Wanted.{rows_of, given, AsksFor, IsWanted, output, IsReady}
 use Rattle.run_core.specs.WantedLaws.{Agrees, wanted-grows, wanted-needed}
 use Rattle.run_tables.specs.Items.{ItemRows, IsOfInput, GoesWithout, MayCompute}
-use Rattle.worker_pool.specs.Pages.{known_at, known_of, rows_on, unknown_count, IsResultOf, IsPage, AreWaiting, IsReadyOn, IsMissing, IsNext, IsSeen, IsAlwaysWanted}
+use Rattle.worker_pool.specs.Pages.{empty_page, known_at, known_of, rows_on, unknown_count, IsBlank, KnowsMore, IsResultOf, IsPage, AreWaiting, IsReadyOn, IsMissing, IsNext, IsSeen, IsAlwaysWanted}
 
 cons_nil : {X : Type 0} (x : X) (xs : List X) → x ∷ xs ≡ [] → ⊥
 cons_nil x xs e = cc
@@ -40,6 +41,35 @@ document_at docs d below = elim (slice_get_cases docs d).1 [
   | inl found ↦ (found.0, found.2)
   | inr past ↦ absurd (omega (arith, below, past.0))
 ]
+
+abbrev nothing : Option ItemRows
+nothing = None
+
+-- nothing is known on an empty page
+empty_at : (count n : ℕ) → known_at (empty_page count) n ≡ None
+empty_at count n = elim (cases_lt n count) [
+  | inl below ↦ get_or-replicate count n nothing nothing below
+  | inr past ↦ get_or_past (empty_page count) n nothing (omega (arith, length-replicate count nothing, past))
+]
+
+empty_blank : (count : ℕ) (known : List (Option ItemRows)) → known ≡ empty_page count → IsBlank known
+empty_blank count known is = λ n. ap (λ (page : List (Option ItemRows)). known_at page n) is ∙ empty_at count n
+
+-- and it is a page of each document
+empty_is : (plan : Parts) (docs : List Document) (d count : ℕ) (known : List (Option ItemRows)) → d < length docs → count ≡ length plan.nodes → known ≡ empty_page count → IsPage plan docs d known
+empty_is plan docs d count known there all is = record {
+  sized = ap (λ (page : List (Option ItemRows)). length page) is ∙ (length-replicate count nothing ∙ all);
+  there = there;
+  each = λ n found e. absurd (none-some found (sym (empty_blank count known is n) ∙ e));
+}
+
+-- the same of a page that a call makes
+module _ {T E : Type 0} (r : Result T E) (count : ℕ) (known : List (Option ItemRows)) where
+  pub begun-page : (plan : Parts) (docs : List Document) (d : ℕ) → d < length docs → count ≡ length plan.nodes → OnOk r (known ≡ empty_page count) → OnOk r (IsPage plan docs d known)
+  begun-page plan docs d there all made = on_ok_weaker r (empty_is plan docs d count known there all) made
+
+  pub begun-blank : OnOk r (known ≡ empty_page count) → OnOk r (IsBlank known)
+  begun-blank made = on_ok_weaker r (empty_blank count known) made
 
 -- an element of a page in which one place was set, or another one
 set_known : (known : List (Option ItemRows)) (n m : ℕ) (put : Option ItemRows) → n < length known
@@ -68,9 +98,12 @@ module _ (known : List (Option ItemRows)) (n : ℕ) (found : ItemRows) (below : 
   waiting-put plan path waiting =
       All-weaker (IsWanted plan (rows_on known)) (IsWanted plan (rows_on (set known n (Some found)))) (wanted-grows plan (rows_on known) (rows_on (set known n (Some found))) more-put) path waiting
 
-  -- and it is known
-  pub known-put : IsSome (known_at (set known n (Some found)) n)
-  known-put = ap is_some (get_or-set_same known n (Some found) None below)
+  -- what is known still is
+  knows_more : KnowsMore known (set known n (Some found))
+  knows_more = λ m there. elim (set_known known n m (Some found) below) [
+    | inl here ↦ ap is_some here.1
+    | inr other ↦ ap is_some other.1 ∙ there
+  ]
 
 module _ (plan : Parts) (docs : List Document) (d : ℕ) where
   pub page-put : (known : List (Option ItemRows)) (n : ℕ) (found : ItemRows) → n < length plan.nodes → IsPage plan docs d known → IsResultOf plan docs d n found → IsPage plan docs d (set known n (Some found))
@@ -82,6 +115,27 @@ module _ (plan : Parts) (docs : List Document) (d : ℕ) where
       | inr there ↦ page.each m x (sym there.1 ∙ is)
     ];
   }
+
+  -- what becomes of a page on which a result is put
+  module _ (d' : ℕ) (known known' : List (Option ItemRows)) (n : ℕ) (found : ItemRows) (document : d' ≡ d) (put : known' ≡ set known n (Some found))
+      (page : IsPage plan docs d known) (next : IsNext plan known n) where
+    within : n < length known
+    within = omega (arith, next.there, page.sized)
+
+    at_put : (P : List (Option ItemRows) → Type 0) → P (set known n (Some found)) → P known'
+    at_put P holds = subst P (sym put) holds
+
+    pub put-page : IsResultOf plan docs d n found → IsPage plan docs d' known'
+    put-page result = subst (λ (k : ℕ). IsPage plan docs k known') (sym document) (at_put (IsPage plan docs d) (page-put known n found next.there page result))
+
+    pub put-waiting : (path : List ℕ) → AreWaiting plan known path → AreWaiting plan known' path
+    put-waiting path waiting = at_put (λ page. AreWaiting plan page path) (waiting-put known n found within next.unseen plan path waiting)
+
+    pub put-more : KnowsMore known known'
+    put-more = at_put (KnowsMore known) (knows_more known n found within next.unseen)
+
+    pub put-fewer : unknown_count known' < unknown_count known
+    put-fewer = at_put (λ page. unknown_count page < unknown_count known) (fewer-put known n found within next.unseen)
 
   -- the result of a node has what the node is worth
   pub result-has : (doc : Document) → slice_get docs d ≡ Some doc → (n : ℕ) (found : ItemRows) → n < length plan.nodes → IsResultOf plan docs d n found → HasInput plan.lists doc plan.nodes (Some n) found.rows
@@ -141,7 +195,7 @@ module _ (plan : Parts) (docs : List Document) (d : ℕ) where
         by_found None none = inr (record {
           conditional = conditional_here i right none (is_conditional node) refl;
           left_empty = left_empty i right none (known_of known (left_input node)) refl;
-          none = none;
+          right_absent = none;
         })
         by_found (Some x) is = inl (known_item i (known_at known i) refl (ap is_some is))
 

@@ -9,6 +9,7 @@ use Rattle.algebra.specs.Plans.{Parts}
 use Rattle.run_core.specs.Boards.{State, untouched, standing}
 use Rattle.run_core.specs.Wanted.{IsReady}
 use Rattle.run_tables.specs.Items.{ItemRows}
+use Rattle.worker_pool.specs.Evaluations.{AreOutputRows}
 use Rattle.worker_pool.specs.Pages.{IsPage, rows_on}
 
 -- what is needed on document d is published
@@ -38,3 +39,7 @@ pub record HasPut (old new : State) (item : ℕ) (list : RowList) : Type 0 where
   pub rows : (standing new item).rows ≡ Some list
   pub claim : IsSome (standing new item).claim
   pub others : (i : ℕ) → i ≢ item → standing new i ≡ standing old i
+
+-- the lists are the rows of the outputs on document d
+abbrev pub IsAnswerOn : Parts → List Doc → ℕ → List RowList → Type 0
+IsAnswerOn plan docs d shown = (doc : Doc) → slice_get docs d ≡ Some doc → AreOutputRows plan doc shown

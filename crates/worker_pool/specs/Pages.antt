@@ -3,6 +3,7 @@ use Rattle.std.specs.Prelude.{ℕ, ◌≡◌, ◌<◌, not, is_some, List, Optio
 use Rattle.span_token.specs.Documents.{Doc}
 use Rattle.row_values.specs.Rows.{RowList}
 use Rattle.algebra.specs.declared.node.Node.{Node}
+use Rattle.algebra.specs.declared.output.PlanOut.{PlanOut}
 use Rattle.algebra.specs.Items.{item_at}
 use Rattle.algebra.specs.Plans.{Parts}
 use Rattle.run_core.specs.Wanted.{AsksFor, IsWanted, IsReady}
@@ -24,6 +25,18 @@ known_of known (Some i) = known_at known i
 -- the rows of a node, where they are known
 abbrev pub rows_on : List (Option ItemRows) → ℕ → Option RowList
 rows_on known n = option_map (λ found. found.rows) (known_at known n)
+
+-- nothing is known
+abbrev pub IsBlank : List (Option ItemRows) → Type 0
+IsBlank known = (n : ℕ) → known_at known n ≡ None
+
+-- what was known still is
+abbrev pub KnowsMore : List (Option ItemRows) → List (Option ItemRows) → Type 0
+KnowsMore old new = (n : ℕ) → IsSome (known_at old n) → IsSome (known_at new n)
+
+-- the node of each of these outputs is known
+abbrev pub AreKnown : List (Option ItemRows) → List PlanOut → Type 0
+AreKnown known outs = All (λ (out : PlanOut). IsSome (known_at known out.node)) outs
 
 -- how many nodes aren't known
 abbrev pub unknown_count : List (Option ItemRows) → ℕ

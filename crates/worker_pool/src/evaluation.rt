@@ -3,10 +3,10 @@ ghost use Rattle.algebra.specs.Items.{item_count};
 ghost use Rattle.worker_pool.specs.Evaluations.{IsEvaluation};
 ghost use Rattle.worker_pool.specs.Workers.{HaveTools};
 
+use crate::Gate;
 use crate::crew::{Crew, Worker};
 use crate::fill::{Winners, fill};
 use crate::finished::Finished;
-use crate::Gate;
 use crate::run::run;
 use crate::window::Window;
 use algebra::Plan;
@@ -65,15 +65,10 @@ fn evaluate_as<'d, W: Work + Send + Sync, R: Threads + Sync, G: Gate>(
         docs,
     };
     let number = workers.len() as u32;
-    let items = docs.len() * plan.nodes().len() as usize;
-    let words = if number > 1 && items > 0 {
-        run(rt, alloc, &window, workers, items as u32)?
-    } else {
-        Vec::new(alloc)
-    };
+    let words = run(rt, alloc, &window, workers)?;
     let winners = Winners {
         words: words.as_slice(),
         caller: if number > 1 { number } else { 0 },
     };
-    fill(alloc, &window, &mut workers[0].tools, &winners)
+    fill(alloc, &window, &mut workers[0], &winners)
 }

@@ -1,7 +1,7 @@
 //! What is known of the nodes of a plan on one document: a page has for each node its result, where it was
 //! evaluated or seen.
 
-ghost use Rattle.std.specs.Prelude.{◌≡◌, ◌≢◌, ◌↔◌, ◌<◌, [], None, IfNone, IfSome, IsTrue, OnOk, is_some, length, option_map, Some};
+ghost use Rattle.std.specs.Prelude.{◌≡◌, ◌≢◌, ◌↔◌, ◌<◌, [], None, IfNone, IfSome, IsTrue, OnOk, is_some, length, option_map, set, Some};
 ghost use Rattle.algebra.specs.Inputs.{IsAmong};
 ghost use Rattle.algebra.specs.Plans.{Parts};
 ghost use Rattle.run_core.specs.Wanted.{given};
@@ -23,6 +23,18 @@ pub(crate) fn clear_page<'d, W: Work>(
         known.push(None)?;
     }
     Ok(())
+}
+
+/// Puts the result of node `n` on the page.
+pub(crate) fn put_result<'d, W: Work>(
+    known: &mut Vec<Option<Published<'d, W>>>,
+    n: u32,
+    found: Published<'d, W>,
+)
+    requires there { n < length known.old.items }
+    ensures { known.new.items ≡ set known.old.items n (Some found.entry) }
+{
+    known[n as usize] = Some(found);
 }
 
 /// Whether the node's result is known.
@@ -68,13 +80,7 @@ fn unseen<'d, W: Work>(known: &Vec<Option<Published<'d, W>>>, input: Option<u32>
     ensures seen { IfNone result (IsSeen known.now.items input) }
 {
     match input {
-        Some(i) => {
-            if has(known, i) {
-                None
-            } else {
-                Some(i)
-            }
-        }
+        Some(i) => { if has(known, i) { None } else { Some(i) } }
         None => None,
     }
 }

@@ -1,11 +1,11 @@
-ghost use Rattle.std.specs.Prelude.{◌≡◌, ◌<◌, None, IfOk, OnOk, length};
+ghost use Rattle.std.specs.Prelude.{◌≡◌, ◌<◌, Some, None, IfOk, OnOk, length, set};
 ghost use Rattle.algebra.specs.Nodes.{IsPlan};
 ghost use Rattle.algebra.specs.Plans.{AreOutputs};
 ghost use Rattle.run_core.specs.Wanted.{IsWanted};
-ghost use Rattle.worker_pool.specs.Pages.{empty_page, known_at, rows_on, AreWaiting, IsAlwaysWanted, IsNext};
+ghost use Rattle.worker_pool.specs.Pages.{known_at, rows_on, unknown_count, AreWaiting, IsAlwaysWanted, IsBlank, IsNext, IsPage, IsResultOf, KnowsMore};
 
 use crate::Gate;
-use crate::page::{has, missing, clear_page};
+use crate::page::{clear_page, has, missing, put_result};
 use crate::window::Window;
 use algebra::Plan;
 use run_tables::{Published, Work};
@@ -37,13 +37,31 @@ impl<'d, W: Work> Walk<'d, W> {
         window: &Window<'_, 'd, W, G>,
         d: usize,
     ) -> Result<(), OutOfMemory>
+        requires there { d < length W.docs }
         ensures document { self.new.d ≡ d }
-        ensures page { OnOk result (self.new.page.items ≡ empty_page (length W.plan.nodes)) }
+        ensures page { OnOk result (IsPage W.plan W.docs self.new.d self.new.page.items) }
+        ensures blank { OnOk result (IsBlank self.new.page.items) }
         ensures path { AreWaiting W.plan self.new.page.items self.new.path.items }
     {
         self.d = d;
         self.path.clear();
         clear_page(&mut self.page, window.nodes())
+    }
+
+    /// Puts the result of node `n`, which was taken up, on the page.
+    pub(crate) fn put(&mut self, n: u32, found: Published<'d, W>)
+        requires page { IsPage W.plan W.docs self.old.d self.old.page.items }
+        requires path { AreWaiting W.plan self.old.page.items self.old.path.items }
+        requires next { IsNext W.plan self.old.page.items n }
+        requires of_node { IsResultOf W.plan W.docs self.old.d n found }
+        ensures document { self.new.d ≡ self.old.d }
+        ensures put { self.new.page.items ≡ set self.old.page.items n (Some found.entry) }
+        ensures page { IsPage W.plan W.docs self.new.d self.new.page.items }
+        ensures path { AreWaiting W.plan self.new.page.items self.new.path.items }
+        ensures more { KnowsMore self.old.page.items self.new.page.items }
+        ensures fewer { unknown_count self.new.page.items < unknown_count self.old.page.items }
+    {
+        put_result(&mut self.page, n, found);
     }
 }
 

@@ -51,6 +51,13 @@ impl<'a, 'd, W: Work, G: Gate> Window<'a, 'd, W, G> {
         self.plan.outputs().len()
     }
 
+    /// How many items there are.
+    pub(crate) fn items(&self) -> u32
+        ensures { result ≡ item_count W.plan W.docs }
+    {
+        (self.documents() * self.nodes() as usize) as u32
+    }
+
     /// The node of output `i`, from 0.
     pub(crate) fn output(&self, i: usize) -> u32
         requires in_range { i < length W.plan.outputs }

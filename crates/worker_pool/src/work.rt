@@ -2,7 +2,7 @@
 
 ghost use Rattle.std.specs.Prelude.{◌≡◌, ◌<◌, IfOk, OnOk, IsSome, IsSomeAnd, length};
 ghost use Rattle.run_tables.specs.Seats.{SitsAt};
-ghost use Rattle.worker_pool.specs.Pages.{empty_page, known_at, AreWaiting, IsAlwaysWanted, IsNext, IsPage, IsResultOf};
+ghost use Rattle.worker_pool.specs.Pages.{known_at, AreWaiting, IsAlwaysWanted, IsBlank, IsNext, IsPage, IsResultOf};
 ghost use Rattle.worker_pool.specs.Workers.{HasSeat};
 
 use crate::Gate;
@@ -60,8 +60,11 @@ fn work_on<'a, 'd, W: Work, G: Gate>(
     ensures tools { worker.new.tools ≡ W.plan.lists }
 {
     let window = shared.window;
+    if window.outputs() == 0 {
+        return Ok(());
+    }
     walk.begin(window, d)?;
-    if window.outputs() == 0 || is_taken_up(shared, worker, walk)? {
+    if is_taken_up(shared, worker, walk)? {
         return Ok(());
     }
     'outputs: for i in 0..window.outputs() {
@@ -78,18 +81,18 @@ fn is_taken_up<'a, 'd, W: Work, G: Gate>(
 ) -> Result<bool, OutOfMemory>
     requires some { 0 < length W.plan.outputs }
     requires page { IsPage W.plan W.docs walk.old.d walk.old.page.items }
-    requires nothing { walk.old.page.items ≡ empty_page (length W.plan.nodes) }
+    requires blank { IsBlank walk.old.page.items }
     requires path { AreWaiting W.plan walk.old.page.items walk.old.path.items }
     requires seat { HasSeat shared.now.claims.now.table worker.old }
     requires tools { worker.old.tools ≡ W.plan.lists }
-    ensures document { walk.new.d ≡ walk.old.d }
-    ensures page { IsPage W.plan W.docs walk.old.d walk.new.page.items }
+    ensures page { IsPage W.plan W.docs walk.new.d walk.new.page.items }
     ensures path { AreWaiting W.plan walk.new.page.items walk.new.path.items }
     ensures seat { HasSeat shared.now.claims.now.table worker.new }
     ensures tools { worker.new.tools ≡ W.plan.lists }
 {
     let window = shared.window;
-    let n = next_node(window, &walk.page, &mut walk.path, window.output(0))?;
+    let out = window.output(0);
+    let n = next_node(window, &walk.page, &mut walk.path, out)?;
     let item = window.item(walk.d, n);
     Ok(taken(shared.claims, &mut worker.seat, item))
 }
@@ -108,8 +111,7 @@ fn reach<'a, 'd, W: Work, G: Gate>(
     requires wanted { IsAlwaysWanted W.plan out }
     requires seat { HasSeat shared.now.claims.now.table worker.old }
     requires tools { worker.old.tools ≡ W.plan.lists }
-    ensures document { walk.new.d ≡ walk.old.d }
-    ensures page { IsPage W.plan W.docs walk.old.d walk.new.page.items }
+    ensures page { IsPage W.plan W.docs walk.new.d walk.new.page.items }
     ensures path { AreWaiting W.plan walk.new.page.items walk.new.path.items }
     ensures known { OnOk result (IsSome (known_at walk.new.page.items out)) }
     ensures seat { HasSeat shared.now.claims.now.table worker.new }
@@ -118,7 +120,7 @@ fn reach<'a, 'd, W: Work, G: Gate>(
     'nodes: while !has(&walk.page, out) {
         let n = next_node(shared.window, &walk.page, &mut walk.path, out)?;
         let found = item_result(alloc, shared, worker, walk, n)?;
-        walk.page[n as usize] = Some(found);
+        walk.put(n, found);
     }
     Ok(())
 }

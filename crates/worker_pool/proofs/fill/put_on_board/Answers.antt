@@ -24,4 +24,4 @@ returns c =
     let list = arc_value c.args.rows in
     let below = claimed-below board c.args.item c.promise.ensures.sound.holds.sized c.requires.may_claim in
     let both = c.step-2.ensures.after ∙ ap (λ (b : State). after b (Publish c.args.worker c.args.item) (Some list)) c.step.ensures.after in
-    subst (λ (b : State). HasPut board b c.args.item list) (sym both) (has-put board c.args.worker c.args.item list below)
+    record { put = subst (λ (b : State). HasPut board b c.args.item list) (sym both) (has-put board c.args.worker c.args.item list below) }

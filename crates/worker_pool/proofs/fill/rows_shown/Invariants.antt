@@ -4,5 +4,5 @@ use Rattle.std.specs.List.{AllZip}
 use Rattle.worker_pool.specs.Pages.{rows_on}
 use Rattle.worker_pool.proofs.fill.rows_shown.Given as goal
 
-abbrev pub invariant-outputs : goal.invariant-outputs
-invariant-outputs g l = AllZip (λ out list. rows_on l.page.items out.node ≡ Some list) (take l.i g.W.Work.plan.outputs) (map arc_value l.shown.items)
+abbrev pub invariant-each : goal.invariant-each
+invariant-each g l = AllZip (λ out list. rows_on l.page.items out.node ≡ Some list) (take l.i g.W.Work.plan.outputs) (map arc_value l.shown.items)

@@ -1,7 +1,6 @@
 use Rattle.std.proofs.Common.{◌≡◌, ◌≢◌, ◌∙◌, [], List, Some, sym, subst, true, true≢false, ap}
-use Rattle.std.specs.Prelude.{slice_get}
 use Rattle.run_core.specs.Wanted.{given}
-use Rattle.algebra.specs.Inputs.{left_input, right_input, is_conditional}
+use Rattle.algebra.specs.Inputs.{left_input, right_input, is_conditional, IsAmong}
 use Rattle.worker_pool.specs.Pages.{IsSeen, rows_on}
 use Rattle.worker_pool.proofs.Paging.{node-at, ready-both, ready-left, missing-right, no-row}
 use Rattle.worker_pool.proofs.page.missing.Goals as goal
@@ -18,7 +17,16 @@ returns-then-not-has_row-clause-ready g c =
     ready-left plan known c.args.n node at left conditional (ap (given plan (rows_on known)) (sym c.inputs-left.ensures.left) ∙ none)
 
 pub returns-else-is_conditional-clause-missing : goal.returns-else-is_conditional-clause-missing
-returns-else-is_conditional-clause-missing g c = ?
+returns-else-is_conditional-clause-missing g c =
+    let plan = c.args.plan.now in
+    let known = c.args.known.now.items in
+    let node = c.get-node.result.now in
+    let i = c.in-Some-unseen.i in
+    let at = node-at plan.nodes c.nodes.result.now c.args.n node c.nodes.ensures c.requires.there c.get-node.ensures.node in
+    let right : right_input node ≡ Some i = sym c.inputs-left.ensures.right ∙ c.in-Some-unseen.ensures.unseen.0 in
+    let conditional = sym c.is_conditional.ensures ∙ c.if-is_conditional.false in
+    missing-right plan known c.args.n node at i right (subst (IsAmong c.args.n) right c.get-node.ensures.at.right_lower) c.in-Some-unseen.ensures.unseen.1
+    (λ yes. absurd (true≢false (sym yes ∙ conditional)))
 
 pub returns-in-None-unseen-clause-ready : goal.returns-in-None-unseen-clause-ready
 returns-in-None-unseen-clause-ready g c =

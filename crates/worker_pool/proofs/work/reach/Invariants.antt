@@ -5,8 +5,7 @@ use Rattle.worker_pool.proofs.work.reach.Given as goal
 
 abbrev pub invariant-nodes : goal.invariant-nodes
 invariant-nodes g l = record {
-  document : l.walk.d ≡ l.fn.walk.d;
-  page : IsPage g.W.Work.plan g.W.Work.docs l.fn.walk.d l.walk.page.items;
+  page : IsPage g.W.Work.plan g.W.Work.docs l.walk.d l.walk.page.items;
   path : AreWaiting g.W.Work.plan l.walk.page.items l.walk.path.items;
   seat : HasSeat l.shared.claims.now.table l.worker;
   tools : l.worker.tools ≡ g.W.Work.plan.lists;
