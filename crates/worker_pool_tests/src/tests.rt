@@ -56,7 +56,15 @@ fn documents<'d>(alloc: Global, texts: &[&'d str]) -> Result<Vec<Document<'d>>, 
 
 /// Texts with and without numbers and letters z.
 const TEXTS: [&str; 9] = [
-    "1 22 333", "", "none", "z 4", "z z 5 6", "7", "8 9 z", "zzz", "10 11 12 13",
+    "1 22 333",
+    "",
+    "none",
+    "z 4",
+    "z z 5 6",
+    "7",
+    "8 9 z",
+    "zzz",
+    "10 11 12 13",
 ];
 
 #[test]
@@ -100,12 +108,7 @@ fn claimed_by<'d>(
 }
 
 /// Whether the item is published, on the board.
-fn is_published<'d>(
-    finished: &Finished<'d>,
-    plan: &Plan,
-    docs: &[Document<'d>],
-    item: u32,
-) -> bool
+fn is_published<'d>(finished: &Finished<'d>, plan: &Plan, docs: &[Document<'d>], item: u32) -> bool
     requires done { IsEvaluation plan.now docs.now finished.now }
     requires few { item_count plan.now docs.now < 2 ^ 32 }
 {
@@ -161,7 +164,10 @@ fn without_documents_nothing_is_evaluated(rt: HostRuntime) -> Result<(), Fail> {
     let plan = numbers(alloc)?;
     let gate = Counted::new(alloc, 3)?;
     let finished = evaluated(&rt, alloc, &plan, &[], 4, &gate)?;
-    assert!(rt; finished.into_rows().docs.is_empty(), "no document has rows");
+    assert!(rt;
+        finished.into_rows().docs.is_empty(),
+        "no document has rows"
+    );
     assert!(rt; !gate.has(0), "no item is evaluated");
     Ok(())
 }
