@@ -1,10 +1,10 @@
 -- The answers of an evaluation: what is known of outputs on a page, and of documents one by one.
-use Rattle.std.proofs.Common.{◌≡◌, ℕ, ◌<◌, ◌+◌, List, [], ◌∷◌, ◌++◌, length, get_or, take, map, refl, sym, ap, subst, ◌∙◌, arith, Option, Some, None}
+use Rattle.std.proofs.Common.{◌≡◌, inl, inr, ℕ, ◌<◌, ◌+◌, List, [], ◌∷◌, ◌++◌, length, get_or, take, map, refl, sym, ap, subst, ◌∙◌, arith, Option, Some, None}
 use Rattle.std.specs.Prelude.{IsSome, option_map, slice_get, All}
 use Rattle.std.specs.List.{AllZip}
-use Rattle.std.proofs.lemmas.List.{map_push, take_all}
-use Rattle.std.proofs.lemmas.List.Elements.{All-head, All-more, All-tail, All-weaker, all_zip_more}
-use Rattle.std.proofs.lemmas.Option.{none-some, same_Some, get_or_from_slice_get}
+use Rattle.std.proofs.lemmas.List.{map_push, take_all, take_more}
+use Rattle.std.proofs.lemmas.List.Elements.{All-head, All-more, All-tail, All-weaker}
+use Rattle.std.proofs.lemmas.Option.{none-some, same_Some, get_or_from_slice_get, slice_get_cases}
 use Rattle.span_token.specs.Documents.{Doc as Document}
 use Rattle.row_values.specs.Rows.{RowList}
 use Rattle.algebra.specs.declared.output.PlanOut.{PlanOut}
@@ -21,6 +21,18 @@ use Rattle.worker_pool.specs.Pages.{known_at, rows_on, AreKnown, IsPage, KnowsMo
 use Rattle.worker_pool.proofs.Boarding.{complete-filled}
 use Rattle.worker_pool.proofs.Paging.{document_at, result-has}
 
+zip_push : {A B : Type 0} (R : A → B → Type 0) (xs : List A) (ys : List B) (x : A) (y : B) → AllZip R xs ys → R x y → AllZip R (xs ++ x ∷ []) (ys ++ y ∷ [])
+zip_push R [] [] x y are here = (here, tt)
+zip_push R [] (z ∷ ys) x y are here = absurd are
+zip_push R (z ∷ xs) [] x y are here = absurd are
+zip_push R (v ∷ xs) (z ∷ ys) x y are here = (are.0, zip_push R xs ys x y are.1 here)
+
+-- two lists go together for one element more
+zip_more : {A B : Type 0} (R : A → B → Type 0) (xs : List A) (ys : List B) (i : ℕ) (x : A) (y : B) → i < length xs → x ≡ get_or xs i x → AllZip R (take i xs) ys → R x y
+    → AllZip R (take (i + 1) xs) (ys ++ y ∷ [])
+zip_more {A = A} {B = B} R xs ys i x y below is before here =
+    subst (λ (zs : List A). AllZip R zs (ys ++ y ∷ [])) (sym (take_more xs i x below)) (zip_push R (take i xs) ys (get_or xs i x) y before (subst (λ (z : A). R z y) is here))
+
 -- the nodes of outputs are among a plan's
 outputs_there : (plan : Parts) → AreOutputs plan.nodes plan.outputs → All (λ (out : PlanOut). out.node < length plan.nodes) plan.outputs
 outputs_there plan valid = λ i d below. omega (arith, (valid.each i d below).there, length-each no_shape shape_by plan.nodes)
@@ -32,6 +44,27 @@ known-more old new outs i below all more here = λ k d within.
     All-more (λ (out : PlanOut). IsSome (known_at new out.node)) outs i d below
     (All-weaker (λ (out : PlanOut). IsSome (known_at old out.node)) (λ (out : PlanOut). IsSome (known_at new out.node)) (λ out there. more out.node there) (take i outs) all)
     (here d) k d within
+
+-- an output among those that are known
+module _ (known : List (Option ItemRows)) (outs : List PlanOut) (i n : ℕ) where
+  pub known-at : i < length outs → AreKnown known outs → ((out : PlanOut) → n ≡ (get_or outs i out).node) → IsSome (known_at known n)
+  known-at below all is = elim (slice_get_cases outs i).1 [
+    | inl found ↦ subst (λ (m : ℕ). IsSome (known_at known m)) (sym (is found.0)) (all i found.0 below)
+    | inr past ↦ absurd (omega (arith, below, past.0))
+  ]
+
+  abbrev shows : PlanOut → RowList → Type 0
+  shows out list = rows_on known out.node ≡ Some list
+
+  -- the rows of one output more are shown
+  pub shown-pushed : {V : Type 0} (old new : List V) (rows : V) (f : V → RowList) → i < length outs → ((out : PlanOut) → n ≡ (get_or outs i out).node) → new ≡ old ++ rows ∷ []
+      → rows_on known n ≡ Some (f rows) → AllZip shows (take i outs) (map f old) → AllZip shows (take (i + 1) outs) (map f new)
+  shown-pushed old new rows f below is put here before = elim (slice_get_cases outs i).1 [
+    | inl found ↦ subst (AllZip shows (take (i + 1) outs)) (sym (ap (map f) put ∙ map_push f old rows))
+        (zip_more shows outs (map f old) i found.0 (f rows) below (sym (get_or_from_slice_get outs i found.0 found.0 found.2)) before
+        (subst (λ (m : ℕ). rows_on known m ≡ Some (f rows)) (is found.0 ∙ ap (λ (out : PlanOut). out.node) (get_or_from_slice_get outs i found.0 found.0 found.2)) here))
+    | inr past ↦ absurd (omega (arith, below, past.0))
+  ]
 
 -- rows of outputs that are known are what the outputs show
 module _ (plan : Parts) (docs : List Document) (d : ℕ) (known : List (Option ItemRows)) (page : IsPage plan docs d known) where
@@ -64,7 +97,7 @@ module _ (plan : Parts) (docs : List Document) where
   answers_more d old new shown below put before here =
       let doc = document_at docs d below in
       subst (AreAnswers plan (take (d + 1) docs)) (sym put)
-      (all_zip_more (AreOutputRows plan) docs old d doc.0 shown below (sym (get_or_from_slice_get docs d doc.0 doc.0 doc.1)) before (here doc.0 doc.1))
+      (zip_more (AreOutputRows plan) docs old d doc.0 shown below (sym (get_or_from_slice_get docs d doc.0 doc.0 doc.1)) before (here doc.0 doc.1))
 
   pub answers-pushed : {V : Type 0} (old new : List V) (rows : V) (f : V → List RowList) (d : ℕ) → d < length docs → new ≡ old ++ rows ∷ [] → AreAnswers plan (take d docs) (map f old)
       → IsAnswerOn plan docs d (f rows) → AreAnswers plan (take (d + 1) docs) (map f new)

@@ -22,7 +22,7 @@ use Rattle.algebra.specs.Plans.{Parts, AreOutputs}
 use Rattle.algebra.specs.FoldLaws.{length-each}
 use Rattle.algebra.specs.Shapes.{shape_by, no_shape}
 use Rattle.algebra.specs.Values.{val}
-use Rattle.run_core.specs.Wanted.{rows_of, given, AsksFor, IsWanted, output, IsReady}
+use Rattle.run_core.specs.Wanted.{rows_of, given, AsksFor, IsWanted, output, input, IsReady}
 use Rattle.run_core.specs.WantedLaws.{Agrees, wanted-grows, wanted-needed}
 use Rattle.run_tables.specs.Items.{ItemRows, IsOfInput, GoesWithout, MayCompute}
 use Rattle.worker_pool.specs.Pages.{empty_page, known_at, known_of, rows_on, unknown_count, IsBlank, KnowsMore, IsResultOf, IsPage, AreWaiting, IsReadyOn, IsMissing, IsNext, IsSeen, IsAlwaysWanted}
@@ -72,7 +72,7 @@ module _ {T E : Type 0} (r : Result T E) (count : ℕ) (known : List (Option Ite
   begun-blank made = on_ok_weaker r (empty_blank count known) made
 
 -- an element of a page in which one place was set, or another one
-set_known : (known : List (Option ItemRows)) (n m : ℕ) (put : Option ItemRows) → n < length known
+pub set_known : (known : List (Option ItemRows)) (n m : ℕ) (put : Option ItemRows) → n < length known
     → ((m ≡ n) × (known_at (set known n put) m ≡ put)) ⊎ ((m ≢ n) × (known_at (set known n put) m ≡ known_at known m))
 set_known known n m put below = elim (cases_eq m n) [
   | inl e ↦ inl (e, ap (λ (k : ℕ). get_or (set known n put) k None) e ∙ get_or-set_same known n put None below)
@@ -91,7 +91,7 @@ module _ (known : List (Option ItemRows)) (n : ℕ) (found : ItemRows) (below : 
   pub fewer-put : unknown_count (set known n (Some found)) < unknown_count known
   fewer-put =
       let counts = sum_by-set (λ (x : Option ItemRows). cond (not (is_some x)) 1 0) known n (Some found) None below in
-      omega (arith, counts, ap (λ (x : Option ItemRows). cond (not (is_some x)) 1 0) unseen)
+      omega (arith, counts, ap {B = ℕ} (λ (x : Option ItemRows). cond (not (is_some x)) 1 0) unseen)
 
   -- what waits is still wanted
   pub waiting-put : (plan : Parts) (path : List ℕ) → AreWaiting plan known path → AreWaiting plan (set known n (Some found)) path
@@ -250,6 +250,13 @@ module _ (plan : Parts) (known : List (Option ItemRows)) (n : ℕ) (node : Node)
   pub missing-right : (i : ℕ) → right_input node ≡ Some i → i < n → known_at known i ≡ None → (is_conditional node ≡ true → given plan (rows_on known) (left_input node) ≢ []) → IsMissing plan known n i
   missing-right i right lower none some = record { lower = lower; unseen = none; asked = at_node (λ other. AsksFor plan (rows_on known) other i) (inr (right, some)) }
 
+-- what is missing is wanted
+pub missing-wanted : (plan : Parts) (known : List (Option ItemRows)) (n i : ℕ) → n < length plan.nodes → IsWanted plan (rows_on known) n → IsMissing plan known n i → IsWanted plan (rows_on known) i
+missing-wanted plan known n i below wanted missing = elim (slice_get_cases plan.nodes n).1 [
+  | inl found ↦ input n i found.0 found.2 (missing.asked found.0 found.2) wanted
+  | inr past ↦ absurd (omega (arith, below, past.0))
+]
+
 -- whether an input is known
 pub not_known : (found : Option ItemRows) → is_some found ≡ false → found ≡ None
 not_known None e = refl
@@ -284,8 +291,8 @@ output-listed outs i d below = (
 
 -- where an input has no row, by a test, it is given no row
 pub no-row : (rows : Rows) (b : Bool) → (IsTrue b ↔ (rows ≢ [])) → b ≡ false → rows ≡ []
-no-row [] b tells no = refl
-no-row (row ∷ rows) b tells no = absurd (true≢false (sym (tells.1 (cons_nil row rows)) ∙ no))
+no-row [] b tells fails = refl
+no-row (row ∷ rows) b tells fails = absurd (true≢false (sym (tells.1 (cons_nil row rows)) ∙ fails))
 
 -- an output's node is one of the nodes, and wanted whatever is known
 module _ (plan : Parts) (outs : List PlanOut) (i : ℕ) (out : PlanOut) (valid : AreOutputs plan.nodes plan.outputs) (same : outs ≡ plan.outputs) (below : i < length plan.outputs) (is : out ≡ get_or outs i out) where

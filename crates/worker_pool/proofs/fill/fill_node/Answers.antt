@@ -1,8 +1,8 @@
 use Rattle.std.proofs.Common.{◌∙◌}
 use Rattle.worker_pool.proofs.fill.fill_node.Goals as goal
 
-pub last_result-requires : goal.last_result-requires
-last_result-requires g c = record { of_plan = c.nodes.invariant.same ∙ c.requires.of_plan; page = c.nodes.invariant.filling.page; next = c.in_ok-n.ensures.next }
+pub last_result-requires-clause-page : goal.last_result-requires-clause-page
+last_result-requires-clause-page g c = c.nodes.invariant.filling.page
 
 pub nodes-preserved : goal.nodes-preserved
 nodes-preserved g c = record {

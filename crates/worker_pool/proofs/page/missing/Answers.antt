@@ -1,9 +1,10 @@
-use Rattle.std.proofs.Common.{◌≡◌, ◌≢◌, ◌∙◌, [], List, Some, sym, subst, true, true≢false, ap}
+use Rattle.std.proofs.Common.{◌≡◌, ◌≢◌, ◌∙◌, ℕ, [], List, Option, Some, sym, subst, true, true≢false, ap}
 use Rattle.run_core.specs.Wanted.{given}
 use Rattle.algebra.specs.Inputs.{left_input, right_input, is_conditional, IsAmong}
 use Rattle.worker_pool.specs.Pages.{IsSeen, rows_on}
 use Rattle.worker_pool.proofs.Paging.{node-at, ready-both, ready-left, missing-right, no-row}
 use Rattle.worker_pool.proofs.page.missing.Goals as goal
+use Rattle.worker_pool.proofs.page.missing.Goals.{else-is_conditional-via-then-is_conditional+else-not-has_row, else-is_conditional-via-else-is_conditional}
 
 pub returns-then-not-has_row-clause-ready : goal.returns-then-not-has_row-clause-ready
 returns-then-not-has_row-clause-ready g c =
@@ -24,9 +25,12 @@ returns-else-is_conditional-clause-missing g c =
     let i = c.in-Some-unseen.i in
     let at = node-at plan.nodes c.nodes.result.now c.args.n node c.nodes.ensures c.requires.there c.get-node.ensures.node in
     let right : right_input node ≡ Some i = sym c.inputs-left.ensures.right ∙ c.in-Some-unseen.ensures.unseen.0 in
-    let conditional = sym c.is_conditional.ensures ∙ c.if-is_conditional.false in
-    missing-right plan known c.args.n node at i right (subst (IsAmong c.args.n) right c.get-node.ensures.at.right_lower) c.in-Some-unseen.ensures.unseen.1
-    (λ yes. absurd (true≢false (sym yes ∙ conditional)))
+    let some : is_conditional node ≡ true → given plan (rows_on known) (left_input node) ≢ [] = elim c.else-is_conditional.branch [
+      | else-is_conditional-via-then-is_conditional+else-not-has_row w ↦ λ yes.
+          subst (λ (o : Option ℕ). given plan (rows_on known) o ≢ []) c.inputs-left.ensures.left ((w.has_row.ensures plan).0 w.if-not-has_row.false)
+      | else-is_conditional-via-else-is_conditional w ↦ λ yes. absurd (true≢false (sym yes ∙ (sym c.is_conditional.ensures ∙ w.if-is_conditional.false)))
+    ] in
+    missing-right plan known c.args.n node at i right (subst (IsAmong c.args.n) right c.get-node.ensures.at.right_lower) c.in-Some-unseen.ensures.unseen.1 some
 
 pub returns-in-None-unseen-clause-ready : goal.returns-in-None-unseen-clause-ready
 returns-in-None-unseen-clause-ready g c =
