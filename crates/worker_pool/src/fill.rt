@@ -115,9 +115,7 @@ fn fill_document<'d, W: Work, G: Gate>(
     ensures same { tools.new ≡ tools.old }
 {
     begin_document(window, walk, d, board)?;
-    'each: for i in 0..window.outputs() {
-        fill_output(alloc, window, tools, winners, walk, i, board)?;
-    }
+    fill_outputs(alloc, window, tools, winners, walk, board)?;
     let rows = end_document(alloc, window, walk, d, board)?;
     Ok(rows)
 }
@@ -157,6 +155,29 @@ fn end_document<'d, W: Work, G: Gate>(
     let _ = board;
     told_of(window.plan);
     rows_shown(alloc, window, &walk.page)
+}
+
+/// Fills the board up to the nodes of all outputs on the walk's document.
+fn fill_outputs<'d, W: Work, G: Gate>(
+    alloc: Global,
+    window: &Window<'_, 'd, W, G>,
+    tools: &mut Tools<'_>,
+    winners: &Winners<'_>,
+    walk: &mut Walk<'d, W>,
+    board: &mut Board<'d>,
+) -> Result<(), OutOfMemory>
+    requires of_plan { tools.old ≡ W.plan.lists }
+    requires filling { IsFilling W.plan W.docs walk.old.d board.old walk.old.page.items }
+    requires path { AreWaiting W.plan walk.old.page.items walk.old.path.items }
+    ensures document { walk.new.d ≡ walk.old.d }
+    ensures filling { OnOk result (IsFilling W.plan W.docs walk.new.d board.new walk.new.page.items) }
+    ensures known { OnOk result (AreKnown walk.new.page.items W.plan.outputs) }
+    ensures same { tools.new ≡ tools.old }
+{
+    'each: for i in 0..window.outputs() {
+        fill_output(alloc, window, tools, winners, walk, i, board)?;
+    }
+    Ok(())
 }
 
 /// Fills the board up to the node of output `i`, where it is filled up to those of the outputs before it.
