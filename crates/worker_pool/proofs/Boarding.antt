@@ -1,10 +1,10 @@
 -- Boards that are filled document by document, with the results of pages.
-use Rattle.std.proofs.Common.{◌≡◌, ◌≢◌, ◌⊎◌, inl, inr, ℕ, ◌<◌, ◌≤◌, ◌+◌, ◌*◌, Bool, true, false, List, [], ◌∷◌, length, get_or, set, refl, sym, ap, subst, ◌∙◌, arith, add-mul, Option, Some, None, true≢false}
-use Rattle.std.specs.Prelude.{IsSome, is_some, option_map, slice_get, replicate, All, Contains}
+use Rattle.std.proofs.Common.{◌≡◌, inl, inr, ℕ, ◌<◌, ◌+◌, false, List, length, set, refl, sym, ap, subst, ◌∙◌, arith, add-mul, Option, Some, None, true≢false}
+use Rattle.std.specs.Prelude.{IsSome, is_some, option_map, slice_get, replicate, Contains}
 use Rattle.std.proofs.lemmas.Bool.{cases_eq, cases_lt}
 use Rattle.std.proofs.lemmas.List.{length-set, length-replicate, get_or-replicate, get_or_past}
 use Rattle.std.proofs.lemmas.List.Elements.{All-contains, All-map, All-weaker}
-use Rattle.std.proofs.lemmas.Option.{none-some, slice_get_within}
+use Rattle.std.proofs.lemmas.Option.{slice_get_within}
 use Rattle.span_token.specs.Documents.{Doc as Document}
 use Rattle.row_values.specs.Rows.{RowList}
 use Rattle.algebra.specs.declared.node.Node.{Node}
@@ -24,7 +24,7 @@ use Rattle.run_tables.specs.Items.{ItemRows}
 use Rattle.worker_pool.specs.Evaluations.{IsComplete}
 use Rattle.worker_pool.specs.Filling.{IsDoneOn, IsFilledTo, IsFilling, HasPut}
 use Rattle.worker_pool.specs.Pages.{known_at, rows_on, AreKnown, IsBlank, IsResultOf, IsPage, IsNext}
-use Rattle.worker_pool.proofs.Paging.{document_at, set_known, more-put, page-put, result-has, agrees}
+use Rattle.worker_pool.proofs.Paging.{document_at, set_known, more-set, page-set, result-has, agrees}
 
 not_some : {X : Type 0} (o : Option X) → is_some o ≡ false → o ≡ None
 not_some None e = refl
@@ -135,7 +135,7 @@ module _ (board : State) (d : ℕ) where
           below = omega (arith, next.there, filling.page.sized)
 
           ready_more : (node : Node) → IsReady board.plan (rows_on known) node → IsReady board.plan (rows_on known') node
-          ready_more node ready = ready-grows board.plan (rows_on known) (rows_on known') (more-put known n found below next.unseen) node ready
+          ready_more node ready = ready-grows board.plan (rows_on known) (rows_on known') (more-set known n found below next.unseen) node ready
 
           still : (i : ℕ) → IsSome (standing board i).rows → IsSome (standing new i).rows
           still i there = elim (cases_eq i item) [
@@ -171,7 +171,7 @@ module _ (board : State) (d : ℕ) where
               together = together;
               behind = λ i past. put.others i (λ e. omega (arith, e, past, next.there, next_first board.plan d)) ∙ filling.filled.behind i past;
             };
-            page = page-put board.plan board.docs d known n found next.there filling.page result;
+            page = page-set board.plan board.docs d known n found next.there filling.page result;
             shown = shown;
             closed = closed;
           }

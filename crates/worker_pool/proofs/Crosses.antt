@@ -10,7 +10,6 @@ use Rattle.std.proofs.vec.Vec.TheSendSync as vec
 use Rattle.std.proofs.option.Option.TheSendSync as option
 use Rattle.span_token.proofs.document.Document.TheSendSync as document
 use Rattle.span_token.proofs.owned.OwnedList.TheSendSync as list
-use Rattle.span_token.proofs.owned.OwnedText.TheSendSync as text
 use Rattle.row_values.proofs.output.Output.TheSendSync as output
 use Rattle.span_sets.proofs.policy.Policy.TheSendSync as policy
 use Rattle.group_agg.proofs.agg.Agg.TheSendSync as agg

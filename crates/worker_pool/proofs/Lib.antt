@@ -6,5 +6,3 @@ pub mod Boarding
 pub mod Answering
 -- what workers share, and what is sent to them
 pub mod Crosses
--- seats that are dealt to workers
-pub mod Seating

@@ -1,5 +1,5 @@
 -- Pages: what is known of the nodes of a plan on one document, and the node that is taken up next.
-use Rattle.std.proofs.Common.{◌≡◌, ◌≢◌, ◌⊎◌, inl, inr, ℕ, ◌<◌, ◌+◌, Bool, true, false, cond, List, [], ◌∷◌, length, get_or, set, refl, sym, ap, subst, ◌∙◌, arith, Option, Some, None, Result, OnOk, true≢false}
+use Rattle.std.proofs.Common.{◌≡◌, ◌≢◌, ◌⊎◌, inl, inr, ℕ, ◌<◌, Bool, true, false, cond, List, [], ◌∷◌, length, get_or, set, refl, sym, ap, subst, ◌∙◌, arith, Option, Some, None, Result, OnOk, true≢false}
 use Rattle.std.specs.Prelude.{◌↔◌, IsTrue, IsSome, IfSome, is_some, map, not, option_map, slice_get, Contains}
 use Rattle.std.proofs.lemmas.Bool.{cases_eq, cases_lt}
 use Rattle.std.proofs.lemmas.List.{length-map, length-replicate, length-set, get_or-map, get_or-replicate, get_or-set_same, get_or-set_other, get_or_past}
@@ -81,22 +81,22 @@ set_known known n m put below = elim (cases_eq m n) [
 
 module _ (known : List (Option ItemRows)) (n : ℕ) (found : ItemRows) (below : n < length known) (unseen : known_at known n ≡ None) where
   -- what is known stays known
-  pub more-put : (m : ℕ) (list : RowList) → rows_on known m ≡ Some list → rows_on (set known n (Some found)) m ≡ Some list
-  more-put m list is = elim (set_known known n m (Some found) below) [
+  pub more-set : (m : ℕ) (list : RowList) → rows_on known m ≡ Some list → rows_on (set known n (Some found)) m ≡ Some list
+  more-set m list is = elim (set_known known n m (Some found) below) [
     | inl here ↦ absurd (none-some list (sym (ap (λ (x : Option ItemRows). option_map (λ (y : ItemRows). y.rows) x) (ap (known_at known) here.0 ∙ unseen)) ∙ is))
     | inr there ↦ ap (λ (x : Option ItemRows). option_map (λ (y : ItemRows). y.rows) x) there.1 ∙ is
   ]
 
   -- one node less is unknown
-  pub fewer-put : unknown_count (set known n (Some found)) < unknown_count known
-  fewer-put =
+  pub fewer-set : unknown_count (set known n (Some found)) < unknown_count known
+  fewer-set =
       let counts = sum_by-set (λ (x : Option ItemRows). cond (not (is_some x)) 1 0) known n (Some found) None below in
       omega (arith, counts, ap {B = ℕ} (λ (x : Option ItemRows). cond (not (is_some x)) 1 0) unseen)
 
   -- what waits is still wanted
-  pub waiting-put : (plan : Parts) (path : List ℕ) → AreWaiting plan known path → AreWaiting plan (set known n (Some found)) path
-  waiting-put plan path waiting =
-      All-weaker (IsWanted plan (rows_on known)) (IsWanted plan (rows_on (set known n (Some found)))) (wanted-grows plan (rows_on known) (rows_on (set known n (Some found))) more-put) path waiting
+  pub waiting-set : (plan : Parts) (path : List ℕ) → AreWaiting plan known path → AreWaiting plan (set known n (Some found)) path
+  waiting-set plan path waiting =
+      All-weaker (IsWanted plan (rows_on known)) (IsWanted plan (rows_on (set known n (Some found)))) (wanted-grows plan (rows_on known) (rows_on (set known n (Some found))) more-set) path waiting
 
   -- what is known still is
   knows_more : KnowsMore known (set known n (Some found))
@@ -106,8 +106,8 @@ module _ (known : List (Option ItemRows)) (n : ℕ) (found : ItemRows) (below : 
   ]
 
 module _ (plan : Parts) (docs : List Document) (d : ℕ) where
-  pub page-put : (known : List (Option ItemRows)) (n : ℕ) (found : ItemRows) → n < length plan.nodes → IsPage plan docs d known → IsResultOf plan docs d n found → IsPage plan docs d (set known n (Some found))
-  page-put known n found below page result = record {
+  pub page-set : (known : List (Option ItemRows)) (n : ℕ) (found : ItemRows) → n < length plan.nodes → IsPage plan docs d known → IsResultOf plan docs d n found → IsPage plan docs d (set known n (Some found))
+  page-set known n found below page result = record {
     sized = length-set known n (Some found) ∙ page.sized;
     there = page.there;
     each = λ m x is. elim (set_known known n m (Some found) (omega (arith, below, page.sized))) [
@@ -126,16 +126,16 @@ module _ (plan : Parts) (docs : List Document) (d : ℕ) where
     at_put P holds = subst P (sym put) holds
 
     pub put-page : IsResultOf plan docs d n found → IsPage plan docs d' known'
-    put-page result = subst (λ (k : ℕ). IsPage plan docs k known') (sym document) (at_put (IsPage plan docs d) (page-put known n found next.there page result))
+    put-page result = subst (λ (k : ℕ). IsPage plan docs k known') (sym document) (at_put (IsPage plan docs d) (page-set known n found next.there page result))
 
     pub put-waiting : (path : List ℕ) → AreWaiting plan known path → AreWaiting plan known' path
-    put-waiting path waiting = at_put (λ page. AreWaiting plan page path) (waiting-put known n found within next.unseen plan path waiting)
+    put-waiting path waiting = at_put (λ page. AreWaiting plan page path) (waiting-set known n found within next.unseen plan path waiting)
 
     pub put-more : KnowsMore known known'
     put-more = at_put (KnowsMore known) (knows_more known n found within next.unseen)
 
     pub put-fewer : unknown_count known' < unknown_count known
-    put-fewer = at_put (λ page. unknown_count page < unknown_count known) (fewer-put known n found within next.unseen)
+    put-fewer = at_put (λ page. unknown_count page < unknown_count known) (fewer-set known n found within next.unseen)
 
   -- the result of a node has what the node is worth
   pub result-has : (doc : Document) → slice_get docs d ≡ Some doc → (n : ℕ) (found : ItemRows) → n < length plan.nodes → IsResultOf plan docs d n found → HasInput plan.lists doc plan.nodes (Some n) found.rows
@@ -244,9 +244,6 @@ module _ (plan : Parts) (known : List (Option ItemRows)) (n : ℕ) (node : Node)
   pub ready-left : IsSeen known (left_input node) → is_conditional node ≡ true → given plan (rows_on known) (left_input node) ≡ [] → IsReadyOn plan known n
   ready-left left conditional none = at_node (IsReady plan (rows_on known)) (left_seen left conditional none)
 
-  pub missing-left : (i : ℕ) → left_input node ≡ Some i → i < n → known_at known i ≡ None → IsMissing plan known n i
-  missing-left i left lower none = record { lower = lower; unseen = none; asked = at_node (λ other. AsksFor plan (rows_on known) other i) (inl left) }
-
   pub missing-right : (i : ℕ) → right_input node ≡ Some i → i < n → known_at known i ≡ None → (is_conditional node ≡ true → given plan (rows_on known) (left_input node) ≢ []) → IsMissing plan known n i
   missing-right i right lower none some = record { lower = lower; unseen = none; asked = at_node (λ other. AsksFor plan (rows_on known) other i) (inr (right, some)) }
 
@@ -256,30 +253,6 @@ missing-wanted plan known n i below wanted missing = elim (slice_get_cases plan.
   | inl found ↦ input n i found.0 found.2 (missing.asked found.0 found.2) wanted
   | inr past ↦ absurd (omega (arith, below, past.0))
 ]
-
--- whether an input is known
-pub not_known : (found : Option ItemRows) → is_some found ≡ false → found ≡ None
-not_known None e = refl
-not_known (Some x) e = absurd (true≢false e)
-
-pub seen-here : (known : List (Option ItemRows)) (i : ℕ) → is_some (known_at known i) ≡ true → IsSeen known (Some i)
-seen-here known i there j e = subst (λ (k : ℕ). IsSome (known_at known k)) (same_Some i j e) there
-
-pub seen-nothing : (known : List (Option ItemRows)) → IsSeen known None
-seen-nothing known j e = absurd (none-some j e)
-
--- the rows of an input, as far as it is known
-abbrev pub rows_known : Option ItemRows → Rows
-rows_known None = []
-rows_known (Some found) = found.rows.rows
-
-rows_of_known : (found : Option ItemRows) → rows_of (option_map (λ (y : ItemRows). y.rows) found) ≡ rows_known found
-rows_of_known None = refl
-rows_of_known (Some x) = refl
-
-pub given-known : (plan : Parts) (known : List (Option ItemRows)) (o : Option ℕ) → given plan (rows_on known) o ≡ rows_known (known_of known o)
-given-known plan known None = refl
-given-known plan known (Some i) = rows_of_known (known_at known i)
 
 -- an output's node is one of the outputs' nodes
 pub output-listed : (outs : List PlanOut) (i : ℕ) (d : PlanOut) → i < length outs → Contains (map (λ (out : PlanOut). out.node) outs) (get_or outs i d).node

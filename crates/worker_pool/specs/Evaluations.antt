@@ -1,7 +1,6 @@
 -- What the evaluation of a plan on documents comes to: a board, and for each document the rows of the plan's outputs.
-use Rattle.std.specs.Prelude.{ℕ, ◌≡◌, ◌↔◌, List, Some, IsSome, map}
+use Rattle.std.specs.Prelude.{ℕ, ◌≡◌, ◌↔◌, List, Some, IsSome}
 use Rattle.std.specs.List.{AllZip}
-use Rattle.std.specs.Arc.{arc_value}
 use Rattle.span_token.specs.Documents.{Doc}
 use Rattle.row_values.specs.Rows.{RowList}
 use Rattle.algebra.specs.Items.{HasInput}

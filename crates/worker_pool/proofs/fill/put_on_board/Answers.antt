@@ -1,6 +1,6 @@
-use Rattle.std.proofs.Common.{sym, subst, ap, ◌∙◌, Some, None}
+use Rattle.std.proofs.Common.{sym, subst, ap, ◌∙◌, Some}
 use Rattle.std.specs.Arc.{arc_value}
-use Rattle.run_core.specs.declared.event.Event.TheVariants.{Claim, Publish}
+use Rattle.run_core.specs.declared.event.Event.TheVariants.{Publish}
 use Rattle.run_core.specs.Boards.{State}
 use Rattle.run_core.specs.BoardLaws.{publish-claimed}
 use Rattle.run_core.specs.Events.{MayPublish, after}

@@ -1,4 +1,4 @@
-use Rattle.std.proofs.Common.{◌≡◌, ◌≢◌, ◌∙◌, ℕ, [], List, Option, Some, sym, subst, true, true≢false, ap}
+use Rattle.std.proofs.Common.{◌≡◌, ◌≢◌, ◌∙◌, ℕ, [], Option, Some, sym, subst, true, true≢false, ap}
 use Rattle.run_core.specs.Wanted.{given}
 use Rattle.algebra.specs.Inputs.{left_input, right_input, is_conditional, IsAmong}
 use Rattle.worker_pool.specs.Pages.{IsSeen, rows_on}

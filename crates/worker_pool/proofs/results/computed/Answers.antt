@@ -1,4 +1,4 @@
-use Rattle.std.proofs.Common.{◌≡◌, ◌<◌, ◌∙◌, length, sym, subst, ap}
+use Rattle.std.proofs.Common.{◌∙◌, subst, ap}
 use Rattle.algebra.specs.Nodes.{IsPlan}
 use Rattle.algebra.specs.Plans.{Parts}
 use Rattle.worker_pool.specs.Pages.{known_of}

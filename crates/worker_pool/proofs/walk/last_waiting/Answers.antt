@@ -1,5 +1,4 @@
-use Rattle.std.proofs.Common.{◌++◌, ◌∷◌, [], List, sym, arith}
-use Rattle.std.specs.Prelude.{All}
+use Rattle.std.proofs.Common.{◌++◌, ◌∷◌, [], sym, arith}
 use Rattle.std.proofs.lemmas.List.Elements.{All-same, All-contains, Contains-push}
 use Rattle.run_core.specs.Wanted.{IsWanted}
 use Rattle.run_core.specs.WantedLaws.{wanted-below}
