@@ -116,6 +116,19 @@ impl<'d, W: Work> Published<'d, W> {
     {
         Ok(Arc::try_clone(&self.rows)?)
     }
+
+    /// The result, for another one who keeps it. No row is copied; that it fails comes from the count of
+    /// those who share the rows alone.
+    pub fn again(&self) -> Result<Published<'d, W>, OutOfMemory>
+        ensures same { IfOk result (λ found. found ≡ self.now) }
+        ensures is_result { IsResult W.plan W.docs self.now.item self.now.rows }
+    {
+        Ok(Published {
+            item: self.item,
+            rows: Arc::try_clone(&self.rows)?,
+            of: PhantomData,
+        })
+    }
 }
 
 /// The node and the document of an item.

@@ -1,0 +1,2 @@
+-- a plan that shows one node
+pub mod Planning

@@ -1,0 +1,173 @@
+ghost use Rattle.std.specs.Prelude.{◌≡◌, ◌<◌, ◌≤◌, ◌^◌, length, IfOk};
+ghost use Rattle.algebra.specs.Items.{item_count};
+ghost use Rattle.worker_pool.specs.Evaluations.{IsEvaluation};
+
+use crate::gates::{Counted, Overlap};
+use crate::plans::{joined, numbers};
+use algebra::Plan;
+use span_token::{Document, OutOfMemory};
+use std::alloc::Global;
+use std::test::Fail;
+use std::thread::Threads;
+use worker_pool::{Crew, Finished, Gate, Open, evaluate};
+
+/// The plan on the documents, by so many workers.
+fn evaluated<'d, R: Threads + Sync, G: Gate>(
+    rt: &R,
+    alloc: Global,
+    plan: &'d Plan,
+    docs: &'d [Document<'d>],
+    workers: u32,
+    gate: &G,
+) -> Result<Finished<'d>, OutOfMemory>
+    requires some { 1 ≤ workers }
+    ensures done { IfOk result (IsEvaluation plan.now docs.now) }
+    ensures few { IfOk result (λ _. item_count plan.now docs.now < 2 ^ 32) }
+{
+    let Some(items) = docs.len().checked_mul(plan.nodes().len() as usize) else {
+        return Err(OutOfMemory);
+    };
+    if items >= 1 << 32 {
+        return Err(OutOfMemory);
+    }
+    let mut crew = Crew::new(alloc, plan, workers)?;
+    evaluate(rt, alloc, plan, docs, &mut crew, gate)
+}
+
+/// The numbers of rows of the first output, document by document.
+fn counts(alloc: Global, finished: Finished<'_>) -> Result<Vec<u32>, OutOfMemory> {
+    let mut all = Vec::new(alloc);
+    for rows in &finished.into_rows().docs {
+        for list in rows {
+            all.push(list.len())?;
+        }
+    }
+    Ok(all)
+}
+
+/// Documents of these texts.
+fn documents<'d>(alloc: Global, texts: &[&'d str]) -> Result<Vec<Document<'d>>, OutOfMemory> {
+    let mut docs = Vec::new(alloc);
+    for text in texts {
+        docs.push(Document::new(alloc, text, None)?)?;
+    }
+    Ok(docs)
+}
+
+/// Texts with and without numbers and letters z.
+const TEXTS: [&str; 9] = [
+    "1 22 333",
+    "",
+    "none",
+    "z 4",
+    "z z 5 6",
+    "7",
+    "8 9 z",
+    "zzz",
+    "10 11 12 13",
+];
+
+#[test]
+fn every_number_of_workers_gives_the_same_rows(rt: HostRuntime) -> Result<(), Fail> {
+    let alloc = rt.alloc();
+    let numbers = numbers(alloc)?;
+    let joined = joined(alloc)?;
+    let docs = documents(alloc, &TEXTS)?;
+    for workers in &[1u32, 2, 4, 16] {
+        let found = evaluated(&rt, alloc, &numbers, docs.as_slice(), *workers, &Open)?;
+        assert_eq!(rt;
+            counts(alloc, found)?.as_slice(),
+            [3u32, 0, 0, 1, 2, 1, 2, 0, 4].as_slice(),
+            "numbers by {workers} workers"
+        );
+        let found = evaluated(&rt, alloc, &joined, docs.as_slice(), *workers, &Open)?;
+        assert_eq!(rt;
+            counts(alloc, found)?.as_slice(),
+            [0u32, 0, 0, 1, 4, 0, 2, 0, 0].as_slice(),
+            "pairs by {workers} workers"
+        );
+    }
+    Ok(())
+}
+
+/// Who claimed the item, on the board.
+fn claimed_by<'d>(
+    finished: &Finished<'d>,
+    plan: &Plan,
+    docs: &[Document<'d>],
+    item: u32,
+) -> Option<u32>
+    requires done { IsEvaluation plan.now docs.now finished.now }
+    requires few { item_count plan.now docs.now < 2 ^ 32 }
+{
+    if (item as usize) < docs.len() * plan.nodes().len() as usize {
+        finished.board().claimed(item)
+    } else {
+        None
+    }
+}
+
+/// Whether the item is published, on the board.
+fn is_published<'d>(finished: &Finished<'d>, plan: &Plan, docs: &[Document<'d>], item: u32) -> bool
+    requires done { IsEvaluation plan.now docs.now finished.now }
+    requires few { item_count plan.now docs.now < 2 ^ 32 }
+{
+    if (item as usize) < docs.len() * plan.nodes().len() as usize {
+        finished.board().published(item).is_some()
+    } else {
+        false
+    }
+}
+
+#[test]
+fn workers_overlap_and_win_the_items_that_they_begin_with(rt: HostRuntime) -> Result<(), Fail> {
+    let alloc = rt.alloc();
+    let plan = numbers(alloc)?;
+    let docs = documents(alloc, &["1"; 8])?;
+    let gate = Overlap::new(alloc, 2)?;
+    let finished = evaluated(&rt, alloc, &plan, docs.as_slice(), 2, &gate)?;
+    assert!(rt; !gate.ran_out(), "no worker waits in vain");
+    for worker in 0..2 {
+        let Some(first) = gate.first(worker) else {
+            return Err(Fail::from("each worker has an item"));
+        };
+        assert!(rt;
+            claimed_by(&finished, &plan, docs.as_slice(), first) == Some(worker),
+            "worker {worker} won the item that it began with"
+        );
+    }
+    Ok(())
+}
+
+#[test]
+fn exactly_the_needed_items_are_evaluated(rt: HostRuntime) -> Result<(), Fail> {
+    let alloc = rt.alloc();
+    let plan = joined(alloc)?;
+    let docs = documents(alloc, &["x 12", "z 12"])?;
+    let gate = Counted::new(alloc, 10)?;
+    let finished = evaluated(&rt, alloc, &plan, docs.as_slice(), 2, &gate)?;
+    for item in 0..10 {
+        let needed = item != 2;
+        assert_eq!(rt;
+            is_published(&finished, &plan, docs.as_slice(), item),
+            needed,
+            "item {item} on the board"
+        );
+        assert_eq!(rt; gate.has(item), needed, "item {item} at the gate");
+    }
+    Ok(())
+}
+
+#[test]
+fn without_documents_nothing_is_evaluated(rt: HostRuntime) -> Result<(), Fail> {
+    let alloc = rt.alloc();
+    let plan = numbers(alloc)?;
+    let gate = Counted::new(alloc, 3)?;
+    let finished = evaluated(&rt, alloc, &plan, &[], 4, &gate)?;
+    assert!(rt;
+        finished.into_rows().docs.is_empty(),
+        "no document has rows"
+    );
+    assert!(rt; !gate.has(0), "no item is evaluated");
+    Ok(())
+}
