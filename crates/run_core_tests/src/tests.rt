@@ -1,15 +1,20 @@
-ghost use Rattle.std.specs.Prelude.{◌≡◌, ◌<◌, [], ◌∷◌, length, map, slice_index_or, IfOk};
+ghost use Rattle.std.specs.Prelude.{◌≡◌, ◌<◌, ◌≤◌, [], ◌∷◌, length, map, slice_index_or, IfOk};
 ghost use Rattle.std.specs.Arc.{arc_value};
 ghost use Rattle.algebra.specs.Items.{item_count, output_nodes};
 ghost use Rattle.algebra.specs.Shapes.{shapes_of, no_shape, columns};
 ghost use Rattle.run_core.specs.Histories.{happening};
 ghost use Rattle.run_core_tests.specs.Doubled.{doubled_nodes, doubled_events, once, twice};
 ghost use Rattle.run_core_tests.specs.EmptyLeft.{joined_nodes, joined_events, no_row, IsUnwanted};
+ghost use Rattle.run_core_tests.specs.Matched.{matched_nodes, matched_events, match_list, alone_list};
+ghost use Rattle.row_values.specs.Rows.{RowsLieIn};
+ghost use Rattle.scalar_ops.specs.Expressions.{column};
 
 use algebra::{Node, Nodes, Plan, PlanOut};
+use aql_regex_extract::{Pattern, compile_pattern};
+use row_operators::{Search, push_found, values_for_each};
 use row_values::{Output, Row, Rows, Value};
 use run_core::{Board, Event, replay};
-use scalar_ops::{Exprs, Tables};
+use scalar_ops::{Expr, Exprs, Tables, Tools};
 use span_token::{Document, OutOfMemory, OwnedList, OwnedText};
 use std::alloc::Global;
 use std::sync::Arc;
@@ -18,12 +23,17 @@ use std::test::Fail;
 /// An event and its rows.
 type Happening<'d> = (Event, Option<Arc<Rows<'d>, Global>>);
 
-/// The plan of these nodes that shows one of them, which has one column. It has no pattern.
-fn showing(alloc: Global, nodes: Nodes, node: u32) -> Result<Plan, OutOfMemory>
+/// The plan of these nodes and patterns that shows one of the nodes, which has one column.
+fn showing(
+    alloc: Global,
+    nodes: Nodes,
+    patterns: Vec<Pattern>,
+    node: u32,
+) -> Result<Plan, OutOfMemory>
     requires there { node < length nodes }
     requires shape { slice_index_or (shapes_of nodes) node no_shape ≡ columns 1 }
     ensures nodes { IfOk result (λ plan. plan.nodes ≡ nodes) }
-    ensures patterns { IfOk result (λ plan. plan.lists.patterns ≡ []) }
+    ensures patterns { IfOk result (λ plan. plan.lists.patterns ≡ patterns.items) }
     ensures shown { IfOk result (λ plan. output_nodes plan ≡ node ∷ []) }
 {
     let mut names = OwnedList::new(alloc);
@@ -31,7 +41,7 @@ fn showing(alloc: Global, nodes: Nodes, node: u32) -> Result<Plan, OutOfMemory>
     let names = Output::new(OwnedText::copied(alloc, "V")?, names)?;
     let mut outputs = Vec::new(alloc);
     outputs.push(PlanOut { names, node })?;
-    Ok(Plan::new(nodes, Tables::new(alloc, Vec::new(alloc), &[])?, outputs))
+    Ok(Plan::new(nodes, Tables::new(alloc, patterns, &[])?, outputs))
 }
 
 /// The row of the document, twice.
@@ -42,7 +52,7 @@ fn doubled(alloc: Global) -> Result<Plan, OutOfMemory>
     let mut nodes = Nodes::new(alloc);
     nodes.add(Node::Doc)?;
     nodes.add(Node::Union { left: 0, right: 0 })?;
-    showing(alloc, nodes, 1)
+    showing(alloc, nodes, Vec::new(alloc), 1)
 }
 
 /// A conditional join of the matches of a pattern that isn't there with a row without a value.
@@ -68,7 +78,42 @@ fn joined(alloc: Global) -> Result<Plan, OutOfMemory>
         right: 2,
         conditional: true,
     })?;
-    showing(alloc, nodes, 3)
+    showing(alloc, nodes, Vec::new(alloc), 3)
+}
+
+/// The second column of a row.
+fn second_column(alloc: Global) -> Result<Exprs, OutOfMemory>
+    ensures { IfOk result (λ items. items ≡ column 1 ∷ []) }
+{
+    let mut items = Vec::new(alloc);
+    items.push(Expr::Column(1))?;
+    Ok(Exprs::from(items))
+}
+
+/// The numbers in the document: what the program
+/// `create view P as extract regex /[0-9]+/ on D.text as num from Document D; output view P;` is lowered to.
+fn matched(alloc: Global) -> Result<Plan, OutOfMemory>
+    ensures nodes { IfOk result (λ plan. plan.nodes ≡ matched_nodes) }
+    ensures shown { IfOk result (λ plan. output_nodes plan ≡ 2 ∷ []) }
+{
+    let Ok(pattern) = compile_pattern(alloc, "[0-9]+") else {
+        return Err(OutOfMemory);
+    };
+    let mut patterns = Vec::new(alloc);
+    patterns.push(pattern)?;
+    let mut groups = OwnedList::new(alloc);
+    groups.push(0)?;
+    let items = second_column(alloc)?;
+    let mut nodes = Nodes::new(alloc);
+    nodes.add(Node::Doc)?;
+    nodes.add(Node::Regex {
+        input: 0,
+        column: 0,
+        pattern: 0,
+        groups,
+    })?;
+    nodes.add(Node::Project { input: 1, items })?;
+    showing(alloc, nodes, patterns, 2)
 }
 
 /// The row of the document.
@@ -129,6 +174,89 @@ fn all_of_joined<'d>(alloc: Global, doc: &Document<'d>) -> Result<Vec<Happening<
     Ok(events)
 }
 
+/// The row of the document, followed by each match of the first pattern in it.
+fn matches_of<'d>(
+    alloc: Global,
+    tools: &mut Tools<'_>,
+    doc: &Document<'d>,
+) -> Result<Rows<'d>, OutOfMemory>
+    ensures rows { IfOk result (λ rows. rows ≡ match_list tools.old doc.now) }
+    ensures lies { IfOk result (λ rows. RowsLieIn doc.now rows.rows) }
+    ensures same { tools.new ≡ tools.old }
+{
+    let row = Row::single(alloc, Value::Span(doc.whole()));
+    let search = Search::Regex {
+        column: 0,
+        pattern: 0,
+        groups: &[0],
+    };
+    let mut found = Vec::new(alloc);
+    let mut out = Rows::new(alloc, 2);
+    push_found(alloc, tools, doc, &row, search, &row, &mut found, &mut out)?;
+    Ok(out)
+}
+
+/// The matches alone.
+fn alone_of<'d>(
+    alloc: Global,
+    tools: &mut Tools<'_>,
+    doc: &Document<'d>,
+    matches: &Rows<'d>,
+    items: &'d Exprs,
+) -> Result<Rows<'d>, OutOfMemory>
+    requires matches { matches.now ≡ match_list tools.old doc.now }
+    requires lies { RowsLieIn doc.now matches.now.rows }
+    requires items { items.now ≡ column 1 ∷ [] }
+    ensures { IfOk result (λ rows. rows ≡ alone_list tools.old doc.now) }
+{
+    let rows = values_for_each(alloc, tools, doc, matches.as_slice(), items)?;
+    Ok(rows)
+}
+
+/// The items of `matched` are claimed and published by two workers in turn.
+fn all_of_matched<'d>(
+    alloc: Global,
+    plan: &Plan,
+    doc: &Document<'d>,
+    items: &'d Exprs,
+) -> Result<Vec<Happening<'d>>, OutOfMemory>
+    requires items { items.now ≡ column 1 ∷ [] }
+    ensures { IfOk result (λ events. map (happening arc_value) events.items ≡ matched_events plan.now.lists doc.now) }
+{
+    let mut tools = Tools::new(alloc, plan.tables())?;
+    let matches = matches_of(alloc, &mut tools, doc)?;
+    let alone = alone_of(alloc, &mut tools, doc, &matches, items)?;
+    let first = row_once(alloc, doc)?;
+    let second = Arc::new(alloc, matches)?;
+    let third = Arc::new(alloc, alone)?;
+    let mut events = Vec::new(alloc);
+    events.push((Event::Claim { worker: 0, item: 0 }, None))?;
+    events.push((Event::Publish { worker: 0, item: 0 }, Some(first)))?;
+    events.push((Event::Claim { worker: 1, item: 1 }, None))?;
+    events.push((Event::Publish { worker: 1, item: 1 }, Some(second)))?;
+    events.push((Event::Claim { worker: 0, item: 2 }, None))?;
+    events.push((Event::Publish { worker: 0, item: 2 }, Some(third)))?;
+    Ok(events)
+}
+
+/// The board of `matched` on one document, with everything published.
+fn matched_board<'d>(
+    alloc: Global,
+    plan: &'d Plan,
+    docs: &'d [Document<'d>],
+    items: &'d Exprs,
+) -> Result<Board<'d>, OutOfMemory>
+    requires nodes { plan.now.nodes ≡ matched_nodes }
+    requires shown { output_nodes plan.now ≡ 2 ∷ [] }
+    requires one { length docs.now ≡ 1 }
+    requires items { items.now ≡ column 1 ∷ [] }
+    ensures nodes { IfOk result (λ board. board.plan.nodes ≡ matched_nodes) }
+    ensures one { IfOk result (λ board. length board.docs ≡ 1) }
+{
+    let events = all_of_matched(alloc, plan, &docs[0], items)?;
+    replay(alloc, plan, docs, events)
+}
+
 /// The board of `doubled` on one document, with everything published.
 fn doubled_board<'d>(
     alloc: Global,
@@ -143,6 +271,23 @@ fn doubled_board<'d>(
 {
     let events = all_of_doubled(alloc, &docs[0])?;
     replay(alloc, plan, docs, events)
+}
+
+/// The board of `joined` on one document with nothing published: the right input of the join isn't wanted.
+fn joined_start<'d>(
+    alloc: Global,
+    plan: &'d Plan,
+    docs: &'d [Document<'d>],
+) -> Result<Board<'d>, OutOfMemory>
+    requires nodes { plan.now.nodes ≡ joined_nodes }
+    requires shown { output_nodes plan.now ≡ 3 ∷ [] }
+    requires one { length docs.now ≡ 1 }
+    ensures nodes { IfOk result (λ board. board.plan.nodes ≡ joined_nodes) }
+    ensures one { IfOk result (λ board. length board.docs ≡ 1) }
+    ensures unwanted { IfOk result (λ board. IsUnwanted board 2) }
+{
+    let board = Board::new(alloc, plan, docs)?;
+    Ok(board)
 }
 
 /// The board of `joined` on one document, with everything published that is wanted: the right input of the
@@ -164,14 +309,22 @@ fn joined_board<'d>(
     replay(alloc, plan, docs, events)
 }
 
-/// How many rows of the item are published, if it is.
-fn count_of(board: &Board<'_>, item: u32) -> Option<u32>
-    requires in_range { item < item_count board.now.plan board.now.docs }
+/// The worker that claimed an item, and the number of its published rows.
+type Standing = (Option<u32>, Option<u32>);
+
+/// How each of the first items stands.
+fn standings(alloc: Global, board: &Board<'_>, items: u32) -> Result<Vec<Standing>, OutOfMemory>
+    requires there { items ≤ item_count board.now.plan board.now.docs }
 {
-    match board.published(item) {
-        Some(rows) => Some(rows.len()),
-        None => None,
+    let mut all = Vec::new(alloc);
+    for item in 0..items {
+        let count = match board.published(item) {
+            Some(rows) => Some(rows.len()),
+            None => None,
+        };
+        all.push((board.claimed(item), count))?;
     }
+    Ok(all)
 }
 
 #[test]
@@ -180,19 +333,45 @@ fn items_in_node_order_give_the_output_its_rows(rt: HostRuntime) -> Result<(), F
     let docs = [Document::new(alloc, "ab 1", None)?];
     let plan = doubled(alloc)?;
     let board = doubled_board(alloc, &plan, &docs)?;
-    assert!(rt; board.claimed(0) == Some(0), "the first item is worker 0's");
-    assert!(rt;
-        board.claimed(1) == Some(1),
-        "the second one worker 1's, though 0 helped"
+    let all = standings(alloc, &board, 2)?;
+    let want: [Standing; 2] = [(Some(0), Some(1)), (Some(1), Some(2))];
+    assert_eq!(rt;
+        all.as_slice(),
+        want.as_slice(),
+        "the second is worker 1's, though 0 helped"
     );
-    assert!(rt; count_of(&board, 0) == Some(1), "one row of the document");
-    assert!(rt; count_of(&board, 1) == Some(2), "and twice");
-    let Some(rows) = board.published(1) else {
+    Ok(())
+}
+
+/// The ends of the spans in rows of spans.
+fn ends_of(alloc: Global, rows: &Rows<'_>) -> Result<Vec<(u32, u32)>, Fail> {
+    let mut ends = Vec::new(alloc);
+    for row in rows.as_slice() {
+        for value in row.values() {
+            let Some(span) = value.as_span() else {
+                return Err(Fail::from("a value is no span"));
+            };
+            ends.push((span.begin, span.end))?;
+        }
+    }
+    Ok(ends)
+}
+
+#[test]
+fn numbers_are_published_in_node_order_by_two_workers(rt: HostRuntime) -> Result<(), Fail> {
+    let alloc = rt.alloc();
+    let items = second_column(alloc)?;
+    let docs = [Document::new(alloc, "x 12 345", None)?];
+    let plan = matched(alloc)?;
+    let board = matched_board(alloc, &plan, &docs, &items)?;
+    let all = standings(alloc, &board, 3)?;
+    let want: [Standing; 3] = [(Some(0), Some(1)), (Some(1), Some(2)), (Some(0), Some(2))];
+    assert_eq!(rt; all.as_slice(), want.as_slice());
+    let Some(rows) = board.published(2) else {
         return Err(Fail::from("nothing is published"));
     };
-    for row in rows.as_slice() {
-        assert!(rt; row.values().len() == 1, "one column");
-    }
+    let ends = ends_of(alloc, rows)?;
+    assert_eq!(rt; ends.as_slice(), [(2u32, 4u32), (5, 8)].as_slice());
     Ok(())
 }
 
@@ -201,13 +380,23 @@ fn right_input_without_a_left_row_takes_no_part(rt: HostRuntime) -> Result<(), F
     let alloc = rt.alloc();
     let docs = [Document::new(alloc, "ab 1", None)?];
     let plan = joined(alloc)?;
+    let start = joined_start(alloc, &plan, &docs)?;
+    let all = standings(alloc, &start, 4)?;
+    let want: [Standing; 4] = [(None, None); 4];
+    assert_eq!(rt; all.as_slice(), want.as_slice(), "nothing is done yet");
     let board = joined_board(alloc, &plan, &docs)?;
-    assert!(rt; count_of(&board, 1) == Some(0), "no left row");
-    assert!(rt;
-        count_of(&board, 2).is_none(),
-        "the right input isn't published"
+    let all = standings(alloc, &board, 4)?;
+    let right: Standing = (None, None);
+    let want = [
+        (Some(0), Some(1)),
+        (Some(0), Some(0)),
+        right,
+        (Some(0), Some(0)),
+    ];
+    assert_eq!(rt;
+        all.as_slice(),
+        want.as_slice(),
+        "the right input takes no part"
     );
-    assert!(rt; board.claimed(2).is_none(), "nor claimed");
-    assert!(rt; count_of(&board, 3) == Some(0), "and the join has no row");
     Ok(())
 }
