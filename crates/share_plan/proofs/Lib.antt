@@ -1,5 +1,6 @@
 -- expressions and nodes are read from their numbers
 pub mod ExprViews
+pub mod Pushing
 pub mod ExprReading
 pub mod NodeReading
 -- kinds of nodes, and what they may read

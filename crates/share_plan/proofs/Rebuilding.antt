@@ -13,7 +13,7 @@ use Rattle.algebra.specs.declared.node.Node.{Node}
 use Rattle.algebra.specs.declared.node.Node.TheVariants.{Doc, Dict, DictPart}
 use Rattle.algebra.specs.declared.shape.Form.{Form}
 use Rattle.algebra.specs.declared.shape.Shape.{Shape}
-use Rattle.algebra.specs.Folds.{had}
+use Rattle.algebra.specs.Folds.{of_input, had}
 use Rattle.algebra.specs.FoldLaws.{length-each, front-kept, all-at}
 use Rattle.algebra.specs.Growth.{Has, Stands}
 use Rattle.algebra.specs.GrowthLaws.{is-at, has-same, has-shape}
@@ -111,7 +111,7 @@ module _ (all yielded nodes sources : List Node) (to : List ℕ) (keys : List Ke
       let at_x : slice_get yielded k ≡ Some x = slice_get-get_or yielded k Doc below in
       let here = is-at yielded k x plan_so_far below (is_node yielded k x at_x) in
       let listed : HasPlaceForm (had no_shape shape_by (shapes_of yielded) x).form p = subst (λ (s : Shape). HasPlaceForm s.form p) here.stands.has.shaped part.made.listed in
-      let d = has_places _ _ p x listed in
+      let d = has_places (of_input no_shape (shapes_of yielded) (left_input x)) (of_input no_shape (shapes_of yielded) (right_input x)) p x listed in
       record {
         input = d.0;
         column = d.1;
