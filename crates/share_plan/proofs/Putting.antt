@@ -148,3 +148,9 @@ pub part-stays : (nodes : List Node) (keys later : List Key) (key : Key) (n m d 
 part-stays nodes keys later key n m d i c dicts index put are at =
     let p = part-there nodes keys later key n false index put refl m i c d dicts are at in
     part_found nodes index.plan m i c dicts at p.0 d p.2 n p.1
+
+-- what is found in a node after more nodes were put was found in it before
+pub found_before : (nodes mid after : List Node) (n i c d : ℕ) → Grows nodes mid → IsNode (shapes_of nodes) (Dict i c []) → IsFound mid after n i c d → IsFound nodes after n i c d
+found_before nodes mid after n i c d grows valid found =
+    found_kept nodes mid after n i c d (keeps_grows nodes mid grows) (omega (arith, valid.left_below, length-each no_shape shape_by nodes))
+    (open_inputs (shapes_of nodes) (Dict i c []) Source refl valid).left found

@@ -160,6 +160,7 @@ module _ (all yielded nodes sources : List Node) (to : List ℕ) (keys : List Ke
   -- ---- the node may be put
 
   may_by : (kind : Kind) → kind_of node ≡ kind → MayPut sources nodes (renamed_kind look kind) (with_inputs look node)
+  unfolding source_there searched
   may_by Source e = tt
   may_by (Part k p) e =
       let s = searched k p (is_of_kind node (Part k p) e) in

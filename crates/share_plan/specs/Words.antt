@@ -42,7 +42,7 @@ agg_words (Min column) = pos 4 ∷ pos column ∷ []
 agg_words (Max column) = pos 5 ∷ pos column ∷ []
 
 abbrev pub flag_word : Bool → ℤ
-flag_word yes = if yes then pos 1 else pos 0
+flag_word holds = if holds then pos 1 else pos 0
 
 -- the node's place in this table, and its numbers
 abbrev pub head_words : Node → List ℤ

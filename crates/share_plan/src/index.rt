@@ -11,7 +11,7 @@ ghost use Rattle.share_plan.specs.Placing.{Keeps, IsDictOf, IsFound, HasSource, 
 ghost use Rattle.share_plan.specs.declared.kind.Kind.TheVariants as kinds;
 
 use crate::kind::{Kind, kind_of};
-use crate::words::{word, words_of};
+use crate::words::{words_of, words_of_dict, words_of_part};
 use algebra::Node;
 use indexmap::IndexSet;
 use span_token::{OutOfMemory, OwnedList};
@@ -100,7 +100,8 @@ impl Shared {
     {
         let (input, column, dict) = sought_at(self.sources.as_slice(), source, place);
         let searching = self.put_dict(alloc, input, column)?;
-        self.put_dictionary(alloc, searching, dict)
+        let number = self.put_dictionary(alloc, searching, dict)?;
+        Ok(number)
     }
 
     /// The number of the `Dict` node of a column: the one that is there, or one without a dictionary that is
@@ -113,7 +114,7 @@ impl Shared {
         ensures index { OnOk result (IsIndex self.new.nodes.items self.new.index.keys) }
         ensures sources { self.new.sources ≡ self.old.sources }
     {
-        let key = vec![in alloc; 3, word(input), word(column)]?;
+        let key = words_of_dict(alloc, input, column)?;
         let (number, is_new) = put_key(&mut self.index, key)?;
         if !is_new {
             return Ok(number);
@@ -138,7 +139,7 @@ impl Shared {
         ensures index { OnOk result (IsIndex self.new.nodes.items self.new.index.keys) }
         ensures sources { self.new.sources ≡ self.old.sources }
     {
-        let key = vec![in alloc; 4, word(input), word(dict)]?;
+        let key = words_of_part(alloc, input, dict)?;
         let (number, is_new) = put_key(&mut self.index, key)?;
         if !is_new {
             return Ok(number);

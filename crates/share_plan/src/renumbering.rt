@@ -22,20 +22,29 @@ fn renumber(node: &mut Node, to: &[u32])
 {
     match node {
         Node::Doc => {}
-        Node::Regex { input, .. }
-        | Node::TokenRegex { input, .. }
-        | Node::Dict { input, .. }
-        | Node::DictPart { input, .. }
-        | Node::Blocks { input, .. }
-        | Node::Select { input, .. }
-        | Node::Project { input, .. }
-        | Node::Consolidate { input, .. }
-        | Node::Group { input, .. }
-        | Node::OrderLimit { input, .. } => *input = to[*input as usize],
-        Node::Cross { left, right, .. }
-        | Node::SpanJoin { left, right, .. }
-        | Node::Union { left, right }
-        | Node::Minus { left, right } => {
+        Node::Regex { input, .. } => *input = to[*input as usize],
+        Node::TokenRegex { input, .. } => *input = to[*input as usize],
+        Node::Dict { input, .. } => *input = to[*input as usize],
+        Node::DictPart { input, .. } => *input = to[*input as usize],
+        Node::Blocks { input, .. } => *input = to[*input as usize],
+        Node::Select { input, .. } => *input = to[*input as usize],
+        Node::Project { input, .. } => *input = to[*input as usize],
+        Node::Consolidate { input, .. } => *input = to[*input as usize],
+        Node::Group { input, .. } => *input = to[*input as usize],
+        Node::OrderLimit { input, .. } => *input = to[*input as usize],
+        Node::Cross { left, right, .. } => {
+            *left = to[*left as usize];
+            *right = to[*right as usize];
+        }
+        Node::SpanJoin { left, right, .. } => {
+            *left = to[*left as usize];
+            *right = to[*right as usize];
+        }
+        Node::Union { left, right } => {
+            *left = to[*left as usize];
+            *right = to[*right as usize];
+        }
+        Node::Minus { left, right } => {
             *left = to[*left as usize];
             *right = to[*right as usize];
         }

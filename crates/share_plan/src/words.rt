@@ -2,6 +2,7 @@
 
 ghost use Rattle.std.specs.Prelude.{◌≡◌, ◌++◌, ◌∷◌, [], pos, map, IfOk, OnOk};
 ghost use Rattle.std.specs.List.{flat_map};
+ghost use Rattle.algebra.specs.declared.node.Node.TheVariants as variant;
 ghost use Rattle.scalar_ops.specs.Views.{term_of};
 ghost use Rattle.share_plan.specs.ExprWords.{text_words, term_words, list_words, op_parts, op_words};
 ghost use Rattle.share_plan.specs.Words.{flag_word, policy_word, kind_words, local_words, agg_words, head_words, tail_words, node_words};
@@ -22,8 +23,26 @@ pub(crate) fn words_of(alloc: Global, node: &Node) -> Result<Vec<i128>, OutOfMem
     Ok(words)
 }
 
+/// The numbers of a `Dict` node that has no dictionary.
+pub(crate) fn words_of_dict(
+    alloc: Global,
+    input: u32,
+    column: u32,
+) -> Result<Vec<i128>, OutOfMemory>
+    ensures { IfOk result (λ words. words.items ≡ node_words (variant.Dict input column [])) }
+{
+    Ok(vec![in alloc; 3, word(input), word(column)]?)
+}
+
+/// The numbers of a `DictPart` of a `Dict` node.
+pub(crate) fn words_of_part(alloc: Global, input: u32, place: u32) -> Result<Vec<i128>, OutOfMemory>
+    ensures { IfOk result (λ words. words.items ≡ node_words (variant.DictPart input place)) }
+{
+    Ok(vec![in alloc; 4, word(input), word(place)]?)
+}
+
 /// A number of a node, a column or a table among these.
-pub(crate) fn word(n: u32) -> i128
+fn word(n: u32) -> i128
     ensures { result ≡ pos n }
 {
     i128::from(n)
@@ -39,14 +58,14 @@ fn flag(yes: bool) -> i128
 fn head_of(alloc: Global, node: &Node) -> Result<Vec<i128>, OutOfMemory>
     ensures { IfOk result (λ words. words.items ≡ head_words node.now) }
 {
-    let words = match node {
-        Node::Doc => vec![in alloc; 0]?,
+    match node {
+        Node::Doc => Ok(vec![in alloc; 0]?),
         Node::Regex {
             input,
             column,
             pattern,
             ..
-        } => vec![in alloc; 1, word(*input), word(*column), word(*pattern)]?,
+        } => Ok(vec![in alloc; 1, word(*input), word(*column), word(*pattern)]?),
         Node::TokenRegex {
             input,
             column,
@@ -54,16 +73,16 @@ fn head_of(alloc: Global, node: &Node) -> Result<Vec<i128>, OutOfMemory>
             high,
             pattern,
             ..
-        } => vec![in alloc;
+        } => Ok(vec![in alloc;
             2,
             word(*input),
             word(*column),
             word(*low),
             word(*high),
             word(*pattern),
-        ]?,
-        Node::Dict { input, column, .. } => vec![in alloc; 3, word(*input), word(*column)]?,
-        Node::DictPart { input, place } => vec![in alloc; 4, word(*input), word(*place)]?,
+        ]?),
+        Node::Dict { input, column, .. } => Ok(vec![in alloc; 3, word(*input), word(*column)]?),
+        Node::DictPart { input, place } => Ok(vec![in alloc; 4, word(*input), word(*place)]?),
         Node::Blocks {
             input,
             column,
@@ -75,7 +94,7 @@ fn head_of(alloc: Global, node: &Node) -> Result<Vec<i128>, OutOfMemory>
         } => {
             let (low, high) = (word(*low), word(*high));
             let (from, upto) = (i128::from(*gap_low), i128::from(*gap_high));
-            vec![in alloc;
+            Ok(vec![in alloc;
                 5,
                 word(*input),
                 word(*column),
@@ -84,15 +103,15 @@ fn head_of(alloc: Global, node: &Node) -> Result<Vec<i128>, OutOfMemory>
                 from,
                 upto,
                 flag(*tokens),
-            ]?
+            ]?)
         }
-        Node::Select { input, .. } => vec![in alloc; 6, word(*input)]?,
-        Node::Project { input, .. } => vec![in alloc; 7, word(*input)]?,
+        Node::Select { input, .. } => Ok(vec![in alloc; 6, word(*input)]?),
+        Node::Project { input, .. } => Ok(vec![in alloc; 7, word(*input)]?),
         Node::Cross {
             left,
             right,
             conditional,
-        } => vec![in alloc; 8, word(*left), word(*right), flag(*conditional)]?,
+        } => Ok(vec![in alloc; 8, word(*left), word(*right), flag(*conditional)]?),
         Node::SpanJoin {
             left,
             right,
@@ -100,35 +119,34 @@ fn head_of(alloc: Global, node: &Node) -> Result<Vec<i128>, OutOfMemory>
             rc,
             conditional,
             ..
-        } => vec![in alloc;
+        } => Ok(vec![in alloc;
             9,
             word(*left),
             word(*right),
             word(*lc),
             word(*rc),
             flag(*conditional),
-        ]?,
+        ]?),
         Node::Restricted {
             outer,
             source,
             lc,
             ..
-        } => vec![in alloc; 10, word(*outer), word(*source), word(*lc)]?,
-        Node::Union { left, right } => vec![in alloc; 11, word(*left), word(*right)]?,
-        Node::Minus { left, right } => vec![in alloc; 12, word(*left), word(*right)]?,
+        } => Ok(vec![in alloc; 10, word(*outer), word(*source), word(*lc)]?),
+        Node::Union { left, right } => Ok(vec![in alloc; 11, word(*left), word(*right)]?),
+        Node::Minus { left, right } => Ok(vec![in alloc; 12, word(*left), word(*right)]?),
         Node::Consolidate { input, policy, .. } => {
-            vec![in alloc; 13, word(*input), policy_word(*policy)]?
+            Ok(vec![in alloc; 13, word(*input), policy_word(*policy)]?)
         }
         Node::Group { input, keys, .. } => {
             let count = keys.len() as u64;
-            vec![in alloc; 14, word(*input), i128::from(count)]?
+            Ok(vec![in alloc; 14, word(*input), i128::from(count)]?)
         }
         Node::OrderLimit { input, limit, .. } => match limit {
-            None => vec![in alloc; 15, word(*input), 0, 0]?,
-            Some(n) => vec![in alloc; 15, word(*input), 1, i128::from(*n)]?,
+            None => Ok(vec![in alloc; 15, word(*input), 0, 0]?),
+            Some(n) => Ok(vec![in alloc; 15, word(*input), 1, i128::from(*n)]?),
         },
-    };
-    Ok(words)
+    }
 }
 
 /// Puts what a node has a list of behind its numbers, and how it joins.
@@ -288,7 +306,8 @@ fn push_expr(words: &mut Vec<i128>, expr: &Expr) -> Result<(), OutOfMemory>
         Expr::Call { op, args } => {
             push_pair(words, 5, 0)?;
             push_exprs(words, args.as_slice())?;
-            push_op(words, *op)
+            push_op(words, *op)?;
+            Ok(())
         }
     }
 }
@@ -311,7 +330,8 @@ fn push_op(words: &mut Vec<i128>, op: Op) -> Result<(), OutOfMemory>
     let (tag, low, high) = parts_of(op);
     push_pair(words, 6, low)?;
     push_pair(words, 7, high)?;
-    push_pair(words, 8, tag)
+    push_pair(words, 8, tag)?;
+    Ok(())
 }
 
 fn parts_of(op: Op) -> (i128, i128, i128)
