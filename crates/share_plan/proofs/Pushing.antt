@@ -6,7 +6,7 @@ use Rattle.scalar_ops.specs.declared.expr.Expr.{Expr}
 use Rattle.scalar_ops.specs.declared.op.Op.{Op}
 use Rattle.scalar_ops.specs.Expressions.{Term, Terms, call, terms}
 use Rattle.scalar_ops.specs.Views.{term_of}
-use Rattle.share_plan.specs.ExprWords.{op_parts, op_words, term_words, argument_words, list_words}
+use Rattle.share_plan.specs.ExprWords.{op_words, term_words, argument_words, list_words}
 
 -- one element more of a list
 pub taken_more : {X : Type 0} (xs : List X) (i : ℕ) (x : X) → i < length xs → x ≡ get_or xs i x → take (i + 1) xs ≡ take i xs ++ x ∷ []
@@ -48,11 +48,10 @@ call_words old begun given after op ts begins gives ends =
     ∙ ap (λ (args : List ℤ). old ++ pos 5 ∷ pos 0 ∷ (args ++ op_words op)) (sym (arguments-are ts)))))
 
 -- an operator's bounds, and then its place in the table
-pub op_pushed : (old one two after : List ℤ) (op : Op) (parts : ℤ × ℤ × ℤ) → parts ≡ op_parts op → one ≡ old ++ pos 6 ∷ parts.1 ∷ [] → two ≡ one ++ pos 7 ∷ parts.2 ∷ []
-    → after ≡ two ++ pos 8 ∷ parts.0 ∷ [] → after ≡ old ++ op_words op
-op_pushed old one two after op parts are first second third =
+pub parts_pushed : (old one two after : List ℤ) (tag low high : ℤ) → one ≡ old ++ pos 6 ∷ low ∷ [] → two ≡ one ++ pos 7 ∷ high ∷ [] → after ≡ two ++ pos 8 ∷ tag ∷ []
+    → after ≡ old ++ pos 6 ∷ low ∷ pos 7 ∷ high ∷ pos 8 ∷ tag ∷ []
+parts_pushed old one two after tag low high first second third =
     third
-    ∙ (ap (λ (all : List ℤ). all ++ pos 8 ∷ parts.0 ∷ []) (second ∙ ap (λ (all : List ℤ). all ++ pos 7 ∷ parts.2 ∷ []) first)
-    ∙ (append_assoc (old ++ pos 6 ∷ parts.1 ∷ []) (pos 7 ∷ parts.2 ∷ []) (pos 8 ∷ parts.0 ∷ [])
-    ∙ (append_assoc old (pos 6 ∷ parts.1 ∷ []) (pos 7 ∷ parts.2 ∷ pos 8 ∷ parts.0 ∷ [])
-    ∙ ap (λ (p : ℤ × ℤ × ℤ). old ++ pos 6 ∷ p.1 ∷ pos 7 ∷ p.2 ∷ pos 8 ∷ p.0 ∷ []) are)))
+    ∙ (ap (λ (all : List ℤ). all ++ pos 8 ∷ tag ∷ []) (second ∙ ap (λ (all : List ℤ). all ++ pos 7 ∷ high ∷ []) first)
+    ∙ (append_assoc (old ++ pos 6 ∷ low ∷ []) (pos 7 ∷ high ∷ []) (pos 8 ∷ tag ∷ [])
+    ∙ append_assoc old (pos 6 ∷ low ∷ []) (pos 7 ∷ high ∷ pos 8 ∷ tag ∷ [])))

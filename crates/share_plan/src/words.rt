@@ -4,7 +4,7 @@ ghost use Rattle.std.specs.Prelude.{◌≡◌, ◌++◌, ◌∷◌, [], pos, map
 ghost use Rattle.std.specs.List.{flat_map};
 ghost use Rattle.algebra.specs.declared.node.Node.TheVariants as variant;
 ghost use Rattle.scalar_ops.specs.Views.{term_of};
-ghost use Rattle.share_plan.specs.ExprWords.{text_words, term_words, list_words, op_parts, op_words};
+ghost use Rattle.share_plan.specs.ExprWords.{text_words, term_words, list_words, op_words};
 ghost use Rattle.share_plan.specs.Words.{flag_word, policy_word, kind_words, local_words, agg_words, head_words, tail_words, node_words};
 
 use algebra::{JoinKind, Local, Node};
@@ -327,40 +327,40 @@ fn push_text(words: &mut Vec<i128>, text: &str) -> Result<(), OutOfMemory>
 fn push_op(words: &mut Vec<i128>, op: Op) -> Result<(), OutOfMemory>
     ensures { OnOk result (words.new.items ≡ words.old.items ++ op_words op) }
 {
-    let (tag, low, high) = parts_of(op);
+    match op {
+        Op::GetBegin => push_parts(words, 0, 0, 0),
+        Op::GetEnd => push_parts(words, 1, 0, 0),
+        Op::GetLength => push_parts(words, 2, 0, 0),
+        Op::GetText => push_parts(words, 3, 0, 0),
+        Op::CombineSpans => push_parts(words, 4, 0, 0),
+        Op::SpanBetween => push_parts(words, 5, 0, 0),
+        Op::LeftContext => push_parts(words, 6, 0, 0),
+        Op::RightContext => push_parts(words, 7, 0, 0),
+        Op::LeftContextTok => push_parts(words, 8, 0, 0),
+        Op::RightContextTok => push_parts(words, 9, 0, 0),
+        Op::Follows { min, max } => push_parts(words, 10, i128::from(min), i128::from(max)),
+        Op::FollowsTok { min, max } => push_parts(words, 11, i128::from(min), i128::from(max)),
+        Op::Overlaps => push_parts(words, 12, 0, 0),
+        Op::Contains => push_parts(words, 13, 0, 0),
+        Op::Equals => push_parts(words, 14, 0, 0),
+        Op::GreaterThan => push_parts(words, 15, 0, 0),
+        Op::NotNull => push_parts(words, 16, 0, 0),
+        Op::ContainsRegex(pattern) => push_parts(words, 17, word(pattern), 0),
+        Op::MatchesRegex(pattern) => push_parts(words, 18, word(pattern), 0),
+        Op::ContainsDict(dict) => push_parts(words, 19, word(dict), 0),
+        Op::MatchesDict(dict) => push_parts(words, 20, word(dict), 0),
+        Op::Not => push_parts(words, 21, 0, 0),
+        Op::And => push_parts(words, 22, 0, 0),
+        Op::Or => push_parts(words, 23, 0, 0),
+    }
+}
+
+/// Puts an operator's bounds, and then its place in the table.
+fn push_parts(words: &mut Vec<i128>, tag: i128, low: i128, high: i128) -> Result<(), OutOfMemory>
+    ensures { OnOk result (words.new.items ≡ words.old.items ++ pos 6 ∷ low ∷ pos 7 ∷ high ∷ pos 8 ∷ tag ∷ []) }
+{
     push_pair(words, 6, low)?;
     push_pair(words, 7, high)?;
     push_pair(words, 8, tag)?;
     Ok(())
-}
-
-fn parts_of(op: Op) -> (i128, i128, i128)
-    ensures { result ≡ op_parts op }
-{
-    match op {
-        Op::GetBegin => (0, 0, 0),
-        Op::GetEnd => (1, 0, 0),
-        Op::GetLength => (2, 0, 0),
-        Op::GetText => (3, 0, 0),
-        Op::CombineSpans => (4, 0, 0),
-        Op::SpanBetween => (5, 0, 0),
-        Op::LeftContext => (6, 0, 0),
-        Op::RightContext => (7, 0, 0),
-        Op::LeftContextTok => (8, 0, 0),
-        Op::RightContextTok => (9, 0, 0),
-        Op::Follows { min, max } => (10, i128::from(min), i128::from(max)),
-        Op::FollowsTok { min, max } => (11, i128::from(min), i128::from(max)),
-        Op::Overlaps => (12, 0, 0),
-        Op::Contains => (13, 0, 0),
-        Op::Equals => (14, 0, 0),
-        Op::GreaterThan => (15, 0, 0),
-        Op::NotNull => (16, 0, 0),
-        Op::ContainsRegex(pattern) => (17, word(pattern), 0),
-        Op::MatchesRegex(pattern) => (18, word(pattern), 0),
-        Op::ContainsDict(dict) => (19, word(dict), 0),
-        Op::MatchesDict(dict) => (20, word(dict), 0),
-        Op::Not => (21, 0, 0),
-        Op::And => (22, 0, 0),
-        Op::Or => (23, 0, 0),
-    }
 }
