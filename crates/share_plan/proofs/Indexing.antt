@@ -1,30 +1,27 @@
 -- Nodes that are found by their lists of numbers: what a list finds, one node more, and a dictionary more.
-use Rattle.std.proofs.Common.{◌≡◌, ◌≢◌, ◌∙◌, ℕ, ℤ, ◌+◌, ◌<◌, ◌≤◌, ◌⊎◌, inl, inr, Bool, true, false, List, [], ◌∷◌, ◌++◌, length, map, get_or, set, slice_get, take, drop, refl, sym, ap, ap₂, subst, arith, Option, Some, None}
+use Rattle.std.proofs.Common.{◌≡◌, ◌≢◌, ◌∙◌, ℕ, ℤ, ◌+◌, ◌<◌, ◌⊎◌, inl, inr, Bool, false, List, [], ◌∷◌, ◌++◌, length, map, get_or, set, slice_get, take, drop, refl, sym, ap, ap₂, subst, arith, Option, Some}
 use Rattle.std.specs.List.{AllPairs}
 use Rattle.std.proofs.lemmas.Bool.{cases_lt}
-use Rattle.std.proofs.lemmas.List.{get_or-map, get_or-set_same, get_or-set_other, length-append, length-map, length-set, length-take-le, get_or_append_left, get_or_default, map-append, ext_get_or}
+use Rattle.std.proofs.lemmas.List.{get_or-map, get_or-set_same, get_or-set_other, length-map, length-set, length-take-le, get_or_append_left, get_or_default, map-append, ext_get_or}
 use Rattle.std.proofs.lemmas.List.Quantifiers.{all_pairs_push}
 use Rattle.std.proofs.lemmas.Option.{slice_get_within, get_or_from_slice_get, slice_get-get_or}
 use Rattle.std.proofs.Math.Seq.{set-append_seam}
 use Rattle.algebra.specs.declared.node.Node.{Node}
 use Rattle.algebra.specs.declared.node.Node.TheVariants.{Doc, Dict, DictPart}
-use Rattle.algebra.specs.declared.shape.Form.{Form}
-use Rattle.algebra.specs.declared.shape.Form.TheVariants.{Marked}
 use Rattle.algebra.specs.declared.shape.Shape.{Shape}
 use Rattle.algebra.specs.Growth.{Stands}
-use Rattle.algebra.specs.GrowthLaws.{is-at, stands-added}
-use Rattle.algebra.specs.Inputs.{left_input, IsAmong}
+use Rattle.algebra.specs.GrowthLaws.{is-at}
 use Rattle.algebra.specs.Nodes.{IsNode, IsPlan}
 use Rattle.algebra.specs.NodeLaws.{plan-push, split_at}
-use Rattle.algebra.specs.Shapes.{no_shape, shapes_of, HasPlace, HasPlaceForm}
+use Rattle.algebra.specs.Shapes.{shapes_of, HasPlaceForm}
 use Rattle.share_plan.specs.declared.kind.Kind.{Kind}
 use Rattle.share_plan.specs.declared.kind.Kind.TheVariants.{Source, Part, Plain}
-use Rattle.share_plan.specs.Indexes.{dict_at, emptied, found_as, found_by, keys_of, Key, IsInserted, IsIndex}
+use Rattle.share_plan.specs.Indexes.{dict_at, found_as, found_by, keys_of, Key, IsInserted, IsIndex}
 use Rattle.share_plan.specs.Kinds.{kind_of}
 use Rattle.share_plan.specs.Placing.{Keeps}
 use Rattle.share_plan.specs.Sharing.{AreDistinct, AreMerged}
 use Rattle.share_plan.specs.Words.{node_words}
-use Rattle.share_plan.proofs.Finding.{items_of, key_stands, keys_stay, keys_more, key_apart, key_last, there_in_front, there_set_other, there_set_same}
+use Rattle.share_plan.proofs.Finding.{items_of, key_stands, keys_stay, there_in_front, there_set_other, there_set_same}
 use Rattle.share_plan.proofs.KindLaws.{is_of_kind, plain-source, plain-part, source-part}
 use Rattle.share_plan.proofs.NodeReading.{words-told}
 use Rattle.share_plan.proofs.Parts.{is_node, dict_shape}

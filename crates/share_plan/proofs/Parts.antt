@@ -1,10 +1,9 @@
 -- What a part of a `Dict` node has: the rows of the node's input, followed by the matches of the part's dictionary.
-use Rattle.std.proofs.Common.{◌≡◌, ◌∙◌, ℕ, ◌+◌, ◌-◌, ◌<◌, ◌≤◌, ◌⊎◌, inl, inr, List, [], ◌∷◌, ◌++◌, length, get_or, slice_get, refl, sym, ap, subst, arith, Option, Some, None}
+use Rattle.std.proofs.Common.{◌≡◌, ◌∙◌, ℕ, ◌+◌, ◌-◌, ◌<◌, ◌⊎◌, inl, inr, List, [], ◌∷◌, ◌++◌, length, get_or, slice_get, refl, sym, ap, subst, arith, Some}
 use Rattle.std.proofs.lemmas.Bool.{cases_lt}
-use Rattle.std.proofs.lemmas.List.{length-append, get_or_append_left, get_or_at, append-nil}
+use Rattle.std.proofs.lemmas.List.{length-append, get_or_append_left, get_or_at}
 use Rattle.std.proofs.lemmas.Option.{slice_get_within, get_or_from_slice_get}
-use Rattle.aql_base.specs.Bags.{SameBag}
-use Rattle.aql_base.specs.BagLaws.{SameBag-trans, SameBag-is, SameBag-sym, SameBag-flat_map}
+use Rattle.aql_base.specs.BagLaws.{SameBag-trans, SameBag-is}
 use Rattle.span_token.specs.Documents.{Doc}
 use Rattle.scalar_ops.specs.Tables.{Lists}
 use Rattle.aql_typed.specs.Trees.{dict}
@@ -13,15 +12,15 @@ use Rattle.algebra.specs.declared.node.Node.{Node}
 use Rattle.algebra.specs.declared.node.Node.TheVariants.{Dict, DictPart}
 use Rattle.algebra.specs.declared.shape.Shape.{Shape}
 use Rattle.algebra.specs.DictLaws.{dict_part}
-use Rattle.algebra.specs.Folds.{of_input, had}
+use Rattle.algebra.specs.Folds.{had}
 use Rattle.algebra.specs.FoldLaws.{last-had}
-use Rattle.algebra.specs.Growth.{Grows, Has, Stands}
+use Rattle.algebra.specs.Growth.{Grows, Has}
 use Rattle.algebra.specs.GrowthLaws.{is-at, val-is, grows-length, shape-kept, val-kept, has-shape, has-same}
 use Rattle.algebra.specs.Mapping.{new_number, IsMapped}
 use Rattle.algebra.specs.Nodes.{IsPlan}
-use Rattle.algebra.specs.Operators.{op, followed, with_found}
+use Rattle.algebra.specs.Operators.{op, with_found}
 use Rattle.algebra.specs.Shapes.{columns, shape_by, no_shape, shapes_of, IsOpen}
-use Rattle.algebra.specs.Values.{val, value_after, all_values}
+use Rattle.algebra.specs.Values.{val, value_after}
 use Rattle.share_plan.specs.Placing.{IsOpenAt, Keeps, IsFound}
 
 -- a node that is there

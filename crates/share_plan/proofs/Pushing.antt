@@ -4,7 +4,7 @@ use Rattle.std.specs.List.{flat_map}
 use Rattle.std.proofs.lemmas.List.{flat_map_more, map-append, take_more}
 use Rattle.scalar_ops.specs.declared.expr.Expr.{Expr}
 use Rattle.scalar_ops.specs.declared.op.Op.{Op}
-use Rattle.scalar_ops.specs.Expressions.{Term, Terms, call, terms}
+use Rattle.scalar_ops.specs.Expressions.{Term, call, terms}
 use Rattle.scalar_ops.specs.Views.{term_of}
 use Rattle.share_plan.specs.ExprWords.{op_words, term_words, argument_words, list_words}
 

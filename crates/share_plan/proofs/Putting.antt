@@ -1,6 +1,6 @@
 -- What holds after a node was put, by whether its list of numbers was there.
-use Rattle.std.proofs.Common.{◌≡◌, ◌∙◌, ℕ, ◌+◌, ◌<◌, ◌≤◌, Bool, true, false, List, [], ◌∷◌, ◌++◌, length, get_or, set, slice_get, refl, sym, ap, subst, arith, Option, Some, None}
-use Rattle.std.proofs.lemmas.List.{length-append, length-set, get_or_at}
+use Rattle.std.proofs.Common.{◌≡◌, ◌∙◌, ℕ, ◌<◌, true, false, List, [], ◌∷◌, ◌++◌, length, set, slice_get, refl, sym, ap, subst, arith, Option, Some}
+use Rattle.std.proofs.lemmas.List.{length-append, get_or_at}
 use Rattle.std.proofs.lemmas.Option.{slice_get_within, slice_get-get_or}
 use Rattle.algebra.specs.declared.node.Node.{Node}
 use Rattle.algebra.specs.declared.node.Node.TheVariants.{Doc, Dict, DictPart}
@@ -11,13 +11,13 @@ use Rattle.algebra.specs.GrowthLaws.{is-at, stands-added}
 use Rattle.algebra.specs.Nodes.{IsNode, IsPlan}
 use Rattle.algebra.specs.Shapes.{shape_by, no_shape, shapes_of, HasPlace}
 use Rattle.share_plan.specs.declared.kind.Kind.{Kind}
-use Rattle.share_plan.specs.declared.kind.Kind.TheVariants.{Source, Part, Plain}
+use Rattle.share_plan.specs.declared.kind.Kind.TheVariants.{Source, Plain}
 use Rattle.share_plan.specs.Indexes.{dict_at, found_as, found_by, Key, IsInserted, IsIndex}
 use Rattle.share_plan.specs.Kinds.{kind_of}
 use Rattle.share_plan.specs.Placing.{IsOpenAt, Keeps, IsDictOf, IsFound}
 use Rattle.share_plan.specs.Words.{node_words}
-use Rattle.share_plan.proofs.Finding.{keys_stay, keys_more, key_apart, key_last, there_in_front}
-use Rattle.share_plan.proofs.Indexing.{long_keys, index-kept, plain-there, dict-there, part-there, index-more, index-wider, wider-keeps, wider-at}
+use Rattle.share_plan.proofs.Finding.{keys_more, key_apart, key_last, there_in_front}
+use Rattle.share_plan.proofs.Indexing.{long_keys, part-there, index-more, index-wider, wider-keeps, wider-at}
 use Rattle.share_plan.proofs.KindLaws.{open_inputs}
 use Rattle.share_plan.proofs.Parts.{is_node, dict_shape, part_found, keeps_grows, keeps_trans, found_kept}
 

@@ -1,35 +1,30 @@
 -- Nodes that are put together anew, each column searched for dictionaries once: what holds after some of them.
-use Rattle.std.proofs.Common.{◌≡◌, ◌∙◌, ℕ, ◌+◌, ◌<◌, ◌≤◌, ◌⊎◌, inl, inr, List, [], ◌∷◌, ◌++◌, length, map, get_or, slice_get, take, drop, refl, sym, ap, subst, arith, Option, Some, None}
-use Rattle.std.specs.declared.alloc.Global.{Global}
+use Rattle.std.proofs.Common.{◌≡◌, ◌∙◌, ℕ, ◌+◌, ◌<◌, inl, inr, List, [], ◌∷◌, ◌++◌, length, map, get_or, slice_get, take, drop, refl, sym, ap, subst, arith, Option, Some}
 use Rattle.std.proofs.lemmas.Bool.{cases_lt}
 use Rattle.std.proofs.lemmas.List.{map-id, length-append, get_or_append_left, get_or_at}
 use Rattle.std.proofs.lemmas.Option.{slice_get_within, get_or_from_slice_get, slice_get-get_or}
-use Rattle.span_token.specs.Documents.{Doc as Document}
-use Rattle.scalar_ops.specs.Tables.{Lists}
-use Rattle.aql_base.specs.Bags.{SameBag}
-use Rattle.aql_base.specs.BagLaws.{SameBag-is, SameBag-sym, SameBag-trans, SameBag-flat_map}
+use Rattle.aql_base.specs.BagLaws.{SameBag-is, SameBag-trans, SameBag-flat_map}
 use Rattle.aql_typed.specs.Trees.{dict}
 use Rattle.algebra.specs.declared.node.Node.{Node}
 use Rattle.algebra.specs.declared.node.Node.TheVariants.{Doc, Dict, DictPart}
-use Rattle.algebra.specs.declared.shape.Form.{Form}
 use Rattle.algebra.specs.declared.shape.Shape.{Shape}
 use Rattle.algebra.specs.Folds.{of_input, had}
 use Rattle.algebra.specs.FoldLaws.{length-each, front-kept, all-at}
-use Rattle.algebra.specs.Growth.{Has, Stands}
+use Rattle.algebra.specs.Growth.{Has}
 use Rattle.algebra.specs.GrowthLaws.{is-at, has-same, has-shape}
 use Rattle.algebra.specs.Inputs.{left_input, right_input, with_inputs, IsAmong}
-use Rattle.algebra.specs.Mapping.{new_number, IsMapped, KeepsInputs}
+use Rattle.algebra.specs.Mapping.{new_number, IsMapped}
 use Rattle.algebra.specs.MappingLaws.{node-renamed, mapped-push, mapped-skip}
 use Rattle.algebra.specs.Nodes.{IsNode, IsPlan}
 use Rattle.algebra.specs.NodeLaws.{plan-at, plan-front, split_at, valid-kept}
 use Rattle.algebra.specs.Operators.{followed, with_found}
-use Rattle.algebra.specs.Shapes.{columns, shape_by, no_shape, shapes_of, IsOpen, IsOpenForm, HasPlaceForm}
+use Rattle.algebra.specs.Shapes.{columns, shape_by, no_shape, shapes_of, IsOpen, HasPlaceForm}
 use Rattle.algebra.specs.Values.{val, value_after}
 use Rattle.share_plan.specs.declared.kind.Kind.{Kind}
 use Rattle.share_plan.specs.declared.kind.Kind.TheVariants.{Source, Part, Plain}
 use Rattle.share_plan.specs.Indexes.{Key, IsIndex}
 use Rattle.share_plan.specs.Kinds.{kind_of}
-use Rattle.share_plan.specs.Placing.{IsOpenAt, Keeps, IsFound, HasSource, MayPut, IsPut}
+use Rattle.share_plan.specs.Placing.{IsOpenAt, IsFound, HasSource, MayPut, IsPut}
 use Rattle.share_plan.proofs.Finding.{there_in_front}
 use Rattle.share_plan.proofs.KindLaws.{is_of_kind, renamed_kind, kind-renamed, has_places, plain-source, source-part, open_inputs}
 use Rattle.share_plan.proofs.Parts.{is_node, width_at, shape_behind, rows_behind, mapped_keeps, mapped_has}

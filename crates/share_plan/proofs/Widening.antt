@@ -1,9 +1,9 @@
 -- A `Dict` node with one dictionary more: every other node keeps its shape, and its rows on each document.
-use Rattle.std.proofs.Common.{◌≡◌, ◌∙◌, ℕ, zero, suc, ◌+◌, ◌-◌, ◌<◌, ◌≤◌, ◌⊎◌, inl, inr, List, [], ◌∷◌, ◌++◌, length, get_or, set, slice_get, take, drop, refl, sym, ap, ap₂, subst, arith, Option, Some, None}
+use Rattle.std.proofs.Common.{◌≡◌, ◌∙◌, ℕ, ◌+◌, ◌-◌, ◌<◌, ◌≤◌, ◌⊎◌, inl, inr, List, [], ◌∷◌, ◌++◌, length, get_or, slice_get, refl, sym, ap, ap₂, subst, arith, Option, Some, None}
 use Rattle.std.specs.Option.{IfSome}
 use Rattle.std.proofs.lemmas.Bool.{cases_lt}
 use Rattle.std.proofs.lemmas.List.{length-append, get_or_append_left, get_or_at}
-use Rattle.std.proofs.lemmas.Option.{slice_get_within, get_or_from_slice_get, slice_get-get_or}
+use Rattle.std.proofs.lemmas.Option.{slice_get-get_or}
 use Rattle.span_token.specs.Documents.{Doc}
 use Rattle.scalar_ops.specs.Tables.{Lists}
 use Rattle.aql_typed.specs.Trees.{dict}
@@ -15,19 +15,18 @@ use Rattle.algebra.specs.declared.shape.Form.TheVariants.{Marked}
 use Rattle.algebra.specs.declared.shape.Shape.{Shape}
 use Rattle.algebra.specs.DictLaws.{part-marked}
 use Rattle.algebra.specs.Folds.{of_input, had, all_from}
-use Rattle.algebra.specs.FoldLaws.{all-append, length-all, length-each}
+use Rattle.algebra.specs.FoldLaws.{all-append, length-each}
 use Rattle.algebra.specs.Inputs.{left_input, right_input, IsAmong}
 use Rattle.algebra.specs.Mapping.{KeepsInputs}
 use Rattle.algebra.specs.Nodes.{IsNode, ArePlanned, IsPlan}
 use Rattle.algebra.specs.NodeLaws.{plan-at}
-use Rattle.algebra.specs.Operators.{op, part_of, with_found, marked_in}
+use Rattle.algebra.specs.Operators.{op, with_found}
 use Rattle.algebra.specs.Shapes.{columns, shape_by, no_shape, shapes_of, IsOpen, IsOpenForm, HasPlace, HasPlaceForm, IsMade}
-use Rattle.algebra.specs.Values.{val}
 use Rattle.scalar_ops.specs.Extractions.{of_some}
 use Rattle.share_plan.specs.declared.kind.Kind.{Kind}
 use Rattle.share_plan.specs.declared.kind.Kind.TheVariants.{Source, Part, Plain}
 use Rattle.share_plan.specs.Kinds.{kind_of}
-use Rattle.share_plan.specs.Placing.{IsOpenAt, Keeps}
+use Rattle.share_plan.specs.Placing.{Keeps}
 use Rattle.share_plan.proofs.KindLaws.{is_of_kind, open_inputs}
 
 -- whether two numbers are one

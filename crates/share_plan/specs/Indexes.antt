@@ -1,6 +1,6 @@
 -- Nodes that are found by lists of numbers: a `Dict` node by its input and column, a part of one by its dictionary, any other
 -- node as it is.
-use Rattle.std.specs.Prelude.{ℕ, ℤ, ◌≡◌, ◌≢◌, Bool, true, not, if◌then◌else◌, Option, Some, None, List, [], ◌∷◌, ◌++◌, map, slice_get, slice_index_or}
+use Rattle.std.specs.Prelude.{ℕ, ℤ, ◌≡◌, ◌≢◌, Bool, true, not, if◌then◌else◌, Option, Some, List, [], ◌∷◌, ◌++◌, map, slice_get, slice_index_or}
 use Rattle.std.specs.Cmp.Lexicographic.{pointwise}
 use Rattle.std.specs.List.{AllPairs, list_any}
 use Rattle.std.specs.Ordering.{int_eq}

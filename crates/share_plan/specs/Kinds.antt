@@ -1,5 +1,4 @@
 -- How nodes are put into a plan in which each column is searched for dictionaries once.
-use Rattle.std.specs.Prelude.{ℕ, List, []}
 use Rattle.algebra.specs.declared.node.Node.{Node}
 use Rattle.algebra.specs.declared.node.Node.TheVariants.{Dict, DictPart}
 use Rattle.share_plan.specs.declared.kind.Kind.{Kind}

@@ -1,4 +1,4 @@
-use Rattle.std.proofs.Common.{rules, ◌≡◌, ◌+◌, ◌++◌, ◌∷◌, List, length, drop, sym, subst, Global}
+use Rattle.std.proofs.Common.{rules, ◌+◌, List, length, drop, sym, subst, Global}
 use Rattle.std.proofs.lemmas.Iterator.Adapters.{YieldsList-from_vec}
 use Rattle.std.proofs.lemmas.Iterator.Consumers.{YieldsList-turn, YieldsList-so_far}
 use Rattle.algebra.specs.declared.node.Node.{Node}

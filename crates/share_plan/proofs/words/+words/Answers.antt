@@ -1,5 +1,5 @@
-use Rattle.std.proofs.Common.{◌≡◌, ◌∙◌, ◌++◌, ℤ, ap, sym, map, List}
-use Rattle.scalar_ops.specs.Expressions.{Term, call, terms}
+use Rattle.std.proofs.Common.{◌≡◌, ◌∙◌, ◌++◌, ap, sym, map, List}
+use Rattle.scalar_ops.specs.Expressions.{Term}
 use Rattle.scalar_ops.specs.Views.{term_of}
 use Rattle.scalar_ops.specs.declared.expr.Expr.{Expr}
 use Rattle.share_plan.specs.ExprWords.{term_words, list_words}

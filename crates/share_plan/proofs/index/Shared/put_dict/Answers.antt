@@ -1,7 +1,7 @@
 use Rattle.std.proofs.Common.{rules, ◌≡◌, ◌∙◌, ◌++◌, ◌∷◌, [], ℕ, Bool, true, false, List, ap, sym, subst}
 use Rattle.algebra.specs.declared.node.Node.{Node}
 use Rattle.algebra.specs.declared.node.Node.TheVariants.{Dict}
-use Rattle.share_plan.specs.Indexes.{Key, IsInserted, IsIndex}
+use Rattle.share_plan.specs.Indexes.{IsInserted, IsIndex}
 use Rattle.share_plan.specs.Placing.{IsDictOf}
 use Rattle.share_plan.proofs.Indexing.{dict-there}
 use Rattle.share_plan.proofs.Putting.{dict-stands, dict-index}

@@ -1,4 +1,4 @@
-use Rattle.std.proofs.Common.{rules, ◌≡◌, Bool, true, false, sym, subst}
+use Rattle.std.proofs.Common.{rules, ◌≡◌, Bool, true, false, subst}
 use Rattle.share_plan.specs.Indexes.{IsInserted}
 use Rattle.share_plan.proofs.Putting.{part-stays, part-more}
 use Rattle.share_plan.proofs.index.Shared.put_dictionary.Goals as goal
