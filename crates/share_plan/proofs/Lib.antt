@@ -1,0 +1,17 @@
+-- expressions and nodes are read from their numbers
+pub mod ExprViews
+pub mod Pushing
+pub mod ExprReading
+pub mod NodeReading
+-- kinds of nodes, and what they may read
+pub mod KindLaws
+-- a `Dict` node with one dictionary more, and what a part of it has
+pub mod Widening
+pub mod Parts
+-- nodes that are found by their numbers
+pub mod Finding
+pub mod Indexing
+pub mod Putting
+-- nodes that are put together anew, and their outputs
+pub mod Rebuilding
+pub mod Outputs

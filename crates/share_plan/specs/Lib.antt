@@ -1,0 +1,11 @@
+-- Words of public clauses
+-- plans without equal nodes, and with one `Dict` node for a column
+pub mod Sharing
+-- Words of private clauses
+-- kinds of nodes, and nodes as lists of numbers
+pub mod Kinds
+pub mod ExprWords
+pub mod Words
+-- nodes that are found by their numbers, and how one more is put
+pub mod Indexes
+pub mod Placing

@@ -1,0 +1,102 @@
+//! Plans without equal nodes, by their texts.
+
+use crate::programs::typed;
+use plan_maker::{lower, plan_text};
+use share_plan::share;
+use std::test::Fail;
+
+/// Programs and their plans: two dictionaries on the document's text are one node, and a view that is written
+/// twice is one; so are dictionaries on views that become one; patterns with other groups, conditions and
+/// dictionaries on another column stay apart.
+static PLANS: [(&str, &str); 3] = [
+    (
+        "create dictionary Cities as ('New York');
+         create dictionary Words as ('York', 'New');
+         create view City as extract dictionary Cities on d.text as m from Document d;
+         create view Word as extract dictionary Words on d.text as m from Document d;
+         create view Town as extract dictionary Cities on t.text as m from Document t;
+         output view City;
+         output view Word;
+         output view Town;",
+        "0 Doc
+1 Dict 0
+2 DictPart 1
+3 Project 2
+4 DictPart 1
+5 Project 4
+out City 3
+out Word 5
+out Town 3
+",
+    ),
+    (
+        "create dictionary Cities as ('New York');
+         create dictionary Words as ('York', 'New');
+         create view City as extract dictionary Cities on d.text as m from Document d;
+         create view Town as extract dictionary Cities on t.text as m from Document t;
+         create view InCity as extract dictionary Words on c.m as n from City c;
+         create view InTown as extract dictionary Cities on c.m as n from Town c;
+         output view InCity;
+         output view InTown;",
+        "0 Doc
+1 Dict 0
+2 DictPart 1
+3 Project 2
+4 Dict 3
+5 DictPart 4
+6 Project 5
+7 DictPart 4
+8 Project 7
+out InCity 6
+out InTown 8
+",
+    ),
+    (
+        "create view First as extract regex /(a)(b)/ on d.text return group 1 as m from Document d;
+         create view Second as extract regex /(a)(b)/ on d.text return group 2 as m from Document d;
+         create view Long as select f.m from First f where GreaterThan(GetLength(f.m), 1);
+         create view Short as select f.m from First f where GreaterThan(GetLength(f.m), 2);
+         create view Same as select g.m from First g where GreaterThan(GetLength(g.m), 1);
+         output view Second;
+         output view Long;
+         output view Short;
+         output view Same;",
+        "0 Doc
+1 Regex 0
+2 Project 1
+3 Regex 0
+4 Project 3
+5 Select 2
+6 Project 5
+7 Select 2
+8 Project 7
+out Second 4
+out Long 6
+out Short 8
+out Same 6
+",
+    ),
+];
+
+#[test]
+fn plans_do_nothing_twice(rt: HostRuntime) -> Result<(), Fail> {
+    let alloc = rt.alloc();
+    for (program, want) in &PLANS {
+        let plan = share(alloc, lower(alloc, typed(alloc, program)?)?)?;
+        let got = plan_text(alloc, &plan)?;
+        assert_eq!(rt; got.as_str(), *want, "of {program}");
+    }
+    Ok(())
+}
+
+#[test]
+fn a_plan_that_was_shared_stays_as_it_is(rt: HostRuntime) -> Result<(), Fail> {
+    let alloc = rt.alloc();
+    for (program, want) in &PLANS {
+        let plan = share(alloc, lower(alloc, typed(alloc, program)?)?)?;
+        let again = share(alloc, plan)?;
+        let got = plan_text(alloc, &again)?;
+        assert_eq!(rt; got.as_str(), *want, "of {program}");
+    }
+    Ok(())
+}
