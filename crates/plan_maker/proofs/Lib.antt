@@ -15,6 +15,6 @@ pub mod Numbers
 -- conditions that are taken apart
 pub mod Parting
 -- plans that keep the outputs of lowered ones
-pub mod Making
+pub mod MadePlans
 -- selections and extractions, one node after another
 pub mod Clauses
