@@ -1,4 +1,4 @@
--- A plan that a program was lowered to gives the lines that the program means.
+-- A plan that was made of a program gives the lines that the program means.
 use Rattle.std.proofs.Common.{◌≡◌, ◌++◌, ◌+◌, ℕ, zero, suc, List, [], ◌∷◌, length, map, refl, sym, ap, ap₂, ◌∙◌, length-append}
 use Rattle.std.specs.List.{AllZip, zip, range_with_len}
 use Rattle.std.proofs.lemmas.List.{length-map}
@@ -22,7 +22,8 @@ use Rattle.algebra.specs.Plans.{Parts}
 use Rattle.algebra.specs.Values.{val}
 use Rattle.demo_corpus.specs.Totals.{Answer, Tally, size_at, total_of, tally_of}
 use Rattle.demo_corpus.specs.Summaries.{summary_of}
-use Rattle.plan_maker.specs.Lowered.{ShowsOutput, IsLowered}
+use Rattle.plan_maker.specs.Lowered.{ShowsOutput}
+use Rattle.plan_maker.specs.Shown.{ShowsProgram}
 use Rattle.aqlx_top.specs.Modes.{summary_on}
 use Rattle.aqlx_top.specs.Planned.{names_in, rows_by, line_by, summary_by}
 use Rattle.aqlx_top.specs.Plans.{IsPlanOf}
@@ -109,25 +110,25 @@ module _ (typed : Typed) (plan : Parts) where
   rows_are doc (out ∷ outs) [] all = absurd all
   rows_are doc (out ∷ outs) (s ∷ ss) all = (all.0.rows doc, rows_are doc outs ss all.1)
 
-  lowered_means : IsLowered typed plan → (doc : Doc) → line_by plan doc ≡ line_of (program_of typed) doc
-  lowered_means low doc =
-      ap (λ (names : List OutputNames). output_line doc names (rows_by plan doc)) (names_are typed.1.1 plan.outputs low.outputs)
-      ∙ lines_alike doc (map (names_of typed.0) typed.1.1) (rows_by plan doc) (map (output_rows typed.1.0 doc (map body_of typed.0)) (map (λ (out : Output). out.view) typed.1.1)) (rows_are doc typed.1.1 plan.outputs low.outputs)
+  made_means : ShowsProgram typed plan → (doc : Doc) → line_by plan doc ≡ line_of (program_of typed) doc
+  made_means shows doc =
+      ap (λ (names : List OutputNames). output_line doc names (rows_by plan doc)) (names_are typed.1.1 plan.outputs shows.outputs)
+      ∙ lines_alike doc (map (names_of typed.0) typed.1.1) (rows_by plan doc) (map (output_rows typed.1.0 doc (map body_of typed.0)) (map (λ (out : Output). out.view) typed.1.1)) (rows_are doc typed.1.1 plan.outputs shows.outputs)
 
-  lowered_counts : IsLowered typed plan → (docs : List Doc) → summary_by plan docs ≡ summary_on (program_of typed) docs
-  lowered_counts low docs =
-      let names : names_in plan ≡ outputs_of typed = names_are typed.1.1 plan.outputs low.outputs in
+  made_counts : ShowsProgram typed plan → (docs : List Doc) → summary_by plan docs ≡ summary_on (program_of typed) docs
+  made_counts shows docs =
+      let names : names_in plan ≡ outputs_of typed = names_are typed.1.1 plan.outputs shows.outputs in
       let as_many : length plan.outputs ≡ length (outputs_of typed) = sym (length-map plan.outputs (λ (out : PlanOut). out.names)) ∙ ap length names in
       ap₂ summary_of names
       (ap (λ n. tally_of n (map (rows_by plan) docs)) as_many
-      ∙ tallies_alike (rows_by plan) (rows_for (program_of typed)) (λ doc. rows_are doc typed.1.1 plan.outputs low.outputs) (length (outputs_of typed)) docs)
+      ∙ tallies_alike (rows_by plan) (rows_for (program_of typed)) (λ doc. rows_are doc typed.1.1 plan.outputs shows.outputs) (length (outputs_of typed)) docs)
 
 -- so does the plan of a text
 pub plan_means : (text : List ℕ) (plan : Parts) (planned : IsPlanOf text plan) (doc : Doc) → line_by plan doc ≡ line_of planned.program doc
 plan_means text plan planned doc =
-    lowered_means planned.holds.typed plan planned.lowered doc ∙ ap (λ (program : Program). line_of program doc) (sym planned.holds.program_is)
+    made_means planned.holds.typed plan planned.shows doc ∙ ap (λ (program : Program). line_of program doc) (sym planned.holds.program_is)
 
 -- and its summaries are those that the program means
 pub plan_counts : (text : List ℕ) (plan : Parts) (planned : IsPlanOf text plan) (docs : List Doc) → summary_by plan docs ≡ summary_on planned.program docs
 plan_counts text plan planned docs =
-    lowered_counts planned.holds.typed plan planned.lowered docs ∙ ap (λ (program : Program). summary_on program docs) (sym planned.holds.program_is)
+    made_counts planned.holds.typed plan planned.shows docs ∙ ap (λ (program : Program). summary_on program docs) (sym planned.holds.program_is)

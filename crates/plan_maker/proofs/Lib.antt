@@ -14,5 +14,7 @@ pub mod Bases
 pub mod Numbers
 -- conditions that are taken apart
 pub mod Parting
+-- plans that keep the outputs of lowered ones
+pub mod MadePlans
 -- selections and extractions, one node after another
 pub mod Clauses

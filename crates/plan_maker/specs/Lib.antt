@@ -1,6 +1,8 @@
 -- Words of public clauses
 -- what a plan keeps of a typed program
 pub mod Lowered
+-- and what the plan by which it is run keeps of it
+pub mod Shown
 -- the text of a plan
 pub mod PlanTexts
 -- Words of private clauses

@@ -12,10 +12,12 @@ mod copying;
 mod extraction;
 mod joining;
 mod lowering;
+mod making;
 mod outputs;
 mod query;
 mod selection;
 mod text;
 
 pub use lowering::lower;
+pub use making::make_plan;
 pub use text::plan_text;
