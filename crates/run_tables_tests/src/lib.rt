@@ -4,4 +4,6 @@
 #[cfg(test)]
 mod claims;
 #[cfg(test)]
+mod computing;
+#[cfg(test)]
 mod results;
