@@ -7,7 +7,8 @@ const DEMO_OF_2: &str =
     "documents 2\nDate 2\nDigits 3\nFirstPerson 2\nLongName 3\nLowerName 0\nNumberRun 6\nPerson 5\nPersonCity 1\nPersonOrg 2\nPersonPhone 1\nPersonRole 0\n";
 
 /// On two hundred.
-const DEMO_OF_200: &str = "documents 200\nDate 75\nDigits 369\nFirstPerson 175\nLongName 225\nLowerName 75\nNumberRun 532\nPerson 300\nPersonCity 75\nPersonOrg 75\nPersonPhone 81\nPersonRole 0\n";
+const DEMO_OF_200: &str =
+    "documents 200\nDate 75\nDigits 369\nFirstPerson 175\nLongName 225\nLowerName 75\nNumberRun 532\nPerson 300\nPersonCity 75\nPersonOrg 75\nPersonPhone 81\nPersonRole 0\n";
 
 /// And on none.
 const DEMO_OF_0: &str =
