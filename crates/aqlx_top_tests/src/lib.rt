@@ -1,6 +1,7 @@
-//! Tests of the top call, over files, sources and sinks in memory.
+//! Tests of the top call, over files, sources and sinks in memory, and of plans of texts.
 //!
-//! It has no functions of its own: its tests call public items of `aqlx_top` and `aql_io` alone.
+//! It has no functions of its own: its tests call public items of `aqlx_top`, `aql_io`, `plan_maker` and
+//! `span_token` alone.
 #![tactic(auto)]
 
 #[cfg(test)]
@@ -9,6 +10,8 @@ mod devices;
 mod documents;
 #[cfg(test)]
 mod language;
+#[cfg(test)]
+mod plans;
 #[cfg(test)]
 mod programs;
 #[cfg(test)]
