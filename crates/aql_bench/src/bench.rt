@@ -18,6 +18,8 @@ pub(crate) enum Mode {
     Told,
     /// So many rounds over a text of so many bytes; the best one's speed is printed to standard error.
     Timed { rounds: u32, bytes: usize },
+    /// So many rounds over so many items; the best one's time an item is printed to standard error.
+    Counted { rounds: u32, items: u32 },
 }
 
 /// Runs a bench and prints what the mode asks for.
@@ -38,6 +40,15 @@ pub(crate) fn run<R: Eprint + Print + Clock, B: Bench>(
             let speed = bytes as u128 * 1000 / nanos;
             eprintln!(rt;
                 "{name}: {speed} MB/s, best of {rounds}, {} us, came to {came}",
+                nanos / 1000
+            )?;
+        }
+        Mode::Counted { rounds, items } => {
+            let (best, came) = best_of(rt, rounds, bench)?;
+            let nanos = best.as_nanos();
+            let each = nanos / u128::from(items.max(1));
+            eprintln!(rt;
+                "{name}: {each} ns an item, best of {rounds}, {} us, came to {came}",
                 nanos / 1000
             )?;
         }
