@@ -25,8 +25,8 @@ static PLANS: [(&str, &str); 3] = [
 4 DictPart 1
 5 Project 4
 out City 3
-out Word 5
 out Town 3
+out Word 5
 ",
     ),
     (
@@ -70,10 +70,10 @@ out InTown 8
 6 Project 5
 7 Select 2
 8 Project 7
-out Second 4
 out Long 6
-out Short 8
 out Same 6
+out Second 4
+out Short 8
 ",
     ),
 ];
