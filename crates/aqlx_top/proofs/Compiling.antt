@@ -72,7 +72,8 @@ module _ (text : List ℕ) (toks : List Tok) (decided : IsDecided text) (reads :
             program_is = refl;
             faultless = has_no_fault text trees built.order built.typed decided held one names built.resolved built.is_typed;
           };
-          lowered = built.lowered;
+          shows = built.shows;
+          promised = built.promised;
         }
 
         pub refused_form : (failure : Failure ProgramFault) → IsRefusedFor (map token_of toks) trees failure → HasCause text failure

@@ -1,4 +1,4 @@
--- A plan that a program was lowered to gives the lines that the program means.
+-- A plan that shows what a program means gives the lines that it means.
 use Rattle.std.proofs.Common.{◌≡◌, ◌++◌, ℕ, List, [], ◌∷◌, map, refl, sym, ap, ap₂, ◌∙◌}
 use Rattle.std.specs.List.{AllZip, zip}
 use Rattle.aql_base.specs.Bags.{SameBag}
@@ -17,7 +17,7 @@ use Rattle.aql_typed.specs.Views.{body_of}
 use Rattle.algebra.specs.declared.output.PlanOut.{PlanOut}
 use Rattle.algebra.specs.Plans.{Parts}
 use Rattle.algebra.specs.Values.{val}
-use Rattle.plan_maker.specs.Lowered.{ShowsOutput, IsLowered}
+use Rattle.plan_maker.specs.Lowered.{ShowsOutput, ShowsProgram}
 use Rattle.aqlx_top.specs.Planned.{rows_by, line_by}
 use Rattle.aqlx_top.specs.Plans.{IsPlanOf}
 use Rattle.aqlx_top.specs.Run.{Typed, Program, program_of, line_of}
@@ -68,12 +68,12 @@ module _ (typed : Typed) (plan : Parts) where
   rows_are doc (out ∷ outs) [] all = absurd all
   rows_are doc (out ∷ outs) (s ∷ ss) all = (all.0.rows doc, rows_are doc outs ss all.1)
 
-  lowered_means : IsLowered typed plan → (doc : Doc) → line_by plan doc ≡ line_of (program_of typed) doc
-  lowered_means low doc =
-      ap (λ (names : List OutputNames). output_line doc names (rows_by plan doc)) (names_are typed.1.1 plan.outputs low.outputs)
-      ∙ lines_alike doc (map (names_of typed.0) typed.1.1) (rows_by plan doc) (map (output_rows typed.1.0 doc (map body_of typed.0)) (map (λ (out : Output). out.view) typed.1.1)) (rows_are doc typed.1.1 plan.outputs low.outputs)
+  shown_means : ShowsProgram typed plan → (doc : Doc) → line_by plan doc ≡ line_of (program_of typed) doc
+  shown_means shows doc =
+      ap (λ (names : List OutputNames). output_line doc names (rows_by plan doc)) (names_are typed.1.1 plan.outputs shows.outputs)
+      ∙ lines_alike doc (map (names_of typed.0) typed.1.1) (rows_by plan doc) (map (output_rows typed.1.0 doc (map body_of typed.0)) (map (λ (out : Output). out.view) typed.1.1)) (rows_are doc typed.1.1 plan.outputs shows.outputs)
 
 -- so does the plan of a text
 pub plan_means : (text : List ℕ) (plan : Parts) (planned : IsPlanOf text plan) (doc : Doc) → line_by plan doc ≡ line_of planned.program doc
 plan_means text plan planned doc =
-    lowered_means planned.holds.typed plan planned.lowered doc ∙ ap (λ (program : Program). line_of program doc) (sym planned.holds.program_is)
+    shown_means planned.holds.typed plan planned.shows doc ∙ ap (λ (program : Program). line_of program doc) (sym planned.holds.program_is)

@@ -15,7 +15,7 @@ use aql_lexer::Tok;
 use aql_parser::parse;
 use aql_syntax::Statement;
 use aql_types::{TypeFault, check};
-use plan_maker::lower;
+use plan_maker::make_plan;
 use row_values::Output;
 use span_token::Failure;
 use std::alloc::Global;
@@ -23,8 +23,9 @@ use view_graph::{Graph, resolve};
 
 /// The plan of a program's text.
 ///
-/// The program has no fault, and the plan is lowered from its typed form: each of its outputs shows on each
-/// document what the view of that output means, as a bag. A text with a fault is refused for its first one, in
+/// The program has no fault, and the plan is made of its typed form: each of its outputs shows on each
+/// document what the view of that output means, as a bag, and nothing in it is done twice (`IsPromised`,
+/// `specs/Promised.antt` of `plan_maker`). A text with a fault is refused for its first one, in
 /// the order that `ProgramFault` tells; `Text` is never answered, since the text is UTF-8.
 ///
 /// Meaning: `IsPlanOf`, `specs/Plans.antt`; of a fault: `HasCause`, `specs/ProgramFaults.antt`.
@@ -86,7 +87,7 @@ fn typed(alloc: Global, toks: &[Tok], graph: &Graph) -> Result<Plan, Failure<Pro
 {
     match check(alloc, graph) {
         Ok(typed) => {
-            let plan = lower(alloc, typed)?;
+            let plan = make_plan(alloc, typed)?;
             Ok(plan)
         }
         Err(Failure::Fault(fault)) => Err(Failure::Fault(placed(toks, fault))),

@@ -16,3 +16,5 @@ pub mod Numbers
 pub mod Parting
 -- selections and extractions, one node after another
 pub mod Clauses
+-- plans that keep the outputs of a lowered one
+pub mod Keeping

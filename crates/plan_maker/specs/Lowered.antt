@@ -66,6 +66,11 @@ abbrev mutual
   sources_size no_sources = 0
   sources_size (more_sources source sources) = source_size source + sources_size sources
 
+-- the plan has the program's tables, and its outputs one by one
+pub record ShowsProgram (program : Program) (plan : Parts) : Type 0 where
+  pub lists : plan.lists ≡ program.1.0
+  pub outputs : AllZip (ShowsOutput program plan) program.1.1 plan.outputs
+
 -- the plan has the program's tables, and its outputs one by one; its nodes have the forms of lowering, and there are at
 -- most eight for each query and source of the views, and one for the document
 pub record IsLowered (program : Program) (plan : Parts) : Type 0 where
