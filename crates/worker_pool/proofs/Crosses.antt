@@ -25,7 +25,6 @@ use Rattle.algebra.specs.contracts.plan.Plan as Plan
 use Rattle.run_tables.specs.declared.work.Work as Work
 use Rattle.run_tables.proofs.claims.ClaimSeat.TheSendSync as seat
 use Rattle.run_tables.proofs.claims.Claims.TheSendSync as claims
-use Rattle.run_tables.proofs.published.Published.TheSendSync as published
 use Rattle.run_tables.proofs.results.Results.TheSendSync as results
 use Rattle.worker_pool.specs.contracts.crew.Worker as Worker
 use Rattle.worker_pool.specs.contracts.window.Window as Window
@@ -53,7 +52,7 @@ Worker-send p = search (tools, seat.the_send, option.the_field_send, crosses, se
 
 module _ (a d : NamedLft) (W : RattleType) (w : Work.Ghosts W.Denot) (G : RattleType) where
   Window-sync : IsSend W → IsSync W → IsSync G → IsSync (Window.the_row a d W G w)
-  Window-sync ws wy gy = search (Plan-sync, document.the_sync, results.the_sync, published.the_send, published.the_sync, crosses, sendable) depth 60 fits 20000
+  Window-sync ws wy gy = search (Plan-sync, document.the_sync, results.the_sync, crosses, sendable) depth 60 fits 20000
 
   -- what workers share may be shared
   pub Shared-sync : IsSend W → IsSync W → IsSync G → IsSync (Shared.the_row a d W G w)

@@ -67,26 +67,72 @@ const TEXTS: [&str; 9] = [
     "10 11 12 13",
 ];
 
+/// Whether the plan's one output has so many rows on each document, by so many workers.
+fn has_rows<'d, R: Threads + Sync>(
+    rt: &R,
+    alloc: Global,
+    plan: &'d Plan,
+    docs: &'d [Document<'d>],
+    workers: u32,
+    wanted: &[u32],
+) -> Result<bool, OutOfMemory>
+    requires some { 1 ≤ workers }
+{
+    let finished = evaluated(rt, alloc, plan, docs, workers, &Open)?;
+    let found = counts(alloc, finished)?;
+    Ok(found.as_slice() == wanted)
+}
+
+/// How many numbers stand in each text, and how many pairs of a letter z and a number.
+const NUMBERS: [u32; 9] = [3, 0, 0, 1, 2, 1, 2, 0, 4];
+
+const PAIRS: [u32; 9] = [0, 0, 0, 1, 4, 0, 2, 0, 0];
+
 #[test]
 fn every_number_of_workers_gives_the_same_rows(rt: HostRuntime) -> Result<(), Fail> {
     let alloc = rt.alloc();
-    let numbers = numbers(alloc)?;
-    let joined = joined(alloc)?;
+    let plan = numbers(alloc)?;
     let docs = documents(alloc, &TEXTS)?;
-    for workers in &[1u32, 2, 4, 16] {
-        let found = evaluated(&rt, alloc, &numbers, docs.as_slice(), *workers, &Open)?;
-        assert_eq!(rt;
-            counts(alloc, found)?.as_slice(),
-            [3u32, 0, 0, 1, 2, 1, 2, 0, 4].as_slice(),
-            "numbers by {workers} workers"
-        );
-        let found = evaluated(&rt, alloc, &joined, docs.as_slice(), *workers, &Open)?;
-        assert_eq!(rt;
-            counts(alloc, found)?.as_slice(),
-            [0u32, 0, 0, 1, 4, 0, 2, 0, 0].as_slice(),
-            "pairs by {workers} workers"
-        );
-    }
+    assert!(rt;
+        has_rows(&rt, alloc, &plan, docs.as_slice(), 1, &NUMBERS)?,
+        "by one"
+    );
+    assert!(rt;
+        has_rows(&rt, alloc, &plan, docs.as_slice(), 2, &NUMBERS)?,
+        "by two"
+    );
+    assert!(rt;
+        has_rows(&rt, alloc, &plan, docs.as_slice(), 4, &NUMBERS)?,
+        "by four"
+    );
+    assert!(rt;
+        has_rows(&rt, alloc, &plan, docs.as_slice(), 16, &NUMBERS)?,
+        "by sixteen"
+    );
+    Ok(())
+}
+
+#[test]
+fn every_number_of_workers_gives_the_same_pairs(rt: HostRuntime) -> Result<(), Fail> {
+    let alloc = rt.alloc();
+    let plan = joined(alloc)?;
+    let docs = documents(alloc, &TEXTS)?;
+    assert!(rt;
+        has_rows(&rt, alloc, &plan, docs.as_slice(), 1, &PAIRS)?,
+        "by one"
+    );
+    assert!(rt;
+        has_rows(&rt, alloc, &plan, docs.as_slice(), 2, &PAIRS)?,
+        "by two"
+    );
+    assert!(rt;
+        has_rows(&rt, alloc, &plan, docs.as_slice(), 4, &PAIRS)?,
+        "by four"
+    );
+    assert!(rt;
+        has_rows(&rt, alloc, &plan, docs.as_slice(), 16, &PAIRS)?,
+        "by sixteen"
+    );
     Ok(())
 }
 
@@ -119,6 +165,28 @@ fn is_published<'d>(finished: &Finished<'d>, plan: &Plan, docs: &[Document<'d>],
     }
 }
 
+/// Whether each of the workers won the item that it began with.
+fn won_their_first<'d>(
+    gate: &Overlap,
+    finished: &Finished<'d>,
+    plan: &Plan,
+    docs: &[Document<'d>],
+    workers: u32,
+) -> bool
+    requires done { IsEvaluation plan.now docs.now finished.now }
+    requires few { item_count plan.now docs.now < 2 ^ 32 }
+{
+    for worker in 0..workers {
+        let Some(first) = gate.first(worker) else {
+            return false;
+        };
+        if claimed_by(finished, plan, docs, first) != Some(worker) {
+            return false;
+        }
+    }
+    true
+}
+
 #[test]
 fn workers_overlap_and_win_the_items_that_they_begin_with(rt: HostRuntime) -> Result<(), Fail> {
     let alloc = rt.alloc();
@@ -127,16 +195,32 @@ fn workers_overlap_and_win_the_items_that_they_begin_with(rt: HostRuntime) -> Re
     let gate = Overlap::new(alloc, 2)?;
     let finished = evaluated(&rt, alloc, &plan, docs.as_slice(), 2, &gate)?;
     assert!(rt; !gate.ran_out(), "no worker waits in vain");
-    for worker in 0..2 {
-        let Some(first) = gate.first(worker) else {
-            return Err(Fail::from("each worker has an item"));
-        };
-        assert!(rt;
-            claimed_by(&finished, &plan, docs.as_slice(), first) == Some(worker),
-            "worker {worker} won the item that it began with"
-        );
-    }
+    assert!(rt;
+        won_their_first(&gate, &finished, &plan, docs.as_slice(), 2),
+        "each worker won the item that it began with"
+    );
     Ok(())
+}
+
+/// Whether exactly these items are published, and exactly they passed the gate.
+fn are_needed<'d>(
+    gate: &Counted,
+    finished: &Finished<'d>,
+    plan: &Plan,
+    docs: &[Document<'d>],
+    needed: &[bool],
+) -> bool
+    requires done { IsEvaluation plan.now docs.now finished.now }
+    requires few { item_count plan.now docs.now < 2 ^ 32 }
+{
+    let mut item = 0u32;
+    for wanted in needed {
+        if is_published(finished, plan, docs, item) != *wanted || gate.has(item) != *wanted {
+            return false;
+        }
+        item = item.wrapping_add(1);
+    }
+    true
 }
 
 #[test]
@@ -146,15 +230,11 @@ fn exactly_the_needed_items_are_evaluated(rt: HostRuntime) -> Result<(), Fail> {
     let docs = documents(alloc, &["x 12", "z 12"])?;
     let gate = Counted::new(alloc, 10)?;
     let finished = evaluated(&rt, alloc, &plan, docs.as_slice(), 2, &gate)?;
-    for item in 0..10 {
-        let needed = item != 2;
-        assert_eq!(rt;
-            is_published(&finished, &plan, docs.as_slice(), item),
-            needed,
-            "item {item} on the board"
-        );
-        assert_eq!(rt; gate.has(item), needed, "item {item} at the gate");
-    }
+    let needed = [true, true, false, true, true, true, true, true, true, true];
+    assert!(rt;
+        are_needed(&gate, &finished, &plan, docs.as_slice(), &needed),
+        "all but the numbers where there is no letter"
+    );
     Ok(())
 }
 
