@@ -45,10 +45,13 @@ fn counts(alloc: Global, finished: Finished<'_>) -> Result<Vec<u32>, OutOfMemory
     Ok(all)
 }
 
-/// Documents of these texts.
+/// Documents of these texts, none of which is long.
 fn documents<'d>(alloc: Global, texts: &[&'d str]) -> Result<Vec<Document<'d>>, OutOfMemory> {
     let mut docs = Vec::new(alloc);
     for text in texts {
+        if text.len() > 100 {
+            return Err(OutOfMemory);
+        }
         docs.push(Document::new(alloc, text, None)?)?;
     }
     Ok(docs)
