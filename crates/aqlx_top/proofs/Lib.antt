@@ -8,6 +8,8 @@ pub mod ProgramLaws
 pub mod Begins
 pub mod Planning
 pub mod Showing
+pub mod Sharing
+pub mod Windowing
 pub mod Numbers
 pub mod Compiling
 pub mod StatusLines

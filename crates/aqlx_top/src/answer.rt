@@ -2,13 +2,13 @@
 
 ghost use Rattle.std.specs.Prelude.{◌≡◌, ◌≤◌, [], ◌∷◌, ◌++◌, All, not, IfOk, OnOk, IsSome, None, ◌<◌, length, map, slice_index_or};
 ghost use Rattle.corpus_json.specs.Documents.{is_bad_line};
-ghost use Rattle.corpus_json.specs.Inputs.{doc_of_ref};
+ghost use Rattle.corpus_json.specs.Inputs.{doc_of, doc_of_ref};
 ghost use Rattle.plan_operators.specs.Boards.{Holds, rows_there};
 ghost use Rattle.aqlx_top.specs.Endings.{written_for};
 ghost use Rattle.aqlx_top.specs.Planned.{line_by, names_in};
 
 use algebra::{Plan, PlanOut};
-use corpus_json::{DocumentReader, InputRef, Layout, NotDocument, append_document};
+use corpus_json::{DocumentReader, Input, InputRef, Layout, NotDocument, append_document};
 use plan_operators::{Schedule, evaluate, rows_shown};
 use row_values::Rows;
 use scalar_ops::Tools;
@@ -157,4 +157,18 @@ pub(crate) fn all_shown<'r, 'd>(
         shown.push(rows_shown(board, out))?;
     }
     Ok(shown)
+}
+
+/// A document with its texts borrowed.
+pub(crate) fn lent(input: &Input) -> InputRef<'_>
+    ensures { doc_of_ref result ≡ doc_of input.now }
+{
+    let label = match &input.label {
+        Some(label) => Some(label.as_str()),
+        None => None,
+    };
+    InputRef {
+        label,
+        text: input.text.as_str(),
+    }
 }

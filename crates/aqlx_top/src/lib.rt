@@ -24,6 +24,8 @@ mod status;
 mod status_line;
 mod top;
 mod type_line;
+mod window_lines;
+mod windows;
 mod words;
 
 pub use aql_lexer::LexFault;

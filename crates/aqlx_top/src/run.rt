@@ -21,7 +21,7 @@ use span_token::OutOfMemory;
 use std::alloc::Global;
 
 /// How many bytes of output are held before they are written.
-const PIECE: usize = 65_536;
+pub(crate) const PIECE: usize = 65_536;
 
 /// What a run keeps from line to line.
 #[derive(Drop)]
@@ -155,7 +155,7 @@ fn take_turn<S: Source>(
 }
 
 /// Writes what is pending and flushes it.
-fn finish<O: Sink>(out: &mut O, pending: &[u8], status: Status) -> Status
+pub(crate) fn finish<O: Sink>(out: &mut O, pending: &[u8], status: Status) -> Status
     ensures { (piece : Doc → List ℕ) (corpus : SourceEnds) (before : Option (List ℕ)) (flushed faults : ℕ) →
         O.faults out.old ≡ faults →
         Finished piece corpus before (O.held out.old) pending.now status →

@@ -1,0 +1,274 @@
+//! A run by workers: documents are evaluated in windows, several together.
+
+ghost use Rattle.std.specs.Prelude.{◌≡◌, ◌<◌, ◌≤◌, ◌+◌, ◌*◌, ◌^◌, ◌++◌, ℕ, [], ◌∷◌, false, not, IfOk, OnOk, OnErr, Option, List, MatchResult, None, length, map};
+ghost use Rattle.algebra.specs.Plans.{Parts};
+ghost use Rattle.aql_io.specs.Causes.{Rose};
+ghost use Rattle.corpus_json.specs.Documents.{documents, is_bad_line};
+ghost use Rattle.corpus_json.specs.Inputs.{doc_of};
+ghost use Rattle.span_token.specs.Documents.{Doc};
+ghost use Rattle.aqlx_top.specs.Devices.{source_ends, source_between, sink_between};
+ghost use Rattle.aqlx_top.specs.Endings.{InPart};
+ghost use Rattle.aqlx_top.specs.Progress.{Stands, IsGoing, IsRunTo};
+ghost use Rattle.aqlx_top.specs.Planned.{line_by, names_in};
+ghost use Rattle.aqlx_top.specs.Turns.{Turned};
+ghost use Rattle.aqlx_top.specs.Windows.{meant_by, AreShort, Fits};
+
+use crate::asks::asks_for_tokens;
+use crate::put::put;
+use crate::run::{PIECE, Turn, finish, run};
+use crate::window_lines::append_window;
+use crate::{CorpusFault, Status};
+use algebra::Plan;
+use aql_io::{Failed, Sink, Source};
+use corpus_json::{Input, Layout, LineBuffer, NotDocument, Step, read_document};
+use plan_operators::Schedule;
+use row_values::Output;
+use span_token::{Failure, OutOfMemory};
+use std::alloc::Global;
+use std::thread::Threads;
+use worker_pool::Crew;
+
+/// The most documents of a window.
+const MOST_DOCUMENTS: u32 = 64;
+
+/// How many bytes of lines make a window full.
+const MOST_BYTES: usize = 16_777_216;
+
+/// What a run keeps from line to line: lines that are pending, and behind them a window of documents whose
+/// lines aren't made yet, which has at most `most` documents and so many bytes of lines.
+#[derive(Drop)]
+pub(crate) struct Windowed<'p> {
+    pub plan: &'p Plan,
+    pub crew: Crew<'p>,
+    pub with_tokens: bool,
+    pub layout: Layout<'p>,
+    pub reader: LineBuffer,
+    pub line: Vec<u8>,
+    pub number: u64,
+    pub most: usize,
+    pub window: Vec<Input>,
+    pub bytes: usize,
+    pub room: Vec<u8>,
+    pub pending: Vec<u8>,
+}
+
+/// Runs a plan over a corpus by so many workers: one evaluates line by line, and several in windows.
+pub(crate) fn run_by<R: Threads + Sync, S: Source, O: Sink>(
+    rt: &R,
+    alloc: Global,
+    workers: u32,
+    plan: &Plan,
+    outputs: &[Output],
+    corpus: &mut S,
+    out: &mut O,
+) -> Result<Status, OutOfMemory>
+    requires some { 1 ≤ workers }
+    requires outputs { outputs.now ≡ names_in plan.now }
+    ensures ran { IfOk result (IsRunTo (line_by plan.now)
+        (source_between S.left S.faults corpus.old corpus.new)
+        (sink_between O.held O.flushed O.faults out.old out.new)) }
+    ensures part { OnErr result (InPart (line_by plan.now)
+        (source_between S.left S.faults corpus.old corpus.new)
+        (O.held out.old) (O.held out.new)) }
+{
+    if workers > 1 {
+        run_in_windows(rt, alloc, workers, plan, outputs, corpus, out)
+    } else {
+        run(alloc, plan, outputs, corpus, out)
+    }
+}
+
+/// Runs a plan over a corpus as `run` does, with the documents evaluated in windows by so many workers.
+fn run_in_windows<R: Threads + Sync, S: Source, O: Sink>(
+    rt: &R,
+    alloc: Global,
+    workers: u32,
+    plan: &Plan,
+    outputs: &[Output],
+    corpus: &mut S,
+    out: &mut O,
+) -> Result<Status, OutOfMemory>
+    requires some { 1 ≤ workers }
+    requires outputs { outputs.now ≡ names_in plan.now }
+    ensures ran { IfOk result (IsRunTo (line_by plan.now)
+        (source_between S.left S.faults corpus.old corpus.new)
+        (sink_between O.held O.flushed O.faults out.old out.new)) }
+    ensures part { OnErr result (InPart (line_by plan.now)
+        (source_between S.left S.faults corpus.old corpus.new)
+        (O.held out.old) (O.held out.new)) }
+{
+    let mut work = begin_windows(alloc, workers, plan, outputs)?;
+    'lines: loop {
+        match send_between(out, &mut work) {
+            Ok(()) => {}
+            Err(Failed) => return Ok(Status::WriteFault),
+        }
+        match take_line(alloc, &mut work, corpus)? {
+            Turn::Next => {
+                if is_due(&work) {
+                    evaluate_window(rt, alloc, &mut work)?;
+                }
+            }
+            Turn::Ended(status) => {
+                evaluate_window(rt, alloc, &mut work)?;
+                return Ok(finish(out, &work.pending, status));
+            }
+        }
+    }
+}
+
+fn begin_windows<'p>(
+    alloc: Global,
+    workers: u32,
+    plan: &'p Plan,
+    outputs: &'p [Output],
+) -> Result<Windowed<'p>, OutOfMemory>
+    requires some { 1 ≤ workers }
+    requires outputs { outputs.now ≡ names_in plan.now }
+    ensures fits { IfOk result (Fits plan.now) }
+    ensures reader { IfOk result (λ work. work.reader ≡ record { ready = []; taken = 0; last = None }) }
+    ensures nothing { IfOk result (λ work. (work.pending.items ≡ []) × (work.window.items ≡ []) × (work.number ≡ 0)) }
+{
+    let schedule = Schedule::new(alloc, plan)?;
+    let with_tokens = asks_for_tokens(&schedule);
+    Ok(Windowed {
+        plan,
+        crew: Crew::new(alloc, plan, workers)?,
+        with_tokens,
+        layout: Layout::new(alloc, outputs)?,
+        reader: LineBuffer::new(alloc)?,
+        line: Vec::new(alloc),
+        number: 0,
+        most: most_documents(plan) as usize,
+        window: Vec::new(alloc),
+        bytes: 0,
+        room: Vec::new(alloc),
+        pending: Vec::new(alloc),
+    })
+}
+
+/// How many documents a window may have, so that the nodes of the plan on them are fewer than 2^32.
+fn most_documents(plan: &Plan) -> u32
+    ensures some { 0 < result }
+    ensures few { result * length plan.now.nodes < 2 ^ 32 }
+{
+    let nodes = plan.nodes().len();
+    if nodes == 0 {
+        MOST_DOCUMENTS
+    } else {
+        MOST_DOCUMENTS.min(u32::MAX / nodes)
+    }
+}
+
+/// Writes what is pending where no document is behind it, once it is a piece or the next line isn't whole
+/// yet, so that what is there stands on the output before the corpus is waited for.
+fn send_between<O: Sink>(out: &mut O, work: &mut Windowed<'_>) -> Result<(), Failed>
+    ensures sent { (piece : Doc → List ℕ) (left_before left_now : Option (List ℕ)) (faults_before faults_now : ℕ) (before : Option (List ℕ)) →
+        Stands piece (source_ends left_before left_now faults_before faults_now) before (O.held out.old) work.old.reader (meant_by piece work.old.pending.items work.old.window.items) work.old.number →
+        MatchResult result
+        (λ _. Stands piece (source_ends left_before left_now faults_before faults_now) before (O.held out.new) work.new.reader (meant_by piece work.new.pending.items work.new.window.items) work.new.number)
+        (λ _. InPart piece (source_ends left_before left_now faults_before faults_now) before (O.held out.new)) }
+    ensures fits { OnOk result ((plan : Parts) → Fits plan work.old → Fits plan work.new) }
+    ensures same { OnOk result ((work.new.reader ≡ work.old.reader) × (work.new.number ≡ work.old.number) × (work.new.most ≡ work.old.most) × (work.new.window.items ≡ work.old.window.items)) }
+    ensures stands { OnOk result (O.faults out.new ≡ O.faults out.old) }
+    ensures cause { OnErr result (Rose (O.faults out.old) (O.faults out.new)) }
+{
+    if work.window.is_empty() && (work.pending.len() >= PIECE || !work.reader.has_line()) {
+        put(out, &work.pending)?;
+        work.pending.clear();
+    }
+    Ok(())
+}
+
+/// Looks at the next line, and puts the document that it is into the window.
+fn take_line<S: Source>(
+    alloc: Global,
+    work: &mut Windowed<'_>,
+    corpus: &mut S,
+) -> Result<Turn, OutOfMemory>
+    requires short { AreShort work.old.window.items }
+    requires below { length work.old.window.items < work.old.most }
+    requires room { work.old.number < 2 ^ 63 }
+    requires going { IsGoing work.old.reader }
+    ensures turned { (piece : Doc → List ℕ) (left : Option (List ℕ)) (faults : ℕ) (before now : Option (List ℕ)) →
+        Stands piece (source_ends left (S.left corpus.old) faults (S.faults corpus.old)) before now work.old.reader (meant_by piece work.old.pending.items work.old.window.items) work.old.number →
+        Turned piece (source_ends left (S.left corpus.new) faults (S.faults corpus.new)) before now work.new.reader (meant_by piece work.new.pending.items work.new.window.items) work.new.number result }
+    ensures counts { IfOk result (λ came. came ≡ Turn.Next → work.new.number ≡ work.old.number + 1) }
+    ensures going { IfOk result (λ came. came ≡ Turn.Next → IsGoing work.new.reader) }
+    ensures fits { IfOk result (λ _. (plan : Parts) → Fits plan work.old → Fits plan work.new) }
+{
+    match work.reader.next_line(corpus, &mut work.line)? {
+        Step::Line => {
+            work.number += 1;
+            // no more bytes were taken than a corpus has, which bounds the number of lines
+            let _taken = work.reader.taken();
+            if take_document(alloc, &work.line, &mut work.window)? {
+                work.bytes = work.bytes.saturating_add(work.line.len());
+                Ok(Turn::Next)
+            } else {
+                Ok(Turn::Ended(Status::Corpus(CorpusFault::BadLine(work.number))))
+            }
+        }
+        Step::End => Ok(Turn::Ended(Status::Done)),
+        Step::Long => Ok(Turn::Ended(Status::Corpus(CorpusFault::LineLong(work.number + 1)))),
+        Step::Failed => Ok(Turn::Ended(Status::ReadFault)),
+        Step::Limit => Ok(Turn::Ended(Status::Corpus(CorpusFault::CorpusLarge))),
+    }
+}
+
+/// Puts the document of a line behind the others; a blank line has none. False where the line is neither.
+fn take_document(alloc: Global, line: &[u8], window: &mut Vec<Input>) -> Result<bool, OutOfMemory>
+    requires line { length line.now ≤ 16777216 }
+    requires short { AreShort window.old.items }
+    ensures good { IfOk result (λ good. is_bad_line line.now ≡ not good) }
+    ensures documents { IfOk result (λ good. map doc_of window.new.items ≡ map doc_of window.old.items ++ documents (line.now ∷ [])) }
+    ensures more { IfOk result (λ good. length window.new.items ≤ length window.old.items + 1) }
+    ensures short { IfOk result (λ good. AreShort window.new.items) }
+{
+    match read_document(alloc, line) {
+        Ok(Some(input)) => {
+            window.push(input)?;
+            Ok(true)
+        }
+        Ok(None) => Ok(true),
+        Err(Failure::Fault(NotDocument)) => Ok(false),
+        Err(Failure::OutOfMemory) => Err(OutOfMemory),
+    }
+}
+
+/// Whether the window is to be evaluated: where it is full, or where the next line isn't whole yet.
+fn is_due(work: &Windowed<'_>) -> bool
+    ensures { result ≡ false → length work.now.window.items < work.now.most }
+{
+    work.window.len() >= work.most || work.bytes >= MOST_BYTES || !work.reader.has_line()
+}
+
+/// Evaluates the window, and puts the lines of its documents behind what is pending.
+fn evaluate_window<R: Threads + Sync>(
+    rt: &R,
+    alloc: Global,
+    work: &mut Windowed<'_>,
+) -> Result<(), OutOfMemory>
+    requires fits { Fits work.old.plan.now work.old }
+    ensures bytes { OnOk result (work.new.pending.items ≡ meant_by (line_by work.old.plan.now) work.old.pending.items work.old.window.items) }
+    ensures empty { OnOk result (work.new.window.items ≡ []) }
+    ensures fits { OnOk result (Fits work.old.plan.now work.new) }
+    ensures same { OnOk result ((work.new.reader ≡ work.old.reader) × (work.new.number ≡ work.old.number) × (work.new.most ≡ work.old.most)) }
+{
+    if !work.window.is_empty() {
+        append_window(
+            rt,
+            alloc,
+            work.plan,
+            work.with_tokens,
+            &work.layout,
+            &mut work.crew,
+            &work.window,
+            &mut work.room,
+            &mut work.pending,
+        )?;
+        work.window.clear();
+    }
+    work.bytes = 0;
+    Ok(())
+}
