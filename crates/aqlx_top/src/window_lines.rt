@@ -40,6 +40,9 @@ pub(crate) fn append_window<R: Threads + Sync>(
     ensures bytes { OnOk result (pending.new.items ≡ pending.old.items ++ flat_map (line_by plan.now) (map doc_of inputs.now)) }
     ensures same { crew.new ≡ crew.old }
 {
+    if inputs.is_empty() {
+        return Ok(());
+    }
     let docs = documents_of(alloc, with_tokens, inputs)?;
     append_documents(
         rt,

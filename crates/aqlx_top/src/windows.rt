@@ -1,6 +1,6 @@
 //! A run by workers: documents are evaluated in windows, several together.
 
-ghost use Rattle.std.specs.Prelude.{◌≡◌, ◌<◌, ◌≤◌, ◌+◌, ◌*◌, ◌^◌, ◌++◌, ℕ, [], ◌∷◌, false, not, IfOk, OnOk, OnErr, Option, List, MatchResult, None, length, map};
+ghost use Rattle.std.specs.Prelude.{◌≡◌, ◌≢◌, ◌<◌, ◌≤◌, ◌+◌, ◌*◌, ◌^◌, ◌++◌, ℕ, [], ◌∷◌, false, not, IfOk, OnOk, OnErr, Option, List, MatchResult, None, length, map};
 ghost use Rattle.algebra.specs.Plans.{Parts};
 ghost use Rattle.aql_io.specs.Causes.{Rose};
 ghost use Rattle.corpus_json.specs.Documents.{documents, is_bad_line};
@@ -103,16 +103,9 @@ fn run_in_windows<R: Threads + Sync, S: Source, O: Sink>(
             Ok(()) => {}
             Err(Failed) => return Ok(Status::WriteFault),
         }
-        match take_line(alloc, &mut work, corpus)? {
-            Turn::Next => {
-                if is_due(&work) {
-                    evaluate_window(rt, alloc, &mut work)?;
-                }
-            }
-            Turn::Ended(status) => {
-                evaluate_window(rt, alloc, &mut work)?;
-                return Ok(finish(out, &work.pending, status));
-            }
+        match turn_in_window(rt, alloc, &mut work, corpus)? {
+            Turn::Next => {}
+            Turn::Ended(status) => return Ok(finish(out, &work.pending, status)),
         }
     }
 }
@@ -180,6 +173,36 @@ fn send_between<O: Sink>(out: &mut O, work: &mut Windowed<'_>) -> Result<(), Fai
     Ok(())
 }
 
+/// Looks at the next line, puts its document into the window, and evaluates the window where it is due: so
+/// it is empty at the end of the run.
+fn turn_in_window<R: Threads + Sync, S: Source>(
+    rt: &R,
+    alloc: Global,
+    work: &mut Windowed<'_>,
+    corpus: &mut S,
+) -> Result<Turn, OutOfMemory>
+    requires fits { Fits work.old.plan.now work.old }
+    requires below { length work.old.window.items < work.old.most }
+    requires room { work.old.number < 2 ^ 63 }
+    requires going { IsGoing work.old.reader }
+    ensures turned { (plan : Parts) (left : Option (List ℕ)) (faults : ℕ) (before now : Option (List ℕ)) → work.old.plan.now ≡ plan →
+        Stands (line_by plan) (source_ends left (S.left corpus.old) faults (S.faults corpus.old)) before now work.old.reader (meant_by (line_by plan) work.old.pending.items work.old.window.items) work.old.number →
+        Turned (line_by plan) (source_ends left (S.left corpus.new) faults (S.faults corpus.new)) before now work.new.reader (meant_by (line_by plan) work.new.pending.items work.new.window.items) work.new.number result }
+    ensures counts { IfOk result (λ came. came ≡ Turn.Next → work.new.number ≡ work.old.number + 1) }
+    ensures going { IfOk result (λ came. came ≡ Turn.Next → IsGoing work.new.reader) }
+    ensures fits { IfOk result (λ _. (plan : Parts) → Fits plan work.old → Fits plan work.new) }
+    ensures below { IfOk result (λ came. came ≡ Turn.Next → length work.new.window.items < work.new.most) }
+    ensures ended { IfOk result (λ came. came ≢ Turn.Next → work.new.window.items ≡ []) }
+{
+    let turn = take_line(alloc, work, corpus)?;
+    if is_due(work, &turn) {
+        evaluate_window(rt, alloc, work)?;
+        Ok(turn)
+    } else {
+        Ok(turn)
+    }
+}
+
 /// Looks at the next line, and puts the document that it is into the window.
 fn take_line<S: Source>(
     alloc: Global,
@@ -236,11 +259,18 @@ fn take_document(alloc: Global, line: &[u8], window: &mut Vec<Input>) -> Result<
     }
 }
 
-/// Whether the window is to be evaluated: where it is full, or where the next line isn't whole yet.
-fn is_due(work: &Windowed<'_>) -> bool
-    ensures { result ≡ false → length work.now.window.items < work.now.most }
+/// Whether the window is to be evaluated: where the run ends, where it is full, or where the next line isn't
+/// whole yet.
+fn is_due(work: &Windowed<'_>, turn: &Turn) -> bool
+    ensures goes_on { result ≡ false → turn.now ≡ Turn.Next }
+    ensures below { result ≡ false → length work.now.window.items < work.now.most }
 {
-    work.window.len() >= work.most || work.bytes >= MOST_BYTES || !work.reader.has_line()
+    match turn {
+        Turn::Next => {
+            work.window.len() >= work.most || work.bytes >= MOST_BYTES || !work.reader.has_line()
+        }
+        Turn::Ended(_) => true,
+    }
 }
 
 /// Evaluates the window, and puts the lines of its documents behind what is pending.
@@ -250,25 +280,23 @@ fn evaluate_window<R: Threads + Sync>(
     work: &mut Windowed<'_>,
 ) -> Result<(), OutOfMemory>
     requires fits { Fits work.old.plan.now work.old }
-    ensures bytes { OnOk result (work.new.pending.items ≡ meant_by (line_by work.old.plan.now) work.old.pending.items work.old.window.items) }
+    ensures meant { OnOk result (work.new.pending.items ≡ meant_by (line_by work.old.plan.now) work.old.pending.items work.old.window.items) }
     ensures empty { OnOk result (work.new.window.items ≡ []) }
-    ensures fits { OnOk result (Fits work.old.plan.now work.new) }
+    ensures fits { OnOk result ((plan : Parts) → Fits plan work.old → Fits plan work.new) }
     ensures same { OnOk result ((work.new.reader ≡ work.old.reader) × (work.new.number ≡ work.old.number) × (work.new.most ≡ work.old.most)) }
 {
-    if !work.window.is_empty() {
-        append_window(
-            rt,
-            alloc,
-            work.plan,
-            work.with_tokens,
-            &work.layout,
-            &mut work.crew,
-            &work.window,
-            &mut work.room,
-            &mut work.pending,
-        )?;
-        work.window.clear();
-    }
+    append_window(
+        rt,
+        alloc,
+        work.plan,
+        work.with_tokens,
+        &work.layout,
+        &mut work.crew,
+        &work.window,
+        &mut work.room,
+        &mut work.pending,
+    )?;
+    work.window.clear();
     work.bytes = 0;
     Ok(())
 }
