@@ -38,6 +38,7 @@ pub(crate) struct Work<'p> {
 }
 
 /// What one turn came to: the next line, or the end of the run with its status.
+#[derive(Drop)]
 pub(crate) enum Turn {
     Next,
     Ended(Status),

@@ -1,6 +1,6 @@
 //! The lines of a window: its documents are evaluated together, by workers.
 
-ghost use Rattle.std.specs.Prelude.{◌≡◌, ◌<◌, ◌*◌, ◌^◌, ◌++◌, IfOk, OnOk, length, map};
+ghost use Rattle.std.specs.Prelude.{◌≡◌, ◌<◌, ◌≤◌, ◌*◌, ◌^◌, ◌++◌, IfOk, OnOk, length, map};
 ghost use Rattle.std.specs.Arc.{arc_value};
 ghost use Rattle.std.specs.List.{flat_map};
 ghost use Rattle.algebra.specs.Items.{item_count};
@@ -67,9 +67,21 @@ fn documents_of<'d>(
 {
     let mut docs = Vec::with_capacity(alloc, inputs.len())?;
     for input in inputs {
-        docs.push(document_of(alloc, with_tokens, lent(input))?)?;
+        docs.push(document_from(alloc, with_tokens, input)?)?;
     }
     Ok(docs)
+}
+
+/// The document that was read.
+fn document_from(
+    alloc: Global,
+    with_tokens: bool,
+    input: &Input,
+) -> Result<Document<'_>, OutOfMemory>
+    requires short { length input.now.text ≤ 16777216 }
+    ensures { IfOk result (λ document. document ≡ doc_of input.now) }
+{
+    document_of(alloc, with_tokens, lent(input))
 }
 
 /// Puts the lines of documents after what is pending; `line` is room for a line.

@@ -1,6 +1,6 @@
 //! A run by workers: documents are evaluated in windows, several together.
 
-ghost use Rattle.std.specs.Prelude.{◌≡◌, ◌≢◌, ◌<◌, ◌≤◌, ◌+◌, ◌*◌, ◌^◌, ◌++◌, ℕ, [], ◌∷◌, false, not, IfOk, OnOk, OnErr, Option, List, MatchResult, None, length, map};
+ghost use Rattle.std.specs.Prelude.{◌≡◌, ◌≢◌, ◌<◌, ◌≤◌, ◌+◌, ◌*◌, ◌^◌, ◌++◌, ℕ, [], ◌∷◌, false, true, not, IfOk, OnOk, OnErr, Option, List, MatchResult, None, length, map};
 ghost use Rattle.algebra.specs.Plans.{Parts};
 ghost use Rattle.aql_io.specs.Causes.{Rose};
 ghost use Rattle.corpus_json.specs.Documents.{documents, is_bad_line};
@@ -166,11 +166,19 @@ fn send_between<O: Sink>(out: &mut O, work: &mut Windowed<'_>) -> Result<(), Fai
     ensures stands { OnOk result (O.faults out.new ≡ O.faults out.old) }
     ensures cause { OnErr result (Rose (O.faults out.old) (O.faults out.new)) }
 {
-    if work.window.is_empty() && (work.pending.len() >= PIECE || !work.reader.has_line()) {
+    if is_to_send(work) {
         put(out, &work.pending)?;
         work.pending.clear();
     }
     Ok(())
+}
+
+/// Whether what is pending is to be written: no document is behind it, and it is a piece or the next line isn't
+/// whole yet.
+fn is_to_send(work: &Windowed<'_>) -> bool
+    ensures { result ≡ true → work.now.window.items ≡ [] }
+{
+    work.window.is_empty() && (work.pending.len() >= PIECE || !work.reader.has_line())
 }
 
 /// Looks at the next line, puts its document into the window, and evaluates the window where it is due: so
