@@ -1,6 +1,7 @@
 -- What the outputs of a plan show, by rows that are theirs.
-use Rattle.std.proofs.Common.{◌≡◌, ℕ, ◌<◌, ◌+◌, List, [], ◌∷◌, ◌++◌, map, length, take, get_or, refl, ap, ap₂, sym, ◌∙◌, arith, All}
-use Rattle.std.specs.List.{AllZip, flat_map}
+use Rattle.std.proofs.Common.{◌≡◌, ℕ, zero, suc, ◌<◌, List, [], ◌∷◌, map, length, get_or, refl, ap, ap₂, sym, subst, ◌∙◌, arith, All, Some}
+use Rattle.std.specs.List.{AllZip}
+use Rattle.std.proofs.lemmas.List.{length-map}
 use Rattle.std.proofs.lemmas.List.Elements.{All-nil, All-cons, All-head, All-tail}
 use Rattle.aql_base.specs.Bags.{SameBag}
 use Rattle.span_token.specs.Documents.{Doc}
@@ -39,15 +40,19 @@ module _ (plan : Parts) (doc : Doc) where
   rows_lie (out ∷ outs) (list ∷ lists) are =
       All-cons (RowsLieIn doc) list.rows (map (λ (list : RowList). list.rows) lists) are.0.lies (rows_lie outs lists are.1)
 
--- two lists of which R holds place by place
-pub zip-at : {A B : Type 0} (R : A → B → Type 0) (xs : List A) (ys : List B) (i : ℕ) (d : A) (e : B) → AllZip R xs ys → i < length xs → R (get_or xs i d) (get_or ys i e)
-zip-at R [] ys i d e are below = absurd (omega arith)
-zip-at R (x ∷ xs) [] i d e are below = absurd are
-zip-at R (x ∷ xs) (y ∷ ys) zero d e are below = are.0
-zip-at R (x ∷ xs) (y ∷ ys) (suc i) d e are below = zip-at R xs ys i d e are.1 (omega arith)
+-- R holds of two lists place by place, the second one mapped
+pub zip-mapped : {A B V : Type 0} (R : A → B → Type 0) (xs : List A) (vs : List V) (f : V → B) (i : ℕ) (x : A) (v : V) → AllZip R xs (map f vs) → i < length xs
+    → x ≡ get_or xs i x → v ≡ get_or vs i v → R x (f v)
+zip-mapped R [] vs f i x v are below is here = absurd (omega arith)
+zip-mapped R (a ∷ xs) [] f i x v are below is here = absurd are
+zip-mapped R (a ∷ xs) (w ∷ vs) f zero x v are below is here = subst (λ z. R z (f v)) (sym is) (subst (λ u. R a (f u)) (sym here) are.0)
+zip-mapped R (a ∷ xs) (w ∷ vs) f (suc i) x v are below is here = zip-mapped R xs vs f i x v are.1 (omega arith) is here
 
-pub zip-long : {A B : Type 0} (R : A → B → Type 0) (xs : List A) (ys : List B) → AllZip R xs ys → length ys ≡ length xs
+zip-long : {A B : Type 0} (R : A → B → Type 0) (xs : List A) (ys : List B) → AllZip R xs ys → length ys ≡ length xs
 zip-long R [] [] are = refl
 zip-long R [] (y ∷ ys) are = absurd are
 zip-long R (x ∷ xs) [] are = absurd are
-zip-long R (x ∷ xs) (y ∷ ys) are = ap (λ (n : ℕ). n + 1) (zip-long R xs ys are.1)
+zip-long R (x ∷ xs) (y ∷ ys) are = ap (λ (n : ℕ). suc n) (zip-long R xs ys are.1)
+
+pub zip-mapped-below : {A B V : Type 0} (R : A → B → Type 0) (xs : List A) (vs : List V) (f : V → B) (i : ℕ) → AllZip R xs (map f vs) → i < length xs → i < length vs
+zip-mapped-below R xs vs f i are below = omega (arith, below, zip-long R xs (map f vs) are, length-map vs f)

@@ -33,11 +33,11 @@ returns-in-Err-clause-ran g c = (
 )
 
 pub turn_in_window-requires-clause-fits : goal.turn_in_window-requires-clause-fits
-turn_in_window-requires-clause-fits g c =
+turn_in_window-requires-clause-fits g c = λ κs within.
     more.fits_own c.args.plan.now c.send_between.new.work (c.in-Ok.ensures.fits c.args.plan.now c.lines.invariant.fits)
 
 pub turn_in_window-requires-clause-below : goal.turn_in_window-requires-clause-below
-turn_in_window-requires-clause-below g c = rw (c.in-Ok.ensures.same.3, c.in-Ok.ensures.same.2) c.lines.invariant.below
+turn_in_window-requires-clause-below g c = λ κs within. rw (c.in-Ok.ensures.same.3, c.in-Ok.ensures.same.2) c.lines.invariant.below
 
 pub turn_in_window-requires-clause-room : goal.turn_in_window-requires-clause-room
 turn_in_window-requires-clause-room g c =

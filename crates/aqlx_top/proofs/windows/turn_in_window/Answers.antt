@@ -1,4 +1,4 @@
-use Rattle.std.proofs.Common.{◌≡◌, ◌∙◌, refl, sym, ap}
+use Rattle.std.proofs.Common.{◌≡◌, Ok, ◌∙◌, refl, sym, ap}
 use Rattle.std.proofs.lemmas.Result.{err_from_is_err_and}
 use Rattle.aqlx_top.specs.Devices.{source_ends}
 use Rattle.aqlx_top.specs.Planned.{line_by}
@@ -12,7 +12,7 @@ returns-in_err-turn-clause-turned g c = λ plan left faults before now own s.
     rw p.1 (c.in_err-turn.ensures.turned (line_by plan) left faults before now s)
 
 pub evaluate_window-requires-clause-fits : goal.evaluate_window-requires-clause-fits
-evaluate_window-requires-clause-fits g c =
+evaluate_window-requires-clause-fits g c = λ κs within.
     more.fits_own c.args.work.now.plan.now c.take_line.new.work (c.in_ok-turn.ensures.fits c.args.work.now.plan.now c.requires.fits)
 
 pub returns-in_err-evaluate_window-clause-turned : goal.returns-in_err-evaluate_window-clause-turned
@@ -25,7 +25,7 @@ returns-in_err-evaluate_window-clause-turned g c = λ plan left faults before no
 pub returns-in_ok-evaluate_window-clause-turned : goal.returns-in_ok-evaluate_window-clause-turned
 returns-in_ok-evaluate_window-clause-turned g c = λ plan left faults before now own s.
     let fits = c.in_ok-turn.ensures.fits c.args.work.now.plan.now c.requires.fits in
-    more.turned_with (line_by plan) (source_ends left (g.S.Source.left c.take_line.new.corpus) faults (g.S.Source.faults c.take_line.new.corpus)) before now c.take_line.new.work.reader c.evaluate_window.new.work.reader (meant_by (line_by plan) c.take_line.new.work.pending.items c.take_line.new.work.window.items) (meant_by (line_by plan) c.evaluate_window.new.work.pending.items c.evaluate_window.new.work.window.items) c.take_line.new.work.number c.evaluate_window.new.work.number _
+    more.turned_with (line_by plan) (source_ends left (g.S.Source.left c.take_line.new.corpus) faults (g.S.Source.faults c.take_line.new.corpus)) before now c.take_line.new.work.reader c.evaluate_window.new.work.reader (meant_by (line_by plan) c.take_line.new.work.pending.items c.take_line.new.work.window.items) (meant_by (line_by plan) c.evaluate_window.new.work.pending.items c.evaluate_window.new.work.window.items) c.take_line.new.work.number c.evaluate_window.new.work.number (Ok c.in_ok-turn.turn)
     c.in_ok-evaluate_window.ensures.same.0
     (more.meant_evaluated plan c.take_line.new.work.plan.now c.take_line.new.work.pending.items c.evaluate_window.new.work.pending.items c.take_line.new.work.window.items c.evaluate_window.new.work.window.items (fits.plan_is ∙ own) c.in_ok-evaluate_window.ensures.meant c.in_ok-evaluate_window.ensures.empty)
     c.in_ok-evaluate_window.ensures.same.1
