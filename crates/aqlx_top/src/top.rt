@@ -91,7 +91,7 @@ fn follow<R: Threads + Sync, F: Files, S: Source, O: Sink>(
     corpus: &mut S,
     out: &mut O,
 ) -> Result<Status, OutOfMemory>
-    requires workers { IsForWorkers asked.entry }
+    requires workers { IsForWorkers asked }
     ensures cause { IfOk result (λ status. (words : List (List ℕ)) → IsOrder words (asked_told asked.entry) → HasCauseOf
         (call_of words (files_between F.told F.faults files.old files.new)
         (source_between S.left S.faults corpus.old corpus.new)
