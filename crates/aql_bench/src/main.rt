@@ -3,8 +3,9 @@
 //! With no words each bench makes one round over a short text, and prints what it came to and nothing
 //! of time, so that the gate runs them all. With the words `NAME FILE ROUNDS` one bench goes over a file
 //! that many times, and the speed of its best round is printed to standard error, in megabytes of the
-//! file a second. `bench/layers` runs them beside the same work in Rust. Stands on the crates that it
-//! measures.
+//! file a second. `bench/layers` runs them beside the same work in Rust. With the words
+//! `items NUMBER ROUNDS` that many items without a row are made, claimed, published and read, and the
+//! nanoseconds an item of the best round are printed. Stands on the crates that it measures.
 #![tactic(auto)]
 
 mod bench;
@@ -12,6 +13,7 @@ mod consolidations;
 mod dictionaries;
 mod filtering;
 mod grouping;
+mod items;
 mod joining;
 mod lexing;
 mod patterns;
@@ -26,6 +28,7 @@ use dict_match::DictScratch;
 use dictionaries::{Dictionary, entries, first_line, pass_of};
 use filtering::{Cond, DocRows, Filter, tables_of};
 use grouping::{FirstRows, Groups, Keep, numbered};
+use items::EmptyItems;
 use joining::{Joins, Pairs, Sides, Test};
 use lexing::Lexing;
 use patterns::{Matches, Runs};
@@ -369,21 +372,26 @@ fn run_filter<R: Eprint + Print + Clock + AllocGlobal>(
     )
 }
 
-/// Each bench once over the short text.
+/// Each bench once over the short text, and over a thousand items.
 fn run_all<R: Eprint + Print + Clock + AllocGlobal>(rt: &R) -> Result<()> {
     for (name, kind) in BENCHES {
         run_kind(rt, Mode::Told, name, kind, TEXT)?;
     }
+    let (_, read) = EmptyItems::new(rt.alloc(), 1000)?.timed(rt)?;
+    println!(rt; "items {read}")?;
     Ok(())
 }
 
-/// The bench that `name` names, over the file, so many times.
+/// The bench that `name` names, over the file, or over so many items, so many times.
 fn run_named<R: Eprint + Print + Clock + Files + AllocGlobal>(
     rt: &R,
     name: &str,
     file: &str,
     rounds: &str,
 ) -> Result<()> {
+    if name == "items" {
+        return run_items(rt, file, rounds);
+    }
     let Some((_, kind)) = BENCHES.iter().find(|bench| bench.0 == name) else {
         bail!("no bench has the name {name}");
     };
@@ -401,11 +409,22 @@ fn run_named<R: Eprint + Print + Clock + Files + AllocGlobal>(
     )
 }
 
+/// So many items, so many times.
+fn run_items<R: Eprint + Clock + AllocGlobal>(rt: &R, number: &str, rounds: &str) -> Result<()> {
+    let number = number.parse::<u32>().context("the number of items")?;
+    let rounds = rounds.parse::<u32>().context("the number of rounds")?;
+    let (best, read) = EmptyItems::new(rt.alloc(), number)?.best_of(rt, rounds)?;
+    let each = best.as_nanos() / u128::from(number.max(1));
+    let micros = best.as_micros();
+    eprintln!(rt; "items: {each} ns an item, best of {rounds}, {micros} us, {read} read")?;
+    Ok(())
+}
+
 fn main(rt: HostRuntime) -> Result<()> {
     let words = env::args(&rt)?.skip(1).collect::<Vec<String>>(rt.alloc())?;
     match words.as_slice() {
         [] => run_all(&rt),
         [name, file, rounds] => run_named(&rt, name.as_str(), file.as_str(), rounds.as_str()),
-        _ => bail!("usage: aql_bench [NAME FILE ROUNDS]"),
+        _ => bail!("usage: aql_bench [NAME FILE ROUNDS | items NUMBER ROUNDS]"),
     }
 }

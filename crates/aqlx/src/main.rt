@@ -40,7 +40,15 @@ fn main(rt: HostRuntime) -> ExitCode {
     let mut corpus = RealSource::new(rt.stdin());
     let mut out = RealSink::new(rt.stdout());
     let mut err = RealSink::new(rt.stderr());
-    match aqlx(alloc, &words, &mut files, &mut corpus, &mut out, &mut err) {
+    match aqlx(
+        &rt,
+        alloc,
+        &words,
+        &mut files,
+        &mut corpus,
+        &mut out,
+        &mut err,
+    ) {
         Ok(status) => ExitCode::from(status.code()),
         Err(OutOfMemory) => ExitCode::from(OUT_OF_MEMORY),
     }

@@ -73,6 +73,7 @@ module _ (text : List ℕ) (toks : List Tok) (decided : IsDecided text) (reads :
             faultless = has_no_fault text trees built.order built.typed decided held one names built.resolved built.is_typed;
           };
           shows = built.shows;
+          normal = built.normal;
         }
 
         pub refused_form : (failure : Failure ProgramFault) → IsRefusedFor (map token_of toks) trees failure → HasCause text failure

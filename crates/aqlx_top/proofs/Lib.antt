@@ -7,7 +7,7 @@ pub mod Turns
 pub mod ProgramLaws
 pub mod Begins
 pub mod Planning
-pub mod Showing
+pub mod Windowing
 pub mod Numbers
 pub mod Compiling
 pub mod StatusLines

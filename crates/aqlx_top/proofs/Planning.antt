@@ -22,44 +22,13 @@ use Rattle.algebra.specs.Plans.{Parts}
 use Rattle.algebra.specs.Values.{val}
 use Rattle.demo_corpus.specs.Totals.{Answer, Tally, size_at, total_of, tally_of}
 use Rattle.demo_corpus.specs.Summaries.{summary_of}
+use Rattle.window_lines.specs.LineLaws.{AreSameBags, lines_alike}
 use Rattle.plan_maker.specs.Lowered.{ShowsOutput}
 use Rattle.plan_maker.specs.Shown.{ShowsProgram}
 use Rattle.aqlx_top.specs.Modes.{summary_on}
 use Rattle.aqlx_top.specs.Planned.{names_in, rows_by, line_by, summary_by}
 use Rattle.aqlx_top.specs.Plans.{IsPlanOf}
 use Rattle.aqlx_top.specs.Run.{Typed, Program, program_of, line_of, outputs_of, rows_for}
-
--- lists that are the same bags, one by one
-abbrev pub AreSameBags : List (List (List Datum)) → List (List (List Datum)) → Type 0
-AreSameBags xs ys = AllZip SameBag xs ys
-
--- an output's rows are written alike where they are the same bag
-rows_alike : (doc : Doc) (output : OutputNames) (xs ys : List (List Datum)) → SameBag xs ys → rows_data doc output xs ≡ rows_data doc output ys
-unfolding rows_data
-rows_alike doc output xs ys same = ap (λ (rows : List (List Datum)). array_of (map (row_data doc output.columns) rows)) (sorted-SameBag xs ys same)
-
--- the name of an output with what is written of its rows
-abbrev shown_pair : Doc → OutputNames × List (List Datum) → List ℕ × Data
-shown_pair doc (output, list) = (output.name, rows_data doc output list)
-
-pairs_alike : (doc : Doc) (outputs : List OutputNames) (xs ys : List (List (List Datum))) → AreSameBags xs ys
-    → map (shown_pair doc) (zip outputs xs) ≡ map (shown_pair doc) (zip outputs ys)
-pairs_alike doc [] xs ys same = refl
-pairs_alike doc (output ∷ outputs) [] [] same = refl
-pairs_alike doc (output ∷ outputs) [] (y ∷ ys) same = absurd same
-pairs_alike doc (output ∷ outputs) (x ∷ xs) [] same = absurd same
-pairs_alike doc (output ∷ outputs) (x ∷ xs) (y ∷ ys) same =
-    ap₂ (λ (first : Data) (rest : List (List ℕ × Data)). (output.name, first) ∷ rest) (rows_alike doc output x y same.0) (pairs_alike doc outputs xs ys same.1)
-
-views_alike : (doc : Doc) (outputs : List OutputNames) (xs ys : List (List (List Datum))) → AreSameBags xs ys → views_data doc outputs xs ≡ views_data doc outputs ys
-unfolding views_data
-views_alike doc outputs xs ys same = ap object_of (pairs_alike doc outputs xs ys same)
-
--- so is the line of a document
-pub lines_alike : (doc : Doc) (outputs : List OutputNames) (xs ys : List (List (List Datum))) → AreSameBags xs ys → output_line doc outputs xs ≡ output_line doc outputs ys
-unfolding output_line line_data
-lines_alike doc outputs xs ys same =
-    ap (λ (views : Data). compact_text (object_of (label_pair doc.label ++ (codes "views", views) ∷ [])) ++ 10 ∷ []) (views_alike doc outputs xs ys same)
 
 -- they have as many rows
 sizes_alike : (xs ys : Answer) → AreSameBags xs ys → (k : ℕ) → size_at xs k ≡ size_at ys k

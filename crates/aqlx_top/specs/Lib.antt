@@ -36,6 +36,7 @@ pub mod Programs
 pub mod Prefixes
 pub mod Progress
 pub mod Turns
+pub mod Windows
 -- what the stages of a call come to
 pub mod Stages
 pub mod Showings

@@ -6,20 +6,9 @@ use Rattle.row_values.specs.Outputs.{OutputNames}
 use Rattle.corpus_json.specs.Outputs.{output_line}
 use Rattle.algebra.specs.Plans.{Parts}
 use Rattle.algebra.specs.Values.{val}
+pub use Rattle.window_lines.specs.Lines.{names_in, rows_by, line_by}
 use Rattle.demo_corpus.specs.Summaries.{summary_of}
 use Rattle.demo_corpus.specs.Totals.{tally_of}
-
--- the outputs with their columns
-abbrev pub names_in : Parts → List OutputNames
-names_in plan = map (λ out. out.names) plan.outputs
-
--- the rows of each output on a document
-abbrev pub rows_by : Parts → Doc → List (List (List Datum))
-rows_by plan document = map (λ out. val plan.lists document plan.nodes out.node) plan.outputs
-
--- the line of a document
-abbrev pub line_by : Parts → Doc → List ℕ
-line_by plan document = output_line document (names_in plan) (rows_by plan document)
 
 -- the summary of the plan on documents
 abbrev pub summary_by : Parts → List Doc → List ℕ

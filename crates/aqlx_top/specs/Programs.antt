@@ -9,6 +9,7 @@ use Rattle.clause_types.specs.Known.{known_of_program}
 use Rattle.aql_types.specs.Programs.{IsTyped}
 use Rattle.aql_tables.specs.Programs.{lists_of}
 use Rattle.algebra.specs.Plans.{Parts}
+use Rattle.plan_maker.specs.Promised.{IsNormal}
 use Rattle.plan_maker.specs.Shown.{ShowsProgram}
 use Rattle.aqlx_top.specs.declared.program.Compiled.{Compiled}
 use Rattle.aqlx_top.specs.declared.status.ProgramFault.{ProgramFault}
@@ -23,13 +24,14 @@ pub record IsCompiledFrom (text : List ℕ) (compiled : Compiled) : Type 0 where
   pub planned : IsPlanOf text compiled.plan
   pub outputs : compiled.outputs.items ≡ names_in compiled.plan
 
--- the statements are a program's, and this is its plan
+-- the statements are a program's, and this is its plan, which is normal
 pub record IsBuiltFrom (statements : List Statement) (plan : Parts) : Type 0 where
   pub order : List ℕ
   pub resolved : IsResolved statements order
   pub typed : Typed
   pub is_typed : IsTyped (known_of_program statements) (lists_of statements) statements order typed
   pub shows : ShowsProgram typed plan
+  pub normal : IsNormal plan
 
 -- memory ran out, or the statements of these tokens have this fault of names or of types
 abbrev pub IsRefusedFor : List Token → List Statement → Failure ProgramFault → Type 0

@@ -1,7 +1,7 @@
 //! The demonstration: a program on generated documents, and how many rows it has.
 
 ghost use Rattle.std.specs.Prelude.{◌≡◌, ◌<◌, ◌≤◌, ◌-◌, ◌^◌, All, None, IfOk, OnErr, OnOk, length, slice_index_or, string_bytes};
-ghost use Rattle.corpus_json.specs.Inputs.{doc_of, doc_of_ref};
+ghost use Rattle.corpus_json.specs.Inputs.{doc_of_ref};
 ghost use Rattle.demo_corpus.specs.Generator.{first_documents, generated};
 ghost use Rattle.plan_operators.specs.Boards.{Holds};
 ghost use Rattle.aqlx_top.specs.Devices.{sink_between, IsUntouched};
@@ -9,20 +9,20 @@ ghost use Rattle.aqlx_top.specs.Planned.{rows_by, summary_by};
 ghost use Rattle.aqlx_top.specs.Showings.{IsCounted, IsSummarySent};
 
 use crate::Status;
-use crate::answer::{all_shown, document_of};
 use crate::asks::asks_for_tokens;
 use crate::modes::send;
 use crate::outputs::outputs_of;
 use crate::program::plan_program;
 use algebra::Plan;
 use aql_io::Sink;
-use corpus_json::{Input, InputRef};
+use corpus_json::InputRef;
 use demo_corpus::{DEMO, Totals, gen_document};
 use plan_operators::{Schedule, evaluate};
 use row_values::Rows;
 use scalar_ops::Tools;
 use span_token::{Document, OutOfMemory};
 use std::alloc::Global;
+use window_lines::{all_shown, document_of, lent};
 
 /// Evaluates the demonstration's program on the first `count` generated documents, and writes and flushes
 /// the summary: how many they are, and how many rows each output has over all of them.
@@ -117,18 +117,4 @@ fn count_shown<'d>(
     let shown = all_shown(alloc, plan.outputs(), board)?;
     totals.add(shown.as_slice());
     Ok(())
-}
-
-/// A document with its texts borrowed.
-fn lent(input: &Input) -> InputRef<'_>
-    ensures { doc_of_ref result ≡ doc_of input.now }
-{
-    let label = match &input.label {
-        Some(label) => Some(label.as_str()),
-        None => None,
-    };
-    InputRef {
-        label,
-        text: input.text.as_str(),
-    }
 }

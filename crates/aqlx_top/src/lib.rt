@@ -24,6 +24,7 @@ mod status;
 mod status_line;
 mod top;
 mod type_line;
+mod windows;
 mod words;
 
 pub use aql_lexer::LexFault;

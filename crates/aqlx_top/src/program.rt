@@ -24,10 +24,10 @@ use view_graph::{Graph, resolve};
 /// The plan of a program's text.
 ///
 /// The program has no fault, and the plan is made of its typed form: each of its outputs shows on each
-/// document what the view of that output means, as a bag. A text with a fault is refused for its first one, in
-/// the order that `ProgramFault` tells; `Text` is never answered, since the text is UTF-8.
+/// document what the view of that output means, as a bag. It is the normal plan of `make_plan`. A text with a
+/// fault is refused for its first one, in the order that `ProgramFault` tells; `Text` is never answered, since the text is UTF-8.
 ///
-/// Meaning: `IsPlanOf`, `specs/Plans.antt`; of a fault: `HasCause`, `specs/ProgramFaults.antt`.
+/// Meaning: `IsPlanOf`, `specs/Plans.antt`, and `IsNormal` of `plan_maker`; of a fault: `HasCause`, `specs/ProgramFaults.antt`.
 pub fn plan_program(alloc: Global, text: &str) -> Result<Plan, Failure<ProgramFault>>
     ensures planned { IfOk result (λ plan. IsPlanOf text.now plan) }
     ensures fault { IfErr result (HasCause text.now) }

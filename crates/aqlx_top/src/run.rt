@@ -21,7 +21,7 @@ use span_token::OutOfMemory;
 use std::alloc::Global;
 
 /// How many bytes of output are held before they are written.
-const PIECE: usize = 65_536;
+pub(crate) const PIECE: usize = 65_536;
 
 /// What a run keeps from line to line.
 #[derive(Drop)]
@@ -38,6 +38,7 @@ pub(crate) struct Work<'p> {
 }
 
 /// What one turn came to: the next line, or the end of the run with its status.
+#[derive(Drop)]
 pub(crate) enum Turn {
     Next,
     Ended(Status),
@@ -155,7 +156,7 @@ fn take_turn<S: Source>(
 }
 
 /// Writes what is pending and flushes it.
-fn finish<O: Sink>(out: &mut O, pending: &[u8], status: Status) -> Status
+pub(crate) fn finish<O: Sink>(out: &mut O, pending: &[u8], status: Status) -> Status
     ensures { (piece : Doc → List ℕ) (corpus : SourceEnds) (before : Option (List ℕ)) (flushed faults : ℕ) →
         O.faults out.old ≡ faults →
         Finished piece corpus before (O.held out.old) pending.now status →

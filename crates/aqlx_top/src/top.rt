@@ -1,7 +1,7 @@
-ghost use Rattle.std.specs.Prelude.{◌≡◌, map, string_bytes, ℕ, List, IfOk, OnErr};
+ghost use Rattle.std.specs.Prelude.{◌≡◌, map, string_bytes, ◌≤◌, ℕ, List, IfOk, OnErr};
 ghost use Rattle.aqlx_top.specs.Devices.{files_between, source_between, sink_between, IsUnread};
 ghost use Rattle.aqlx_top.specs.Outcome.{Outcome, call_of, HasCauseOf, WroteFront};
-ghost use Rattle.aqlx_top.specs.Orders.{order_told};
+ghost use Rattle.aqlx_top.specs.Orders.{asked_told, IsForWorkers};
 ghost use Rattle.aqlx_top.specs.Words.{to_run, IsOrder, IsNoRun};
 ghost use Rattle.aqlx_top.specs.Stages.{IsFileRunTo, IsFileInPart, IsTextRunTo, IsTextInPart};
 
@@ -11,12 +11,13 @@ use crate::limits::MOST_READ;
 use crate::modes::{Shown, generate, show_file};
 use crate::program::compile;
 use crate::program_file::read_file;
-use crate::run::run;
 use crate::status_line::report;
-use crate::words::{Order, order_of};
+use crate::windows::run_by;
+use crate::words::{Asked, Order, order_of};
 use aql_io::{Files, Sink, Source};
 use span_token::{Failure, OutOfMemory};
 use std::alloc::Global;
+use std::thread::Threads;
 
 /// Does what `words` ask for. `run PROGRAM` reads the program file PROGRAM of `files`, reads the corpus to
 /// its end and writes to `out` the line of each document, in the corpus's order. `check PROGRAM` writes
@@ -31,8 +32,13 @@ use std::alloc::Global;
 /// failed read; with 5 and after want of memory a prefix is written. `run` holds one line of the corpus, and
 /// one piece of output beyond the lines of one document; `plan` and `demo` hold their text.
 ///
+/// With `--workers N`, N from 2 on, `run` evaluates documents in windows by N workers, each in a thread of
+/// its own but for the first one, and holds a window, of at most 1,024 documents, and its lines; no byte of what
+/// is written depends on N. All other calls start no thread.
+///
 /// Meaning: `Outcome`, `specs/Outcome.antt`; docs/FORMATS.md, "Exit status and standard error".
-pub fn aqlx<F: Files, S: Source, O: Sink, E: Sink>(
+pub fn aqlx<R: Threads + Sync, F: Files, S: Source, O: Sink, E: Sink>(
+    rt: &R,
     alloc: Global,
     words: &Vec<String>,
     files: &mut F,
@@ -47,12 +53,13 @@ pub fn aqlx<F: Files, S: Source, O: Sink, E: Sink>(
         (sink_between E.held E.flushed E.faults err.old err.new)
         result }
 {
-    let status = carry_out(alloc, words, files, corpus, out)?;
+    let status = carry_out(rt, alloc, words, files, corpus, out)?;
     report(alloc, err, status)
 }
 
 /// Does what the words ask for, and tells how it ended.
-fn carry_out<F: Files, S: Source, O: Sink>(
+fn carry_out<R: Threads + Sync, F: Files, S: Source, O: Sink>(
+    rt: &R,
     alloc: Global,
     words: &Vec<String>,
     files: &mut F,
@@ -70,31 +77,34 @@ fn carry_out<F: Files, S: Source, O: Sink>(
     ensures unread { IsNoRun (map string_bytes words.now.items) → IsUnread (source_between S.left S.faults corpus.old corpus.new) }
 {
     match order_of(words) {
-        Some(order) => follow(alloc, order, files, corpus, out),
+        Some(asked) => follow(rt, alloc, asked, files, corpus, out),
         None => Ok(Status::Usage),
     }
 }
 
 /// Does what is asked for.
-fn follow<F: Files, S: Source, O: Sink>(
+fn follow<R: Threads + Sync, F: Files, S: Source, O: Sink>(
+    rt: &R,
     alloc: Global,
-    order: Order<'_>,
+    asked: Asked<'_>,
     files: &mut F,
     corpus: &mut S,
     out: &mut O,
 ) -> Result<Status, OutOfMemory>
-    ensures cause { IfOk result (λ status. (words : List (List ℕ)) → IsOrder words (order_told order.entry) → HasCauseOf
+    requires workers { IsForWorkers asked }
+    ensures cause { IfOk result (λ status. (words : List (List ℕ)) → IsOrder words (asked_told asked.entry) → HasCauseOf
         (call_of words (files_between F.told F.faults files.old files.new)
         (source_between S.left S.faults corpus.old corpus.new)
         (sink_between O.held O.flushed O.faults out.old out.new)) status) }
-    ensures front { OnErr result ((words : List (List ℕ)) → IsOrder words (order_told order.entry) → WroteFront
+    ensures front { OnErr result ((words : List (List ℕ)) → IsOrder words (asked_told asked.entry) → WroteFront
         (call_of words (files_between F.told F.faults files.old files.new)
         (source_between S.left S.faults corpus.old corpus.new)
         (sink_between O.held O.flushed O.faults out.old out.new))) }
-    ensures unread { ((name : List ℕ) → ¬ (order_told order.entry ≡ to_run name)) → IsUnread (source_between S.left S.faults corpus.old corpus.new) }
+    ensures unread { ((name : List ℕ) → ¬ (asked_told asked.entry ≡ to_run name)) → IsUnread (source_between S.left S.faults corpus.old corpus.new) }
 {
+    let Asked { order, workers } = asked;
     match order {
-        Order::Run(name) => run_file(alloc, name, files, corpus, out),
+        Order::Run(name) => run_file(rt, alloc, workers, name, files, corpus, out),
         Order::Check(name) => show_file(alloc, Shown::Check, name, files, out),
         Order::Plan(name) => show_file(alloc, Shown::Plan, name, files, out),
         Order::Gen(count) => generate(alloc, count, out),
@@ -103,13 +113,16 @@ fn follow<F: Files, S: Source, O: Sink>(
 }
 
 /// Reads a program file and runs its program.
-fn run_file<F: Files, S: Source, O: Sink>(
+fn run_file<R: Threads + Sync, F: Files, S: Source, O: Sink>(
+    rt: &R,
     alloc: Global,
+    workers: u32,
     name: &str,
     files: &mut F,
     corpus: &mut S,
     out: &mut O,
 ) -> Result<Status, OutOfMemory>
+    requires some { 1 ≤ workers }
     ensures ran { IfOk result (IsFileRunTo name.now (files_between F.told F.faults files.old files.new)
         (source_between S.left S.faults corpus.old corpus.new)
         (sink_between O.held O.flushed O.faults out.old out.new)) }
@@ -118,18 +131,21 @@ fn run_file<F: Files, S: Source, O: Sink>(
         (sink_between O.held O.flushed O.faults out.old out.new)) }
 {
     match read_file(alloc, files, name, MOST_READ)? {
-        Some(bytes) => run_text(alloc, &bytes, corpus, out),
+        Some(bytes) => run_text(rt, alloc, workers, &bytes, corpus, out),
         None => Ok(Status::ReadFault),
     }
 }
 
 /// Runs the program that a file's bytes hold.
-fn run_text<S: Source, O: Sink>(
+fn run_text<R: Threads + Sync, S: Source, O: Sink>(
+    rt: &R,
     alloc: Global,
+    workers: u32,
     bytes: &[u8],
     corpus: &mut S,
     out: &mut O,
 ) -> Result<Status, OutOfMemory>
+    requires some { 1 ≤ workers }
     ensures ran { IfOk result (IsTextRunTo bytes.now
         (source_between S.left S.faults corpus.old corpus.new)
         (sink_between O.held O.flushed O.faults out.old out.new)) }
@@ -138,7 +154,15 @@ fn run_text<S: Source, O: Sink>(
         (sink_between O.held O.flushed O.faults out.old out.new)) }
 {
     match compile(alloc, bytes) {
-        Ok(program) => run(alloc, &program.plan, &program.outputs, corpus, out),
+        Ok(program) => run_by(
+            rt,
+            alloc,
+            workers,
+            &program.plan,
+            &program.outputs,
+            corpus,
+            out,
+        ),
         Err(Failure::Fault(fault)) => Ok(Status::Program(fault)),
         Err(Failure::OutOfMemory) => Err(OutOfMemory),
     }

@@ -1,10 +1,10 @@
 //! What command words ask for.
 
-ghost use Rattle.std.specs.Prelude.{◌≡◌, ◌≤◌, ◌&&◌, if◌then◌else◌, map, option_map, string_bytes, Some, None, nat_le, length};
+ghost use Rattle.std.specs.Prelude.{◌≡◌, ◌≤◌, ◌&&◌, if◌then◌else◌, map, option_map, string_bytes, Some, None, IfSome, true, nat_le, length};
 ghost use Rattle.std.specs.Char.{is_ascii_digit};
 ghost use Rattle.std.specs.List.{list_all};
 ghost use Rattle.std.specs.Str.{bytes_eq};
-ghost use Rattle.aqlx_top.specs.Orders.{order_told};
+ghost use Rattle.aqlx_top.specs.Orders.{asked_told, order_told, IsForWorkers};
 ghost use Rattle.aqlx_top.specs.Words.{count_of, is_option, is_workers, number_behind, order_by, order_in_four, order_of};
 
 /// The most workers that may be asked for.
@@ -23,41 +23,60 @@ pub(crate) enum Order<'w> {
     Demo(u32),
 }
 
+/// What is asked for, and by how many workers: 1 where no number is named.
+pub(crate) struct Asked<'w> {
+    pub order: Order<'w>,
+    pub workers: u32,
+}
+
 /// What the command words ask for: `MODE PROGRAM`, with or without the option `--workers N`, N from 1 to
 /// 16, before MODE or before or after PROGRAM; None for all others. MODE is `run`, `check` or `plan`, and
 /// PROGRAM any word, or it is `gen` or `demo`, and PROGRAM digits with a value of at most 100,000.
-///
-/// No worker is started yet: the option changes nothing.
-pub(crate) fn order_of(words: &Vec<String>) -> Option<Order<'_>>
-    ensures { option_map order_told result ≡ order_of (map string_bytes words.now.items) }
+pub(crate) fn order_of(words: &Vec<String>) -> Option<Asked<'_>>
+    ensures order { option_map asked_told result ≡ order_of (map string_bytes words.now.items) }
+    ensures workers { IfSome result IsForWorkers }
 {
     order_in(words.as_slice())
 }
 
-fn order_in(words: &[String]) -> Option<Order<'_>>
-    ensures { option_map order_told result ≡ order_of (map string_bytes words.now) }
+fn order_in(words: &[String]) -> Option<Asked<'_>>
+    ensures order { option_map asked_told result ≡ order_of (map string_bytes words.now) }
+    ensures workers { IfSome result IsForWorkers }
 {
     match words {
-        [mode, word] => order_by(mode.as_str(), word.as_str()),
+        [mode, word] => by_workers(order_by(mode.as_str(), word.as_str()), 1),
         [a, b, c, d] => order_in_four(a.as_str(), b.as_str(), c.as_str(), d.as_str()),
         _ => None,
     }
 }
 
 /// What four words ask for.
-fn order_in_four<'w>(a: &'w str, b: &'w str, c: &'w str, d: &'w str) -> Option<Order<'w>>
-    ensures { option_map order_told result ≡ order_in_four a.now b.now c.now d.now }
+fn order_in_four<'w>(a: &'w str, b: &'w str, c: &'w str, d: &'w str) -> Option<Asked<'w>>
+    ensures order { option_map asked_told result ≡ order_in_four a.now b.now c.now d.now }
+    ensures workers { IfSome result IsForWorkers }
 {
     if is_option(c) && is_workers(d) {
-        return order_by(a, b);
+        return by_workers(order_by(a, b), workers_of(d));
     }
     if is_option(b) && is_workers(c) {
-        return order_by(a, d);
+        return by_workers(order_by(a, d), workers_of(c));
     }
     if is_option(a) && is_workers(b) {
-        return order_by(c, d);
+        return by_workers(order_by(c, d), workers_of(b));
     }
     None
+}
+
+/// An order, where there is one, for so many workers.
+fn by_workers<'w>(order: Option<Order<'w>>, workers: u32) -> Option<Asked<'w>>
+    requires within { (1 ≤ workers) × (workers ≤ 16) }
+    ensures order { option_map asked_told result ≡ option_map order_told order.entry }
+    ensures workers { IfSome result IsForWorkers }
+{
+    match order {
+        Some(order) => Some(Asked { order, workers }),
+        None => None,
+    }
 }
 
 /// What a mode asks for with a word behind it.
@@ -104,6 +123,17 @@ fn is_workers(word: &str) -> bool
     match number_of(word, MOST_WORKERS) {
         Some(number) => 1 <= number,
         None => false,
+    }
+}
+
+/// The number of workers that a word asks for; 1 for a word that asks for none.
+fn workers_of(word: &str) -> u32
+    ensures number { is_workers word.now ≡ true → result ≡ number_behind 0 word.now }
+    ensures within { (1 ≤ result) × (result ≤ 16) }
+{
+    match number_of(word, MOST_WORKERS) {
+        Some(number) => number.max(1),
+        None => 1,
     }
 }
 

@@ -2,6 +2,7 @@
 use crate::setup::{NO_NUMBERS, NUMBERS, Ran, Setup, run, usual};
 use std::alloc::Global;
 use std::test::Fail;
+use std::thread::Threads;
 
 const USAGE: &str = "aqlx: usage: aqlx MODE PROGRAM [--workers N]\n";
 
@@ -73,6 +74,7 @@ fn refusals_have_their_status_and_their_line(rt: HostRuntime) -> Result<(), Fail
     ];
     for (words, corpus, status, out, err) in &rows {
         let ran = run(
+            &rt,
             rt.alloc(),
             &Setup {
                 words,
@@ -105,6 +107,7 @@ fn a_failed_write_or_flush_is_told_and_leaves_what_was_written(
         for call in 1..calls.saturating_add(3) {
             let fails = [call];
             let ran = run(
+                &rt,
                 rt.alloc(),
                 &Setup {
                     out_fails: &fails,
@@ -151,11 +154,12 @@ const READ: [(&str, &[usize]); 5] = [
 #[test]
 fn a_failed_read_is_told_after_the_lines_before_it(rt: HostRuntime) -> Result<(), Fail> {
     for (corpus, lines) in &READ {
-        let whole = run(rt.alloc(), &usual(NUMBERS, corpus))?;
+        let whole = run(&rt, rt.alloc(), &usual(NUMBERS, corpus))?;
         assert_eq!(rt; whole.code, 0, "over {corpus}");
         for call in 1..lines.len() + 3 {
             let fails = [call as u64];
             let ran = run(
+                &rt,
                 rt.alloc(),
                 &Setup {
                     source_fails: &fails,
@@ -195,6 +199,7 @@ fn a_failed_read_of_the_program_is_told(rt: HostRuntime) -> Result<(), Fail> {
         for call in 1..reads.saturating_add(3) {
             let fails = [call];
             let ran = run(
+                &rt,
                 alloc,
                 &Setup {
                     file_fails: &fails,
@@ -223,9 +228,15 @@ fn a_failed_read_of_the_program_is_told(rt: HostRuntime) -> Result<(), Fail> {
 }
 
 /// What a run with one failing call of standard error came to.
-fn run_with_err(alloc: Global, setup: Setup<'_>, call: u64) -> Result<Ran, Fail> {
+fn run_with_err<R: Threads + Sync>(
+    rt: &R,
+    alloc: Global,
+    setup: Setup<'_>,
+    call: u64,
+) -> Result<Ran, Fail> {
     let fails = [call];
     run(
+        rt,
         alloc,
         &Setup {
             err_fails: &fails,
@@ -265,7 +276,7 @@ fn a_line_that_cannot_be_written_is_a_write_fault(rt: HostRuntime) -> Result<(),
                 source_fails,
                 ..usual(program, corpus)
             };
-            let ran = run_with_err(rt.alloc(), setup, *call)?;
+            let ran = run_with_err(&rt, rt.alloc(), setup, *call)?;
             assert_eq!(rt; ran.code, *status, "with call {call} failing for {line}");
             assert_eq!(rt;
                 ran.err.bytes(),

@@ -55,7 +55,7 @@ const DONE: [(&str, &str, &str); 10] = [
 #[test]
 fn documents_are_written_in_order_with_their_matches(rt: HostRuntime) -> Result<(), Fail> {
     for (program, corpus, wanted) in &DONE {
-        let ran = run(rt.alloc(), &usual(program, corpus))?;
+        let ran = run(&rt, rt.alloc(), &usual(program, corpus))?;
         assert_eq!(rt; ran.code, 0, "over {corpus}");
         assert_eq!(rt; ran.out.bytes(), wanted.as_bytes(), "over {corpus}");
         assert_eq!(rt; ran.err.bytes().len(), 0, "over {corpus}");
@@ -69,6 +69,7 @@ fn a_document_cut_after_any_byte_is_a_bad_line(rt: HostRuntime) -> Result<(), Fa
     let line = "{\"text\":\"\u{e9}\"}".as_bytes();
     for end in 0..line.len() + 1 {
         let ran = run(
+            &rt,
             alloc,
             &Setup {
                 corpus: &line[..end],
@@ -81,6 +82,7 @@ fn a_document_cut_after_any_byte_is_a_bad_line(rt: HostRuntime) -> Result<(), Fa
     }
     let no_text = b"{\"text\":\"\xff\"}".as_slice();
     let ran = run(
+        &rt,
         alloc,
         &Setup {
             corpus: no_text,
@@ -103,7 +105,7 @@ fn a_hundred_documents_before_a_bad_line_are_written(rt: HostRuntime) -> Result<
         corpus.push_str("{\"text\":\"1\"}\n")?;
     }
     corpus.push_str("[]\n{\"text\":\"1\"}\n")?;
-    let ran = run(alloc, &usual(NUMBERS, corpus.as_str()))?;
+    let ran = run(&rt, alloc, &usual(NUMBERS, corpus.as_str()))?;
     let line = "{\"views\":{\"P\":[{\"num\":{\"begin\":0,\"end\":1,\"text\":\"1\"}}]}}\n";
     assert_eq!(rt; ran.code, 3);
     assert_eq!(rt;
@@ -128,7 +130,7 @@ fn a_line_of_the_limit_is_read_and_a_longer_one_is_not(rt: HostRuntime) -> Resul
             piece: 1 << 20,
             ..usual(NUMBERS, "")
         };
-        let ran = run(alloc, &setup)?;
+        let ran = run(&rt, alloc, &setup)?;
         assert_eq!(rt; ran.code, status, "at {letters} letters");
     }
     Ok(())

@@ -153,7 +153,7 @@ const LANGUAGE: [(&str, &str, &str); 24] = [
 #[test]
 fn worked_rows_of_the_language_are_written(rt: HostRuntime) -> Result<(), Fail> {
     for (program, document, line) in &LANGUAGE {
-        let ran = run(rt.alloc(), &usual(program, document))?;
+        let ran = run(&rt, rt.alloc(), &usual(program, document))?;
         let out = ran.out.bytes();
         assert_eq!(rt; ran.err.bytes(), b"".as_slice(), "of {program}");
         assert_eq!(rt; ran.code, 0, "of {program}");

@@ -17,3 +17,5 @@ mod programs;
 mod setup;
 #[cfg(test)]
 mod streaming;
+#[cfg(test)]
+mod workers;

@@ -43,6 +43,7 @@ fn each_mode_writes_its_text_and_reads_no_corpus(rt: HostRuntime) -> Result<(), 
     ];
     for (words, status, out, err) in &rows {
         let ran = run(
+            &rt,
             rt.alloc(),
             &Setup {
                 words,
@@ -61,6 +62,7 @@ fn each_mode_writes_its_text_and_reads_no_corpus(rt: HostRuntime) -> Result<(), 
 fn a_fault_is_told_in_each_mode_that_reads_a_program(rt: HostRuntime) -> Result<(), Fail> {
     for mode in &["check", "plan"] {
         let ran = run(
+            &rt,
             rt.alloc(),
             &Setup {
                 words: &[mode, "p.aql"],
@@ -91,6 +93,7 @@ fn a_failed_write_of_each_mode_is_told(rt: HostRuntime) -> Result<(), Fail> {
         for call in 1u64..3 {
             let fails = [call];
             let ran = run(
+                &rt,
                 rt.alloc(),
                 &Setup {
                     words,

@@ -55,7 +55,7 @@ const UNRESOLVED: [(&str, &str); 12] = [
 #[test]
 fn names_that_cannot_be_resolved_are_told(rt: HostRuntime) -> Result<(), Fail> {
     for (program, line) in &UNRESOLVED {
-        let ran = run(rt.alloc(), &usual(program, NO_NUMBERS))?;
+        let ran = run(&rt, rt.alloc(), &usual(program, NO_NUMBERS))?;
         assert_eq!(rt; ran.code, 1, "of {program}");
         assert_eq!(rt; ran.out.bytes().len(), 0, "of {program}");
         assert_eq!(rt; ran.err.bytes(), line.as_bytes(), "of {program}");
@@ -134,7 +134,7 @@ const MISTYPED: [(&str, &str); 16] = [
 #[test]
 fn faults_of_types_have_their_place(rt: HostRuntime) -> Result<(), Fail> {
     for (program, line) in &MISTYPED {
-        let ran = run(rt.alloc(), &usual(program, NO_NUMBERS))?;
+        let ran = run(&rt, rt.alloc(), &usual(program, NO_NUMBERS))?;
         assert_eq!(rt; ran.code, 1, "of {program}");
         assert_eq!(rt; ran.out.bytes().len(), 0, "of {program}");
         assert_eq!(rt; ran.err.bytes(), line.as_bytes(), "of {program}");
@@ -160,7 +160,7 @@ fn faults_of_text_tokens_and_syntax_have_their_place(rt: HostRuntime) -> Result<
             program,
             ..usual("", NO_NUMBERS)
         };
-        let ran = run(rt.alloc(), &setup)?;
+        let ran = run(&rt, rt.alloc(), &setup)?;
         assert_eq!(rt; ran.code, 1, "of {line}");
         assert_eq!(rt; ran.out.bytes().len(), 0, "of {line}");
         assert_eq!(rt; ran.err.bytes(), line.as_bytes(), "of {line}");
@@ -189,7 +189,7 @@ fn two_thousand_statements_are_read_and_one_more_is_not(rt: HostRuntime) -> Resu
     ];
     for (count, code, line) in &rows {
         let program = views(alloc, *count)?;
-        let ran = run(alloc, &usual(program.as_str(), NO_NUMBERS))?;
+        let ran = run(&rt, alloc, &usual(program.as_str(), NO_NUMBERS))?;
         assert_eq!(rt; ran.code, *code, "of {count} statements");
         assert_eq!(rt; ran.err.bytes(), line.as_bytes(), "of {count} statements");
     }
@@ -216,7 +216,7 @@ fn sixty_four_parentheses_are_read_and_one_more_is_not(rt: HostRuntime) -> Resul
             program.push_str(")")?;
         }
         program.push_str(");")?;
-        let ran = run(alloc, &usual(program.as_str(), NO_NUMBERS))?;
+        let ran = run(&rt, alloc, &usual(program.as_str(), NO_NUMBERS))?;
         assert_eq!(rt; ran.code, *code, "of {count} calls");
         assert_eq!(rt; ran.err.bytes(), line.as_bytes(), "of {count} calls");
     }
@@ -237,7 +237,7 @@ fn a_program_of_the_limit_is_read_and_a_longer_one_is_not(rt: HostRuntime) -> Re
             program: &spaces,
             ..usual("", NO_NUMBERS)
         };
-        let ran = run(alloc, &setup)?;
+        let ran = run(&rt, alloc, &setup)?;
         assert_eq!(rt; ran.code, *code, "of {count} bytes");
         assert_eq!(rt; ran.err.bytes(), line.as_bytes(), "of {count} bytes");
     }

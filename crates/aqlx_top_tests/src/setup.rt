@@ -4,6 +4,7 @@ use aqlx_top::aqlx;
 use std::alloc::Global;
 use std::collections::BTreeMap;
 use std::test::Fail;
+use std::thread::Threads;
 
 /// The program of one view that finds numbers.
 pub const NUMBERS: &str =
@@ -50,7 +51,11 @@ pub(crate) fn usual<'a>(program: &'a str, corpus: &'a str) -> Setup<'a> {
 }
 
 /// Runs it over objects in memory.
-pub(crate) fn run(alloc: Global, setup: &Setup<'_>) -> Result<Ran, Fail> {
+pub(crate) fn run<R: Threads + Sync>(
+    rt: &R,
+    alloc: Global,
+    setup: &Setup<'_>,
+) -> Result<Ran, Fail> {
     let mut words = Vec::new(alloc);
     for word in setup.words {
         words.push(String::from_str(alloc, word)?)?;
@@ -74,7 +79,15 @@ pub(crate) fn run(alloc: Global, setup: &Setup<'_>) -> Result<Ran, Fail> {
         Vec::from_slice(alloc, setup.out_fails)?,
     )?;
     let mut err = MemSink::new(alloc, 4096, 4096, Vec::from_slice(alloc, setup.err_fails)?)?;
-    let status = aqlx(alloc, &words, &mut files, &mut corpus, &mut out, &mut err)?;
+    let status = aqlx(
+        rt,
+        alloc,
+        &words,
+        &mut files,
+        &mut corpus,
+        &mut out,
+        &mut err,
+    )?;
     Ok(Ran {
         code: status.code(),
         out,

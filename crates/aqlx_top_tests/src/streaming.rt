@@ -8,6 +8,7 @@ use std::alloc::Global;
 use std::cell::Cell;
 use std::collections::BTreeMap;
 use std::test::Fail;
+use std::thread::Threads;
 
 /// A sink that shows how many bytes it holds.
 #[derive(Drop)]
@@ -53,11 +54,19 @@ impl Source for Looking<'_> {
     }
 }
 
-/// What the sink held at each read of `corpus`, in reads of `piece` bytes.
-fn seen_at_reads(alloc: Global, corpus: Vec<u8>, piece: usize) -> Result<Vec<usize>, Fail> {
+/// What the sink held at each read of `corpus`, in reads of `piece` bytes, of a run by so many workers.
+fn seen_at_reads<R: Threads + Sync>(
+    rt: &R,
+    alloc: Global,
+    workers: &str,
+    corpus: Vec<u8>,
+    piece: usize,
+) -> Result<Vec<usize>, Fail> {
     let mut words = Vec::new(alloc);
     words.push(String::from_str(alloc, "run")?)?;
     words.push(String::from_str(alloc, "p.aql")?)?;
+    words.push(String::from_str(alloc, "--workers")?)?;
+    words.push(String::from_str(alloc, workers)?)?;
     let mut held = BTreeMap::new(alloc);
     held.insert(
         String::from_str(alloc, "p.aql")?,
@@ -75,7 +84,15 @@ fn seen_at_reads(alloc: Global, corpus: Vec<u8>, piece: usize) -> Result<Vec<usi
         length: &length,
     };
     let mut err = MemSink::new(alloc, 4096, 4096, Vec::new(alloc))?;
-    let status = aqlx(alloc, &words, &mut files, &mut source, &mut out, &mut err)?;
+    let status = aqlx(
+        rt,
+        alloc,
+        &words,
+        &mut files,
+        &mut source,
+        &mut out,
+        &mut err,
+    )?;
     if status.code() == 0 {
         Ok(source.seen)
     } else {
@@ -95,8 +112,15 @@ fn what_is_there_is_written_before_each_later_read(rt: HostRuntime) -> Result<()
         (5, &[0, 0, 0, 57, 57, 57, 114, 114, 171]),
     ];
     for (piece, wanted) in &rows {
-        let seen = seen_at_reads(alloc, Vec::from_slice(alloc, corpus)?, *piece)?;
-        assert_eq!(rt; seen.as_slice(), *wanted, "by reads of {piece} bytes");
+        for workers in &["1", "4"] {
+            let bytes = Vec::from_slice(alloc, corpus)?;
+            let seen = seen_at_reads(&rt, alloc, workers, bytes, *piece)?;
+            assert_eq!(rt;
+                seen.as_slice(),
+                *wanted,
+                "by reads of {piece} bytes, {workers} workers"
+            );
+        }
     }
     Ok(())
 }
@@ -114,7 +138,7 @@ fn output_begins_before_a_million_bytes_of_ten_thousand_documents_are_read(
         corpus.extend_from_slice(b"\"}\n")?;
     }
     let piece = 10_007;
-    let seen = seen_at_reads(alloc, corpus, piece)?;
+    let seen = seen_at_reads(&rt, alloc, "1", corpus, piece)?;
     assert!(rt; seen.len() > 190);
     let read_before = seen.iter().take_while(|length| **length == 0).count();
     assert!(rt; read_before.saturating_sub(1).saturating_mul(piece) < 1_000_000);

@@ -1,4 +1,4 @@
-ghost use Rattle.std.specs.Prelude.{IsTrue, ◌↔◌, ◌≡◌, ◌≤◌, ℕ, [], None, List, Option, Contains, Some, Ok, IfOk, OnErr, IfSome, is_some, length, vec_len, take, min, MatchResult, MatchOption, ◌-◌};
+ghost use Rattle.std.specs.Prelude.{IsTrue, ◌↔◌, ◌≡◌, ◌<◌, ◌≤◌, ℕ, [], None, List, Option, Contains, Some, Ok, IfOk, OnErr, IfSome, is_some, length, vec_len, take, min, MatchResult, MatchOption, ◌-◌};
 ghost use Rattle.std.specs.Io.KnownBytes.{Consumes, Keeps, IsAtEnd};
 ghost use Rattle.aql_io.specs.Causes.{HasCause};
 ghost use Rattle.corpus_json.specs.Given.{GoesOn, HasGiven};
@@ -17,12 +17,12 @@ use span_token::OutOfMemory;
 use std::alloc::Global;
 use std::marker::Model;
 
-/// How many bytes one read may bring.
+/// How many bytes one read may bring, where a reader isn't told another number.
 const ROOM: usize = 65_536;
 
 /// The bytes that were taken from a source of lines and not given yet.
 ///
-/// It reads ahead by one buffer of a fixed size, and holds no source: each call is given it.
+/// It reads ahead by one buffer, whose size stays, and holds no source: each call is given it.
 #[derive(Debug, Drop)]
 pub struct LineBuffer {
     bytes: Vec<u8>,
@@ -46,12 +46,21 @@ impl Model for LineBuffer {
 }
 
 impl LineBuffer {
-    /// A buffer that took nothing yet.
+    /// A buffer that took nothing yet, for reads of 65,536 bytes.
     pub fn new(alloc: Global) -> Result<LineBuffer, OutOfMemory>
         ensures new { IfOk result (λ buffer. buffer ≡ record { ready = []; taken = 0; last = None }) }
         ensures given { IfOk result (λ buffer. (left : Option (List ℕ)) (faults : ℕ) → HasGiven left left faults faults buffer []) }
     {
-        let bytes = vec![in alloc; 0; ROOM]?;
+        LineBuffer::with_room(alloc, ROOM)
+    }
+
+    /// A buffer that took nothing yet, for reads of up to `room` bytes.
+    pub fn with_room(alloc: Global, room: usize) -> Result<LineBuffer, OutOfMemory>
+        requires some { 0 < room }
+        ensures new { IfOk result (λ buffer. buffer ≡ record { ready = []; taken = 0; last = None }) }
+        ensures given { IfOk result (λ buffer. (left : Option (List ℕ)) (faults : ℕ) → HasGiven left left faults faults buffer []) }
+    {
+        let bytes = vec![in alloc; 0; room]?;
         Ok(LineBuffer {
             bytes,
             from: 0,
@@ -82,6 +91,20 @@ impl LineBuffer {
         ensures { IsTrue result ↔ Contains self.now.ready 10 }
     {
         self.from < self.past_last_lf
+    }
+
+    /// The bytes that were taken and not given yet.
+    pub fn ready(&self) -> &[u8]
+        ensures { result.now ≡ self.now.ready }
+    {
+        &self.bytes[self.from..self.to]
+    }
+
+    /// Whether the last read brought as many bytes as it could, so that more may be there already. A read
+    /// of a pipe or a terminal whose writer pauses brings fewer, where a buffer is larger than what the
+    /// pipe can hold. What it says is about time alone, so no clause speaks of it.
+    pub fn was_filled(&self) -> bool {
+        self.to == self.bytes.len()
     }
 
     /// Puts the next line of `source` into `line`, or says why there is none.
@@ -166,7 +189,7 @@ impl LineBuffer {
         self.from = 0;
         self.to = 0;
         self.past_last_lf = 0;
-        let most = room_below(self.taken);
+        let most = room_below(self.bytes.len(), self.taken);
         if most < 1 {
             self.last = Some(Step::Limit);
             return Some(Step::Limit);
@@ -252,13 +275,13 @@ fn last_step(step: Step, is_empty: bool) -> Step
     }
 }
 
-/// How many bytes the next read may bring, where `taken` were taken.
-fn room_below(taken: u64) -> usize
+/// How many bytes the next read may bring into a buffer of `room` bytes, where `taken` were taken.
+fn room_below(room: usize, taken: u64) -> usize
     requires { taken ≤ corpus_limit }
-    ensures { result ≡ min ROOM (corpus_limit - taken) }
+    ensures { result ≡ min room (corpus_limit - taken) }
 {
     let left = CORPUS_LIMIT - taken;
-    ROOM.min(left as usize)
+    room.min(left as usize)
 }
 
 /// Reads once into the first `most` bytes of `buf`.

@@ -12,7 +12,7 @@ mod number;
 use crate::{Input, InputRef, NotDocument};
 use json::{Reader, Scratch, Token};
 use members::{Strings, pass_members};
-use span_token::{Failure, OutOfMemory, OwnedText};
+use span_token::{Failure, OutOfMemory};
 use std::alloc::Global;
 
 /// How deep arrays and objects may nest in an object of a line.
@@ -70,22 +70,10 @@ pub fn read_document(alloc: Global, line: &[u8]) -> Result<Option<Input>, Failur
 {
     let mut reader = DocumentReader::new(alloc);
     match reader.read(line) {
-        Ok(Some(found)) => Ok(Some(copied(alloc, found)?)),
+        Ok(Some(found)) => Ok(Some(Input::copied(alloc, found)?)),
         Ok(None) => Ok(None),
         Err(failure) => Err(failure),
     }
-}
-
-/// The document with texts of its own.
-fn copied(alloc: Global, input: InputRef<'_>) -> Result<Input, OutOfMemory>
-    ensures { IfOk result (λ copy. doc_of copy ≡ doc_of_ref input.entry) }
-{
-    let text = OwnedText::copied(alloc, input.text)?;
-    let label = match input.label {
-        Some(label) => Some(OwnedText::copied(alloc, label)?),
-        None => None,
-    };
-    Ok(Input { label, text })
 }
 
 /// Whether the line has blank bytes alone.

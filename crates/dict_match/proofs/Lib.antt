@@ -1,4 +1,5 @@
 pub mod FoldLemmas
+pub mod MarkLemmas
 pub mod TreeLemmas
 pub mod TrieLemmas
 pub mod PutLemmas

@@ -4,7 +4,8 @@ pub mod Dictionaries
 pub mod DictMatches
 pub mod Rows
 -- ---- words of private clauses
--- the tree of all entries, and how a pass keeps it
+-- the tree of all entries, the marks of its words, and how a pass keeps it
+pub mod Marks
 pub mod Tries
 pub mod Passes
 -- one step of a walk

@@ -11,6 +11,8 @@
 
 mod dict_use;
 mod fold;
+mod marks;
+mod numbers;
 mod pass;
 mod probe;
 mod trie;

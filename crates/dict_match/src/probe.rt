@@ -8,7 +8,7 @@ ghost use Rattle.dict_match.specs.declared.dict_use.DictUse.{DictUse};
 ghost use Rattle.dict_match.specs.Tries.{Reaches, IsTrie, put_dicts};
 ghost use Rattle.dict_match.specs.Walks.{run_texts, IsSpelled, HasEndFor, HasRun, AreNumbers};
 
-use crate::fold::number_of_folded;
+use crate::numbers::number_of_folded;
 use crate::trie::{End, Trie};
 use crate::walk::{does_agree, follow};
 use span_token::{OutOfMemory, SourceTokens};
@@ -77,6 +77,7 @@ fn number_at(
     buffer: &mut String,
     words: &mut Vec<Option<usize>>,
 ) -> Result<Option<usize>, OutOfMemory>
+    requires trie { IsTrie trie.now }
     requires there { i < length tokens.now.tokens }
     requires numbers { AreNumbers trie.now tokens.now words.old.items }
     requires next { i ≤ length words.old.items }
@@ -87,7 +88,7 @@ fn number_at(
     if i < words.len() {
         return Ok(words[i]);
     }
-    let word = number_of_folded(&trie.words, tokens.text(i), buffer)?;
+    let word = number_of_folded(trie, tokens.text(i), buffer)?;
     words.push(word)?;
     Ok(word)
 }
@@ -110,7 +111,7 @@ pub(crate) fn is_entry(
     }
     let mut node = 0;
     for last in 0..tokens.len() {
-        let word = number_of_folded(&trie.words, tokens.text(last), buffer)?;
+        let word = number_of_folded(trie, tokens.text(last), buffer)?;
         let Some(next) = follow(trie, node, word) else {
             return Ok(false);
         };

@@ -1,4 +1,4 @@
-ghost use Rattle.std.specs.Prelude.{◌≡◌, ◌↔◌, ◌<◌, ◌≤◌, ◌++◌, ◌∷◌, [], List, ℕ, length, map, Some, IfOk, OnOk, IsTrue};
+ghost use Rattle.std.specs.Prelude.{◌≡◌, ◌↔◌, ◌<◌, ◌≤◌, ◌++◌, ◌∷◌, [], List, ℕ, length, vec_len, map, Some, IfOk, OnOk, IsTrue};
 ghost use Rattle.std.specs.HashMap.{get_by_text};
 ghost use Rattle.std.specs.List.{Contains};
 ghost use Rattle.dict_match.specs.Dictionaries.{folded, texts_of, entry_texts};
@@ -7,6 +7,7 @@ ghost use Rattle.dict_match.specs.Tries.{Reaches, IsTrie, put_entry, put_dict};
 
 use crate::dict_use::{DictUse, copied_texts};
 use crate::fold::fold_into;
+use crate::marks::{MARKS, mark_of};
 use span_token::{
     Document, OutOfMemory, OwnedList, OwnedText, SourceTokens, TEXT_LIMIT, TokenRoom,
 };
@@ -24,12 +25,13 @@ pub(crate) struct End {
 /// The tree of all entries' folded tokens.
 ///
 /// Each folded token that stands in some entry has a number. From a node an edge leads on for each
-/// number with which some entry goes on there; node 0 is the root.
+/// number with which some entry goes on there; node 0 is the root. The mark of each folded token is set.
 #[derive(Drop)]
 pub(crate) struct Trie {
     pub words: HashMap<String, usize>,
     pub edges: HashMap<(usize, usize), usize>,
     pub ends: Vec<OwnedList<End>>,
+    pub marks: Vec<bool>,
 }
 
 impl Trie {
@@ -43,11 +45,13 @@ impl Trie {
             words: HashMap::new(alloc),
             edges: HashMap::new(alloc),
             ends,
+            marks: Vec::from_elem(alloc, false, MARKS)?,
         })
     }
 
     /// The number of a folded token, a new one where it has none.
     fn number(&mut self, alloc: Global, text: &str) -> Result<usize, OutOfMemory>
+        requires marks { vec_len self.old.marks ≡ 4096 }
         ensures number { IfOk result (λ word. get_by_text self.new.words text.now ≡ Some word) }
         ensures kept { (put : List (List (List ℕ) × End)) (node : ℕ) (path : List (List ℕ)) → Reaches self.old put node path
             → OnOk result (Reaches self.new put node path) }
@@ -57,6 +61,7 @@ impl Trie {
         }
         let number = self.words.len();
         self.words.insert(String::from_str(alloc, text)?, number)?;
+        self.marks[mark_of(text)] = true;
         Ok(number)
     }
 
@@ -95,6 +100,7 @@ impl Trie {
         tokens: &SourceTokens<'_, '_>,
         buffer: &mut String,
     ) -> Result<usize, OutOfMemory>
+        requires trie { IsTrie self.old }
         ensures { (put : List (List (List ℕ) × End)) → Reaches self.old put 0 []
             → IfOk result (λ node. Reaches self.new put node (map folded (texts_of tokens.now.doc tokens.now.tokens))) }
     {

@@ -6,7 +6,7 @@ ghost use Rattle.dict_match.specs.declared.dict_use.DictUse.{DictUse};
 ghost use Rattle.dict_match.specs.Tries.{Reaches, IsTrie, put_dicts, edge_from};
 ghost use Rattle.dict_match.specs.Walks.{numbers_of, run_texts, IsSpelled, HasEndFor, HasOneEach, PutsWhere, Extends};
 
-use crate::fold::number_of_folded;
+use crate::numbers::number_of_folded;
 use crate::trie::{End, Trie};
 use span_token::{OutOfMemory, OwnedText, SourceTokens, Span};
 
@@ -24,12 +24,13 @@ pub(crate) fn number_tokens(
     buffer: &mut String,
     words: &mut Vec<Option<usize>>,
 ) -> Result<(), OutOfMemory>
+    requires trie { IsTrie trie.now }
     ensures { OnOk result (words.new.items ≡ numbers_of trie.now tokens.now) }
 {
     words.clear();
     words.reserve(tokens.len())?;
     for i in 0..tokens.len() {
-        let word = number_of_folded(&trie.words, tokens.text(i), buffer)?;
+        let word = number_of_folded(trie, tokens.text(i), buffer)?;
         words.push(word)?;
     }
     Ok(())

@@ -16,5 +16,9 @@ pub mod Numbers
 pub mod Parting
 -- plans that keep the outputs of lowered ones
 pub mod MadePlans
+-- conditions in plans whose nodes get other numbers
+pub mod Keeping
+-- plans without nodes that nobody reads
+pub mod Dropping
 -- selections and extractions, one node after another
 pub mod Clauses

@@ -1,28 +1,38 @@
 //! Plans of programs that are put together anew.
 
 ghost use Rattle.std.specs.Prelude.{IfOk};
+ghost use Rattle.plan_maker.specs.Promised.{IsNormal};
 ghost use Rattle.plan_maker.specs.Shown.{ShowsProgram};
-ghost use Rattle.push_select.specs.Pushed.{ArePushed};
 
 use crate::lowering::lower;
 use algebra::Plan;
 use aql_typed::Typed;
 use push_select::push;
-use share_plan::share;
+use restrict_eval::{restrict, turn};
+use share_plan::{prune, share};
 use span_token::OutOfMemory;
 use std::alloc::Global;
 
 /// The plan by which a program is run: it has the program's tables, and each of its outputs shows on each
-/// document what the view means, as a bag. It is lowered, what stands twice in it is shared, and then its
-/// conditions are pushed down: what could be joined by spans is.
+/// document what the view means, as a bag.
 ///
-/// Meaning: `ShowsProgram`, `specs/Shown.antt`; `ArePushed`, `specs/Pushed.antt` of `push_select`.
+/// The program is lowered; of a product whose left side can be looked for near rows the sides are turned;
+/// conditions are pushed down, what nobody reads then is dropped, what stands twice is shared, and again is
+/// dropped what nobody reads. Then joins become conditional and look near their left rows, and what they
+/// read no more is dropped.
+///
+/// Meaning: `ShowsProgram`, `specs/Shown.antt`; `IsNormal`, `specs/Promised.antt`.
 pub fn make_plan(alloc: Global, typed: Typed) -> Result<Plan, OutOfMemory>
     ensures shows { IfOk result (λ plan. ShowsProgram typed plan) }
-    ensures pushed { IfOk result (λ plan. ArePushed plan.nodes) }
+    ensures normal { IfOk result IsNormal }
 {
     let lowered = lower(alloc, typed)?;
-    let shared = share(alloc, lowered)?;
-    let plan = push(alloc, shared)?;
+    let turned = turn(alloc, lowered)?;
+    let pushed = push(alloc, turned)?;
+    let read = prune(alloc, pushed)?;
+    let shared = share(alloc, read)?;
+    let whole = prune(alloc, shared)?;
+    let restricted = restrict(alloc, whole)?;
+    let plan = prune(alloc, restricted)?;
     Ok(plan)
 }

@@ -14,3 +14,21 @@ pub mod Pairing
 pub mod Scheduling
 -- rows that a policy keeps
 pub mod Keeping
+-- how many elements of a list pass a test
+pub mod Counting
+-- the tokens of a text by their numbers
+pub mod TokenNumbers
+-- lists over numbers in a row
+pub mod Numbers
+-- runs of tokens near a span
+pub mod Nearness
+-- what is found from one token after another
+pub mod Found
+-- how far it reaches
+pub mod Reached
+-- tokens in stretches
+pub mod StretchLemmas
+-- which rows a join needs
+pub mod Joined
+-- what is put after the rows of a restricted join
+pub mod Restricting

@@ -6,3 +6,5 @@ pub mod Boards
 -- Words of private clauses
 -- rows with the place of a dictionary
 pub mod Places
+-- runs of tokens near the outer rows of a restricted join
+pub mod Neighbourhoods

@@ -8,16 +8,22 @@
 
 mod board;
 mod consolidation;
-mod dicts;
+mod cross;
+mod dict;
+mod dict_part;
 mod extract;
 mod input;
-mod join;
-mod keep;
+mod minus;
+mod near;
 mod operator;
+mod order_limit;
 mod readers;
+mod restricted;
 mod schedule;
 mod select;
-mod sides;
+mod span_join;
+mod stretches;
+mod union;
 
 pub use board::{evaluate, rows_shown};
 pub use input::Input;

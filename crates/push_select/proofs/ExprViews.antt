@@ -63,6 +63,21 @@ pub none_less : (conds : List (Bor Expr)) → map (λ (cond : Bor Expr). renamed
 none_less [] = refl
 none_less (c ∷ conds) = ap₂ (λ (t : Term) (ts : List Term). t ∷ ts) (renamed-none (term_of c.now)) (none_less conds)
 
+pub none_less_terms : (exprs : List Expr) → map (λ (e : Expr). renamed (λ n. n - 0) (term_of e)) exprs ≡ map term_of exprs
+none_less_terms [] = refl
+none_less_terms (e ∷ exprs) = ap₂ (λ (t : Term) (ts : List Term). t ∷ ts) (renamed-none (term_of e)) (none_less_terms exprs)
+
+-- expressions with the numbers that columns have in a list
+terms_named : (shown : List ℕ) (exprs : List Expr) → map (λ (e : Expr). renamed (λ n. get_or shown n 0) (term_of e)) exprs ≡ map (renamed (λ n. get_or shown n 0)) (map term_of exprs)
+terms_named shown [] = refl
+terms_named shown (e ∷ exprs) = ap (λ (ts : List Term). renamed (λ n. get_or shown n 0) (term_of e) ∷ ts) (terms_named shown exprs)
+
+pub named-terms : (seen shown : List ℕ) (exprs copies : List Expr) (terms given : List Term) → seen ≡ shown → map term_of exprs ≡ terms
+    → map term_of copies ≡ map (λ (e : Expr). renamed (λ n. get_or seen n 0) (term_of e)) exprs → given ≡ map term_of copies → given ≡ map (renamed (λ n. get_or shown n 0)) terms
+named-terms seen shown exprs copies terms given same are named is =
+    is ∙ (named ∙ (ap (λ (list : List ℕ). map (λ (e : Expr). renamed (λ n. get_or list n 0) (term_of e)) exprs) same
+    ∙ (terms_named shown exprs ∙ ap (map (renamed (λ n. get_or shown n 0))) are)))
+
 -- one function after another
 pub terms_renamed_lent : (rename : ℕ → ℕ) (conds : List (Bor Expr)) → map (λ (cond : Bor Expr). renamed rename (term_of cond.now)) conds ≡ map (renamed rename) (terms_lent conds)
 terms_renamed_lent rename [] = refl

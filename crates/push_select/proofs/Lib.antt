@@ -16,3 +16,7 @@ pub mod Placing
 pub mod Narrowing
 -- where conditions stand in plans that grow
 pub mod Standing
+-- selections and projections that go down
+pub mod Going
+-- products of three nodes
+pub mod Reordering

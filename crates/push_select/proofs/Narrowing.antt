@@ -1,13 +1,14 @@
 -- Selections over nodes that combine two others, side by side.
-use Rattle.std.proofs.Common.{◌≡◌, ◌∙◌, ℕ, ◌+◌, ◌<◌, List, [], ◌∷◌, map, length, get_or, refl, sym, ap, ap₂, subst, arith}
+use Rattle.std.proofs.Common.{◌≡◌, ◌∙◌, ℕ, ◌+◌, ◌<◌, not, List, [], ◌∷◌, map, length, get_or, refl, sym, ap, ap₂, subst, arith}
 use Rattle.std.specs.List.{All}
+use Rattle.std.proofs.lemmas.List.Elements.{All-filter}
 use Rattle.aql_base.specs.Bags.{SameBag}
 use Rattle.aql_base.specs.BagLaws.{SameBag-sym, SameBag-trans, SameBag-is, SameBag-filter}
 use Rattle.span_token.specs.Documents.{Doc as Document}
 use Rattle.row_values.specs.RowBags.{SameBag-product}
 use Rattle.span_joins.specs.JoinLaws.{joined_where-SameBag}
-use Rattle.scalar_ops.specs.Expressions.{Term, ReadsBelow}
-use Rattle.scalar_ops.specs.SideLaws.{left_conditions, right_conditions, joint_conditions}
+use Rattle.scalar_ops.specs.Expressions.{Term, ReadsBelow, does_read_below, does_read_from}
+use Rattle.scalar_ops.specs.SideLaws.{left_conditions, later_conditions, right_conditions, joint_conditions}
 use Rattle.scalar_ops.specs.Tables.{Lists}
 use Rattle.scalar_ops.specs.Values.{holding}
 use Rattle.scalar_ops.specs.Views.{term_of}
@@ -27,7 +28,7 @@ use Rattle.push_select.specs.declared.below.Pair.{Pair}
 use Rattle.push_select.specs.declared.join.Join.{Join}
 use Rattle.push_select.specs.declared.selection.NarrowedPair.{NarrowedPair}
 use Rattle.push_select.specs.declared.sides.Sides.{Sides}
-use Rattle.push_select.specs.Conditions.{AreSides}
+use Rattle.push_select.specs.Conditions.{AreSides, IsApart}
 use Rattle.push_select.specs.Places.{Combination, all_pairs, joined_by, cross_of, join_of_pair, joint_width, Gives, Narrows, NarrowsPair, Combines}
 use Rattle.push_select.specs.Pushed.{width_at, ReadsBoth}
 use Rattle.push_select.proofs.JoiningRows.{selected-same}
@@ -82,6 +83,7 @@ module _ (old : List Node) (pair : Pair) (both : IsNode (shapes_of old) (cross_o
           right = subst (λ (n : ℕ). Gives new n (width_at old pair.right) (λ lists doc. selected lists doc (right_conditions (width_at old pair.left) are.parts) (val lists doc old pair.right))) (sym right_is) on_right;
           conditional = conditional_is;
           joint = joint_is ∙ are.joint;
+          apart = are.apart;
         }
 
 -- ---- what they combine to
@@ -124,6 +126,12 @@ module _ (old new : List Node) (pair : Pair) (conds : List Term) (narrowed : Nar
   narrowed-both =
       subst (λ (w : ℕ). All (ReadsBoth w) (map term_of narrowed.joint.items)) (sym left_width)
       (subst (All (ReadsBoth (width_at old pair.left))) (sym are.joint) (joint-both (width_at old pair.left) are.parts))
+
+  pub narrowed-apart : All IsApart (map term_of narrowed.joint.items)
+  narrowed-apart =
+      subst (λ (ts : List Term). All IsApart ts) (sym are.joint)
+      (All-filter (λ c. not (does_read_from (width_at old pair.left) c)) IsApart (later_conditions (width_at old pair.left) are.parts)
+      (All-filter (λ c. not (does_read_below (width_at old pair.left) c)) IsApart are.parts are.apart))
 
   -- whichever way rows are combined that keeps bags and lets conditions of one side go down
   module _ (rows : Combination) (keeps : (doc : Document) (a c b d : Rows) → SameBag a c → SameBag b d → SameBag (rows doc a b) (rows doc c d)) (law : (lists : Lists) (doc : Document) (cs : List Term) (a b : Rows) → AreWide (width_at old pair.left) a → selected lists doc cs (rows doc a b) ≡ selected lists doc (joint_conditions (width_at old pair.left) cs) (rows doc (selected lists doc (left_conditions (width_at old pair.left) cs) a) (selected lists doc (right_conditions (width_at old pair.left) cs) b))) (plan : IsPlan old) where

@@ -9,6 +9,7 @@ use Rattle.span_token.specs.Documents.{Doc}
 use Rattle.row_values.specs.Datums.{Datum}
 use Rattle.scalar_ops.specs.declared.expr.Expr.{Expr}
 use Rattle.scalar_ops.specs.declared.expr.Expr.TheVariants as expr
+use Rattle.scalar_ops.specs.declared.op.Op.{Op}
 use Rattle.scalar_ops.specs.declared.op.Op.TheVariants.{And}
 use Rattle.scalar_ops.specs.Expressions.{Term, call, terms, columns_of, columns_in, ReadsBelow}
 use Rattle.scalar_ops.specs.Operators.{is_true}
@@ -16,7 +17,8 @@ use Rattle.scalar_ops.specs.Tables.{Lists}
 use Rattle.scalar_ops.specs.Values.{value, holding}
 use Rattle.scalar_ops.specs.ValueLaws.{holding-append, holding-and}
 use Rattle.scalar_ops.specs.Views.{term_of}
-use Rattle.push_select.specs.Conditions.{terms_lent}
+use Rattle.push_select.specs.Conditions.{terms_lent, IsApart}
+use Rattle.push_select.specs.Pushed.{IsAndOp}
 use Rattle.push_select.proofs.ExprViews.{call_view}
 
 pub all-left : {X : Type 0} (P : X → Type 0) (xs ys : List X) → All P (xs ++ ys) → All P xs
@@ -86,3 +88,29 @@ holding_more lists doc row conds i cond first before after below at so_far put =
 pub reads_at : (width : ℕ) (conds : List Expr) (i : ℕ) (cond : Expr) → i < length conds → cond ≡ get_or conds i cond → All (ReadsBelow width) (map term_of conds) → ReadsBelow width (term_of cond)
 reads_at width conds i cond below at all =
     subst (ReadsBelow width) (get_or-map term_of conds i cond (term_of cond) below ∙ ap term_of (sym at)) (all i (term_of cond) (omega (arith, below, length-map conds term_of)))
+
+-- ---- conditions that are no `And`
+
+and_op : (o : Op) → IsAndOp o → o ≡ And
+and_op And is = refl
+and_op o is = absurd is
+
+-- by an operator that isn't it, or without arguments
+pub apart_call : (cond : Expr) (o : Op) (args : Vec Expr Global) → cond ≡ expr.Call o args → (o ≡ And → ⊥) → IsApart (term_of cond)
+apart_call cond o args is other = subst (λ (t : Term). IsApart t) (sym (ap term_of is ∙ call_view o args)) (by (map term_of args.items))
+  where
+    by : (ts : List Term) → IsApart (call o (terms ts))
+    by [] = tt
+    by (t ∷ ts) = λ and. other (and_op o and)
+
+pub apart_empty : (cond : Expr) (o : Op) (args : Vec Expr Global) → cond ≡ expr.Call o args → length args.items ≡ 0 → IsApart (term_of cond)
+apart_empty cond o args is none = subst (λ (t : Term). IsApart t) (sym (ap term_of is ∙ call_view o args)) (by (map term_of args.items) (length-map args.items term_of ∙ none))
+  where
+    by : (ts : List Term) → length ts ≡ 0 → IsApart (call o (terms ts))
+    by [] none = tt
+    by (t ∷ ts) none = absurd (omega (arith, none))
+
+pub apart_push : (before after : List (Bor Expr)) (cond : Bor Expr) → after ≡ before ++ cond ∷ [] → All IsApart (terms_lent before) → IsApart (term_of cond.now) → All IsApart (terms_lent after)
+apart_push before after cond put all one =
+    subst (λ (cs : List (Bor Expr)). All IsApart (terms_lent cs)) (sym put)
+    (subst (λ (ts : List Term). All IsApart ts) (sym (map-append (λ (c : Bor Expr). term_of c.now) before (cond ∷ []))) (All-push IsApart (terms_lent before) (term_of cond.now) all one))

@@ -24,7 +24,7 @@ left-read width (c ∷ cs) = by (does_read_below width c) refl (left-read width 
     by true e rest = rw e (All-cons (ReadsBelow width) c (left_conditions width cs) ((does_read_below-is width c).0 e) rest)
     by false e rest = rw e rest
 
-shifted_read : (width other : ℕ) (cs : List Term) → All (ReadsBelow (width + other)) cs → All (λ c. ReadsBelow other (renamed (λ n. n - width) c)) (filter (does_read_from width) cs)
+pub shifted_read : (width other : ℕ) (cs : List Term) → All (ReadsBelow (width + other)) cs → All (λ c. ReadsBelow other (renamed (λ n. n - width) c)) (filter (does_read_from width) cs)
 shifted_read width other [] reads = All-nil (λ c. ReadsBelow other (renamed (λ n. n - width) c))
 shifted_read width other (c ∷ cs) reads =
     by (does_read_from width c) refl (shifted_read width other cs (All-tail (ReadsBelow (width + other)) c cs reads))

@@ -1,46 +1,102 @@
 -- Where conditions stand in plans that grow.
-use Rattle.std.proofs.Common.{◌≡◌, ◌∙◌, ℕ, ◌<◌, ◌≤◌, Bool, true, false, not, List, [], ◌∷◌, ◌++◌, map, length, get_or, refl, sym, ap, ap₂, subst, arith, append_assoc, Option, Some, None, inl, inr, true≢false}
+use Rattle.std.proofs.Common.{◌≡◌, ◌∙◌, ℕ, ◌<◌, ◌≤◌, Bool, true, false, not, List, [], ◌∷◌, ◌++◌, map, length, get_or, refl, sym, ap, ap₂, subst, arith, Option, Some, None, inl, inr, true≢false}
 use Rattle.std.specs.Prelude.{slice_get, nat_lt}
 use Rattle.std.specs.List.{All, filter}
 use Rattle.std.proofs.lemmas.Bool.{lt-ltb, le-ltb}
-use Rattle.std.proofs.lemmas.List.{append-nil}
-use Rattle.std.proofs.lemmas.List.Elements.{All-map, All-filter, filter_passes}
-use Rattle.std.proofs.lemmas.Option.{none-some, slice_get_read}
+use Rattle.std.proofs.lemmas.List.{length-append, get_or_append_left, get_or_default}
+use Rattle.std.proofs.lemmas.List.Elements.{All-nil, All-map, All-filter, All-push, filter_passes}
+use Rattle.std.proofs.lemmas.Option.{none-some, slice_get_read, slice_get_within, get_or_from_slice_get, slice_get-get_or}
 use Rattle.scalar_ops.specs.declared.expr.Expr.{Expr}
 use Rattle.scalar_ops.specs.declared.op.Op.{Op}
 use Rattle.scalar_ops.specs.declared.op.Op.TheVariants as op
-use Rattle.scalar_ops.specs.Expressions.{Term, does_read_below, does_read_from}
+use Rattle.scalar_ops.specs.Expressions.{Term, column, number, string, call, none as no_terms, more, does_read_below, does_read_from}
 use Rattle.scalar_ops.specs.ReadingLaws.{does_read_below-is, does_read_from-is}
 use Rattle.scalar_ops.specs.SideLaws.{later_conditions, joint_conditions}
 use Rattle.scalar_ops.specs.Views.{term_of}
 use Rattle.algebra.specs.declared.node.JoinKind.{JoinKind}
 use Rattle.algebra.specs.declared.node.JoinKind.TheVariants as kind
 use Rattle.algebra.specs.declared.node.Node.{Node}
-use Rattle.algebra.specs.declared.node.Node.TheVariants.{Select}
+use Rattle.algebra.specs.declared.node.Node.TheVariants.{Doc, Select, Project, Cross, SpanJoin, Union}
 use Rattle.algebra.specs.declared.shape.Shape.{Shape}
+use Rattle.algebra.specs.FoldLaws.{length-each}
 use Rattle.algebra.specs.Growth.{Grows}
-use Rattle.algebra.specs.GrowthLaws.{shape-kept}
+use Rattle.algebra.specs.GrowthLaws.{is-at, shape-kept}
+use Rattle.algebra.specs.NodeLaws.{plan-push}
+use Rattle.algebra.specs.Nodes.{IsNode, IsPlan}
 use Rattle.algebra.specs.Predicates.{of_columns}
+use Rattle.algebra.specs.Shapes.{shape_by, no_shape, shapes_of}
 use Rattle.push_select.specs.declared.below.Pair.{Pair}
 use Rattle.push_select.specs.declared.join.Join.{Join}
+use Rattle.push_select.specs.Conditions.{IsApart}
 use Rattle.push_select.specs.Joins.{join_by_sides, join_between, join_of}
-use Rattle.push_select.specs.Places.{cross_of, join_of_pair}
-use Rattle.push_select.specs.Pushed.{width_at, IsOfSpans, AreOfBothSides, IsSpanPredicate, ReadsBoth, ReadsBothFreely, StandAbove, MayStand, ArePushedBehind, ArePushed}
+use Rattle.push_select.specs.Places.{cross_of, join_of_pair, IsPushed}
+use Rattle.push_select.specs.Pushed.{width_at, IsOfSpans, AreOfBothSides, IsSpanPredicate, ReadsBoth, ReadsBothFreely, IsAnd, ShowsColumns, StandAbove, MayStand}
+
+node_before : (nodes : List Node) (n : ℕ) → n < length (shapes_of nodes) → n < length nodes
+node_before nodes n below = omega (arith, below, length-each no_shape shape_by nodes)
+
+front_there : (xs ys : List Node) (i : ℕ) → i < length xs → slice_get (xs ++ ys) i ≡ slice_get xs i
+front_there xs ys i below =
+    slice_get-get_or (xs ++ ys) i Doc (omega (arith, below, length-append xs ys))
+    ∙ (ap (λ (x : Node). Some x) (get_or_append_left xs ys Doc i below) ∙ sym (slice_get-get_or xs i Doc below))
+
+-- whether a node that is there shows plain columns
+pub shows-there : (nodes : List Node) (n : ℕ) (node : Node) → n < length nodes → node ≡ get_or nodes n node → (ShowsColumns (Some node) → ⊥) → ShowsColumns (slice_get nodes n) → ⊥
+shows-there nodes n node there is other shows = other (subst (λ (o : Option Node). ShowsColumns o) (slice_get_read nodes (length nodes) n node refl there is) shows)
+
+width_kept : (old new : List Node) (n : ℕ) → Grows old new → n < length old → width_at new n ≡ width_at old n
+width_kept old new n grows there = ap (λ (s : Shape). s.width) (shape-kept old new n grows there)
 
 -- ---- one node more
 
-pushed_push : (front nodes : List Node) (node : Node) → ArePushedBehind front nodes → MayStand (front ++ nodes) node → ArePushedBehind front (nodes ++ node ∷ [])
-pushed_push front [] node pushed may = (subst (λ (ns : List Node). MayStand ns node) (append-nil front) may, tt)
-pushed_push front (n ∷ nodes) node pushed may =
-    (pushed.0, pushed_push (front ++ n ∷ []) nodes node pushed.1 (subst (λ (ns : List Node). MayStand ns node) (sym (append_assoc front (n ∷ []) nodes)) may))
+stand_more : (old new : List Node) → IsPlan old → Grows old new → (conds : List Term) (k : ℕ) (below : Node) → slice_get old k ≡ Some below → StandAbove old conds (Some below) → StandAbove new conds (Some below)
+stand_more old new plan grows conds k below at above = by below (is-at old k below plan (slice_get_within old k below at) (sym (get_or_from_slice_get old k below below at))).valid above
+  where
+    by : (node : Node) → IsNode (shapes_of old) node → StandAbove old conds (Some node) → StandAbove new conds (Some node)
+    by (Cross left right conditional) valid above = subst (λ (w : ℕ). All (ReadsBothFreely w) conds) (sym (width_kept old new left grows (node_before old left valid.left_below))) above
+    by (SpanJoin left right join lc rc conditional) valid above = subst (λ (w : ℕ). All (ReadsBoth w) conds) (sym (width_kept old new left grows (node_before old left valid.left_below))) above
+    by (Project i items) valid above = above
+    by (Union left right) valid above = above
+    by node valid above = tt
 
-pub pushed-add : (old new : List Node) (node : Node) → new ≡ old ++ node ∷ [] → ArePushed old → MayStand old node → ArePushed new
-pushed-add old new node is pushed may = subst (λ (ns : List Node). ArePushed ns) (sym is) (pushed_push [] old node pushed may)
+-- what may stand in a plan may stand there when more nodes were put
+may_more : (old new : List Node) → IsPlan old → Grows old new → (node : Node) → IsNode (shapes_of old) node → MayStand old node → MayStand new node
+may_more old new plan grows (Select i conds) valid may =
+    let below : i < length old = node_before old i valid.left_below in
+    let x = get_or old i (Select i conds) in
+    let at : slice_get old i ≡ Some x = slice_get-get_or old i (Select i conds) below in
+    let there : slice_get new i ≡ Some x = ap (λ (ns : List Node). slice_get ns i) grows.grown ∙ (front_there old grows.added i below ∙ at) in
+    subst (λ (o : Option Node). StandAbove new conds o) (sym there)
+    (stand_more old new plan grows conds i x at (subst (λ (o : Option Node). StandAbove old conds o) at may))
+may_more old new plan grows (Project i items) valid may =
+    let there : slice_get new i ≡ slice_get old i = ap (λ (ns : List Node). slice_get ns i) grows.grown ∙ front_there old grows.added i (node_before old i valid.left_below) in
+    λ shows. may (subst (λ (o : Option Node). ShowsColumns o) there shows)
+may_more old new plan grows node valid may = tt
 
--- any node but a selection may stand anywhere
-pub other-stands : (nodes : List Node) (node : Node) → ((i : ℕ) (conds : List Term) → node ≡ Select i conds → ⊥) → MayStand nodes node
-other-stands nodes (Select i conds) other = absurd (other i conds refl)
-other-stands nodes node other = tt
+pub pushed-none : IsPushed []
+pushed-none = record { plan = tt; pushed = λ k d below. absurd (omega (arith, below)) }
+
+-- one node more, whose conditions may stand
+pub pushed-add : (old new : List Node) (node : Node) → new ≡ old ++ node ∷ [] → IsNode (shapes_of old) node → IsPushed old → MayStand old node → IsPushed new
+pushed-add old new node is valid so_far may = subst IsPushed (sym is) (record {
+  plan = plan-push old node so_far.plan valid;
+  pushed = All-push (MayStand (old ++ node ∷ [])) old node each (may_more old (old ++ node ∷ []) so_far.plan grows node valid may);
+})
+  where
+    grows : Grows old (old ++ node ∷ [])
+    grows = record { added = node ∷ []; grown = refl }
+
+    each : All (MayStand (old ++ node ∷ [])) old
+    each k d below =
+        let x = get_or old k d in
+        may_more old (old ++ node ∷ []) so_far.plan grows x
+        (is-at old k x so_far.plan below (get_or_default old k d x below)).valid (so_far.pushed k d below)
+
+-- any node but a selection and a projection may stand anywhere
+pub other-stands : (nodes : List Node) (node : Node) → ((i : ℕ) (conds : List Term) → node ≡ Select i conds → ⊥) → ((i : ℕ) (items : List Term) → node ≡ Project i items → ⊥) → MayStand nodes node
+other-stands nodes (Select i conds) other another = absurd (other i conds refl)
+other-stands nodes (Project i items) other another = absurd (another i items refl)
+other-stands nodes node other another = tt
 
 -- ---- above a node
 
@@ -57,9 +113,6 @@ above-last old new n node conds last is above =
 pub above-there : (nodes : List Node) (n : ℕ) (node : Node) (conds : List Term) → n < length nodes → node ≡ get_or nodes n node → StandAbove nodes conds (Some node) → StandAbove nodes conds (slice_get nodes n)
 above-there nodes n node conds there is above =
     subst (λ (o : Option Node). StandAbove nodes conds o) (sym (slice_get_read nodes (length nodes) n node refl there is)) above
-
-width_kept : (old new : List Node) (n : ℕ) → Grows old new → n < length old → width_at new n ≡ width_at old n
-width_kept old new n grows there = ap (λ (s : Shape). s.width) (shape-kept old new n grows there)
 
 -- above a join
 pub above-join : (old new : List Node) (pair : Pair) (join : Join) (conds : List Term) → Grows old new → pair.left < length old → All (ReadsBoth (width_at old pair.left)) conds
@@ -83,14 +136,22 @@ found_some width o a b spans apart none = absurd spans
 pub no_predicate : (width : ℕ) (c : Term) → join_of width c ≡ None → IsSpanPredicate width c → ⊥
 no_predicate width c none is = found_some width is.o is.a is.b is.of_spans is.of_both (ap (join_of width) (sym is.is) ∙ none)
 
+-- a condition of both sides that is taken apart is no `And`
+no_and : (width : ℕ) (c : Term) → IsApart c → ReadsBoth width c → IsAnd c → ⊥
+no_and width (column n) apart both is = is
+no_and width (number n) apart both is = is
+no_and width (string t) apart both is = is
+no_and width (call o no_terms) apart both is = both.right (All-nil (λ n. n < width))
+no_and width (call o (more t ts)) apart both is = apart is
+
 -- above a product
 pub above-cross : (old new : List Node) (pair : Pair) (conds : List Expr) → Grows old new → pair.left < length old → All (ReadsBoth (width_at old pair.left)) (map term_of conds)
-    → All (λ (cond : Expr). join_of (width_at old pair.left) (term_of cond) ≡ None) conds → StandAbove new (map term_of conds) (Some (cross_of pair))
-above-cross old new pair conds grows there both none =
+    → All IsApart (map term_of conds) → All (λ (cond : Expr). join_of (width_at old pair.left) (term_of cond) ≡ None) conds → StandAbove new (map term_of conds) (Some (cross_of pair))
+above-cross old new pair conds grows there both apart none =
     let w = width_at old pair.left in
     let nones : All (λ (c : Term). join_of w c ≡ None) (map term_of conds) = All-map (λ (c : Term). join_of w c ≡ None) term_of conds none in
     subst (λ (v : ℕ). All (ReadsBothFreely v) (map term_of conds)) (sym (width_kept old new pair.left grows there))
-    (λ k d at. record { both = both k d at; no_join = no_predicate w (get_or (map term_of conds) k d) (nones k d at) })
+    (λ k d at. record { both = both k d at; no_join = no_predicate w (get_or (map term_of conds) k d) (nones k d at); no_and = no_and w (get_or (map term_of conds) k d) (apart k d at) (both k d at) })
 
 -- ---- which conditions read both sides
 

@@ -1,19 +1,20 @@
 -- What nodes that take the place of others have.
-use Rattle.std.specs.Prelude.{ℕ, ◌≡◌, ◌+◌, List, map, All, slice_index_or}
+use Rattle.std.specs.Prelude.{ℕ, ◌≡◌, ◌+◌, List, Some, map, All, slice_index_or}
 use Rattle.span_token.specs.Documents.{Doc as Document}
 use Rattle.row_values.specs.Datums.{Datum}
 use Rattle.row_values.specs.Rows.{product}
 use Rattle.span_joins.specs.Joins.{joined_where}
-use Rattle.scalar_ops.specs.Expressions.{Term, ReadsBelow}
+use Rattle.scalar_ops.specs.Expressions.{Term, column, ReadsBelow}
 use Rattle.scalar_ops.specs.SideLaws.{left_conditions, right_conditions, joint_conditions}
 use Rattle.scalar_ops.specs.Tables.{Lists}
 use Rattle.scalar_ops.specs.Values.{holding}
 use Rattle.scalar_ops.specs.Views.{term_of}
 use Rattle.aql_typed.specs.Meaning.{Rows, selected}
 use Rattle.algebra.specs.declared.node.Node.{Node}
-use Rattle.algebra.specs.declared.node.Node.TheVariants.{Cross, SpanJoin}
+use Rattle.algebra.specs.declared.node.Node.TheVariants.{Cross, SpanJoin, Union, Project}
 use Rattle.algebra.specs.declared.shape.Shape.{Shape}
 use Rattle.algebra.specs.Growth.{Grows, Has}
+use Rattle.algebra.specs.Nodes.{IsPlan}
 use Rattle.algebra.specs.Operators.{does_join}
 use Rattle.algebra.specs.Shapes.{IsOpen, columns, no_shape, shapes_of}
 use Rattle.algebra.specs.Values.{val}
@@ -22,20 +23,29 @@ use Rattle.push_select.specs.declared.below.Below.TheVariants as below
 use Rattle.push_select.specs.declared.below.Pair.{Pair}
 use Rattle.push_select.specs.declared.join.Join.{Join}
 use Rattle.push_select.specs.declared.selection.NarrowedPair.{NarrowedPair}
-use Rattle.push_select.specs.Pushed.{width_at}
+use Rattle.push_select.specs.Conditions.{IsApart}
+use Rattle.push_select.specs.Pushed.{width_at, StandAbove, ShowsColumns, ArePushed}
 
--- what a node combines: two nodes by a product or by a join
-abbrev pub below_of : Node → Below
-below_of (Cross left right conditional) = below.Product (record { left = left; right = right; conditional = conditional })
-below_of (SpanJoin left right kind lc rc conditional) = below.Joined (record { left = left; right = right; conditional = conditional }) (record { kind = kind; lc = lc; rc = rc })
-below_of node = below.Other
+-- nodes of a plan whose conditions stand where they may
+pub record IsPushed (nodes : List Node) : Type 0 where
+  pub plan : IsPlan nodes
+  pub pushed : ArePushed nodes
 
--- the nodes that do so
+-- the nodes that combine two others
 abbrev pub cross_of : Pair → Node
 cross_of pair = Cross pair.left pair.right pair.conditional
 
 abbrev pub join_of_pair : Pair → Join → Node
 join_of_pair pair join = SpanJoin pair.left pair.right join.kind join.lc join.rc pair.conditional
+
+-- what is told of a node is so: what it combines, or of which node it shows which columns; and conditions may stand above
+-- any other
+abbrev pub IsBelow : Node → Below → Type 0
+IsBelow node (below.Product pair) = node ≡ cross_of pair
+IsBelow node (below.Joined pair join) = node ≡ join_of_pair pair join
+IsBelow node (below.Both left right) = node ≡ Union left right
+IsBelow node (below.Columns input shown) = node ≡ Project input (map column shown.items)
+IsBelow node below.Other = ((nodes : List Node) (conds : List Term) → StandAbove nodes conds (Some node)) × (ShowsColumns (Some node) → ⊥)
 
 -- how two lists of rows are combined, on a document
 abbrev pub Combination : Type 0
@@ -78,6 +88,7 @@ pub record NarrowsPair (old new : List Node) (pair : Pair) (conds : List Term) (
   pub right : Gives new narrowed.pair.right (width_at old pair.right) (λ lists doc. selected lists doc (right_conditions (width_at old pair.left) parts) (val lists doc old pair.right))
   pub conditional : narrowed.pair.conditional ≡ pair.conditional
   pub joint : map term_of narrowed.joint.items ≡ joint_conditions (width_at old pair.left) parts
+  pub apart : All IsApart parts
 
 -- node n of the new plan has the rows that two old nodes combine to on which the conditions hold
 pub record Combines (old new : List Node) (pair : Pair) (n : ℕ) (rows : Combination) (conds : List Term) : Type 0 where

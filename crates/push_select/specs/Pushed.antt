@@ -1,10 +1,10 @@
 -- The form that pushing gives to a plan: which conditions stand right above a product or a join.
-use Rattle.std.specs.Prelude.{ℕ, ◌≡◌, ◌<◌, ◌≤◌, ◌⊎◌, List, [], ◌∷◌, ◌++◌, All, Option, Some, None, slice_get, slice_index_or}
+use Rattle.std.specs.Prelude.{ℕ, ◌≡◌, ◌<◌, ◌≤◌, ◌⊎◌, List, map, All, Option, Some, None, slice_get, slice_index_or}
 use Rattle.scalar_ops.specs.declared.op.Op.{Op}
 use Rattle.scalar_ops.specs.declared.op.Op.TheVariants as op
-use Rattle.scalar_ops.specs.Expressions.{Term, ReadsBelow, ReadsFrom}
+use Rattle.scalar_ops.specs.Expressions.{Term, column, number, string, call, ReadsBelow, ReadsFrom}
 use Rattle.algebra.specs.declared.node.Node.{Node}
-use Rattle.algebra.specs.declared.node.Node.TheVariants.{Select, Cross, SpanJoin}
+use Rattle.algebra.specs.declared.node.Node.TheVariants.{Select, Project, Cross, SpanJoin, Union}
 use Rattle.algebra.specs.Predicates.{of_columns}
 use Rattle.algebra.specs.Shapes.{no_shape, shapes_of}
 
@@ -38,28 +38,44 @@ pub record ReadsBoth (width : ℕ) (cond : Term) : Type 0 where
   pub left : ReadsFrom width cond → ⊥
   pub right : ReadsBelow width cond → ⊥
 
--- and no join stands for it
+-- an operator is `And`
+abbrev pub IsAndOp : Op → Type 0
+IsAndOp op.And = Unit {0}
+IsAndOp o = ⊥
+
+-- a condition is several
+abbrev pub IsAnd : Term → Type 0
+IsAnd (column n) = ⊥
+IsAnd (number n) = ⊥
+IsAnd (string t) = ⊥
+IsAnd (call o args) = IsAndOp o
+
+-- the condition reads columns of both sides, no join stands for it, and it is no `And`
 pub record ReadsBothFreely (width : ℕ) (cond : Term) : Type 0 where
   pub both : ReadsBoth width cond
   pub no_join : IsSpanPredicate width cond → ⊥
+  pub no_and : IsAnd cond → ⊥
+
+-- a node is a projection of plain columns
+abbrev pub ShowsColumns : Option Node → Type 0
+ShowsColumns (Some (Project input items)) = (columns : List ℕ) × (items ≡ map column columns)
+ShowsColumns below = ⊥
 
 -- conditions may stand right above a node: above a join those that read both of its sides, above a product those of them
--- that no join stands for, and any above other nodes
+-- that no join stands for, none above a projection of plain columns or a union, and any above other nodes
 abbrev pub StandAbove : List Node → List Term → Option Node → Type 0
 StandAbove nodes conds (Some (Cross left right conditional)) = All (ReadsBothFreely (width_at nodes left)) conds
 StandAbove nodes conds (Some (SpanJoin left right join lc rc conditional)) = All (ReadsBoth (width_at nodes left)) conds
+StandAbove nodes conds (Some (Project input items)) = ShowsColumns (Some (Project input items)) → ⊥
+StandAbove nodes conds (Some (Union left right)) = ⊥
 StandAbove nodes conds below = Unit {0}
 
--- the conditions of a selection behind some nodes
+-- a selection or a projection may stand where it does: no projection above one of plain columns
 abbrev pub MayStand : List Node → Node → Type 0
 MayStand nodes (Select input conds) = StandAbove nodes conds (slice_get nodes input)
+MayStand nodes (Project input items) = ShowsColumns (slice_get nodes input) → ⊥
 MayStand nodes node = Unit {0}
 
--- those of each selection, the first of them behind these nodes
-abbrev pub ArePushedBehind : List Node → List Node → Type 0
-ArePushedBehind front [] = Unit {0}
-ArePushedBehind front (node ∷ nodes) = MayStand front node × ArePushedBehind (front ++ node ∷ []) nodes
-
--- the conditions of every selection of a plan may stand where they do
+-- every selection and every projection of a plan may stand where it does
 abbrev pub ArePushed : List Node → Type 0
-ArePushed nodes = ArePushedBehind [] nodes
+ArePushed nodes = All (MayStand nodes) nodes

@@ -1,10 +1,15 @@
-//! What stands below a selection.
+//! What stands below a selection or a projection.
 
-ghost use Rattle.std.specs.Prelude.{◌≡◌};
-ghost use Rattle.push_select.specs.Places.{below_of};
+ghost use Rattle.std.specs.Prelude.{◌≡◌, IfOk, IfSome, IfNone, ℕ, List, map};
+ghost use Rattle.scalar_ops.specs.Expressions.{column};
+ghost use Rattle.scalar_ops.specs.Views.{term_of};
+ghost use Rattle.push_select.specs.Places.{IsBelow};
 
-use crate::join::Join;
+use crate::join::{Join, column_of};
 use algebra::Node;
+use scalar_ops::Expr;
+use span_token::OutOfMemory;
+use std::alloc::Global;
 
 /// The numbers of two nodes that are combined, and whether the right one is asked for only where the left
 /// one has a row.
@@ -15,31 +20,35 @@ pub(crate) struct Pair {
     pub conditional: bool,
 }
 
-/// What a node combines.
-#[derive(Clone, Copy, Debug, PartialEq, Eq)]
+/// What a node combines, or of which node it shows columns.
+#[derive(Debug, Drop)]
 pub(crate) enum Below {
     /// Each left row with each right row.
     Product(Pair),
     /// Those of these pairs that a join picks.
     Joined(Pair, Join),
-    /// No two nodes, or in another way.
+    /// The rows of both nodes.
+    Both(u32, u32),
+    /// Plain columns of the rows of a node, by their numbers.
+    Columns(u32, Vec<u32>),
+    /// No such node.
     Other,
 }
 
-/// What this node combines.
-pub(crate) fn combined_by(node: &Node) -> Below
-    ensures { result ≡ below_of node.now }
+/// What this node combines or shows.
+pub(crate) fn below_of(alloc: Global, node: &Node) -> Result<Below, OutOfMemory>
+    ensures { IfOk result (IsBelow node.now) }
 {
     match node {
         Node::Cross {
             left,
             right,
             conditional,
-        } => Below::Product(Pair {
+        } => Ok(Below::Product(Pair {
             left: *left,
             right: *right,
             conditional: *conditional,
-        }),
+        })),
         Node::SpanJoin {
             left,
             right,
@@ -47,7 +56,7 @@ pub(crate) fn combined_by(node: &Node) -> Below
             lc,
             rc,
             conditional,
-        } => Below::Joined(
+        } => Ok(Below::Joined(
             Pair {
                 left: *left,
                 right: *right,
@@ -58,7 +67,27 @@ pub(crate) fn combined_by(node: &Node) -> Below
                 lc: *lc,
                 rc: *rc,
             },
-        ),
-        _ => Below::Other,
+        )),
+        Node::Union { left, right } => Ok(Below::Both(*left, *right)),
+        Node::Project { input, items } => match plain_columns(alloc, items.as_slice())? {
+            Some(shown) => Ok(Below::Columns(*input, shown)),
+            None => Ok(Below::Other),
+        },
+        _ => Ok(Below::Other),
     }
+}
+
+/// The numbers of the columns that these are, where all are columns.
+fn plain_columns(alloc: Global, items: &[Expr]) -> Result<Option<Vec<u32>>, OutOfMemory>
+    ensures some { IfOk result (λ found. IfSome found (λ shown. map term_of items.now ≡ map column shown.items)) }
+    ensures none { IfOk result (λ found. IfNone found ((shown : List ℕ) → map term_of items.now ≡ map column shown → ⊥)) }
+{
+    let mut shown = Vec::new(alloc);
+    for item in items {
+        let Some(n) = column_of(item) else {
+            return Ok(None);
+        };
+        shown.push(n)?;
+    }
+    Ok(Some(shown))
 }

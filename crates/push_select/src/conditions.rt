@@ -10,7 +10,7 @@ ghost use Rattle.scalar_ops.specs.SideLaws.{left_conditions, later_conditions};
 ghost use Rattle.scalar_ops.specs.Tables.{Lists};
 ghost use Rattle.scalar_ops.specs.Values.{value, holding};
 ghost use Rattle.scalar_ops.specs.Views.{term_of};
-ghost use Rattle.push_select.specs.Conditions.{terms_lent};
+ghost use Rattle.push_select.specs.Conditions.{terms_lent, IsApart};
 
 use crate::reading::reads_from;
 use scalar_ops::{Expr, Op, reads_below};
@@ -21,6 +21,7 @@ use std::alloc::Global;
 pub(crate) fn parted(alloc: Global, conds: &[Expr]) -> Result<Vec<&Expr>, OutOfMemory>
     ensures same { IfOk result (λ parts. (lists : Lists) (doc : Doc) (row : List Datum) → holding lists doc (terms_lent parts.items) row ≡ holding lists doc (map term_of conds.now) row) }
     ensures reads { IfOk result (λ parts. (width : ℕ) → All (ReadsBelow width) (map term_of conds.now) → All (ReadsBelow width) (terms_lent parts.items)) }
+    ensures apart { IfOk result (λ parts. All IsApart (terms_lent parts.items)) }
 {
     let mut parts = Vec::new(alloc);
     push_all(conds, &mut parts)?;
@@ -32,6 +33,7 @@ pub(crate) fn parted(alloc: Global, conds: &[Expr]) -> Result<Vec<&Expr>, OutOfM
 fn push_all<'t>(conds: &'t [Expr], into: &mut Vec<&'t Expr>) -> Result<(), OutOfMemory>
     ensures same { OnOk result ((lists : Lists) (doc : Doc) (row : List Datum) → holding lists doc (terms_lent into.new.items) row ≡ (holding lists doc (terms_lent into.old.items) row && holding lists doc (map term_of conds.now) row)) }
     ensures reads { OnOk result ((width : ℕ) → All (ReadsBelow width) (terms_lent into.old.items) → All (ReadsBelow width) (map term_of conds.now) → All (ReadsBelow width) (terms_lent into.new.items)) }
+    ensures apart { OnOk result (All IsApart (terms_lent into.old.items) → All IsApart (terms_lent into.new.items)) }
 {
     for cond in conds {
         push_parts(cond, into)?;
@@ -44,15 +46,37 @@ fn push_all<'t>(conds: &'t [Expr], into: &mut Vec<&'t Expr>) -> Result<(), OutOf
 fn push_parts<'t>(cond: &'t Expr, into: &mut Vec<&'t Expr>) -> Result<(), OutOfMemory>
     ensures same { OnOk result ((lists : Lists) (doc : Doc) (row : List Datum) → holding lists doc (terms_lent into.new.items) row ≡ (holding lists doc (terms_lent into.old.items) row && is_true (value lists doc row (term_of cond.now)))) }
     ensures reads { OnOk result ((width : ℕ) → All (ReadsBelow width) (terms_lent into.old.items) → ReadsBelow width (term_of cond.now) → All (ReadsBelow width) (terms_lent into.new.items)) }
+    ensures apart { OnOk result (All IsApart (terms_lent into.old.items) → All IsApart (terms_lent into.new.items)) }
 {
-    if let Expr::Call { op, args } = cond {
-        if let Op::And = op {
-            if !args.is_empty() {
-                push_all(args.as_slice(), into)?;
-                return Ok(());
-            }
+    match cond {
+        Expr::Column(_) | Expr::Int(_) | Expr::Str(_) => {
+            push_apart(cond, into)?;
+            Ok(())
         }
+        Expr::Call { op, args } => match op {
+            Op::And => {
+                if args.is_empty() {
+                    push_apart(cond, into)?;
+                    return Ok(());
+                }
+                push_all(args.as_slice(), into)?;
+                Ok(())
+            }
+            _ => {
+                push_apart(cond, into)?;
+                Ok(())
+            }
+        },
     }
+}
+
+/// Puts a condition after the others.
+fn push_apart<'t>(cond: &'t Expr, into: &mut Vec<&'t Expr>) -> Result<(), OutOfMemory>
+    requires apart { IsApart (term_of cond.now) }
+    ensures same { OnOk result ((lists : Lists) (doc : Doc) (row : List Datum) → holding lists doc (terms_lent into.new.items) row ≡ (holding lists doc (terms_lent into.old.items) row && is_true (value lists doc row (term_of cond.now)))) }
+    ensures reads { OnOk result ((width : ℕ) → All (ReadsBelow width) (terms_lent into.old.items) → ReadsBelow width (term_of cond.now) → All (ReadsBelow width) (terms_lent into.new.items)) }
+    ensures apart { OnOk result (All IsApart (terms_lent into.old.items) → All IsApart (terms_lent into.new.items)) }
+{
     into.push(cond)?;
     Ok(())
 }

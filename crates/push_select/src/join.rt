@@ -37,6 +37,18 @@ pub(crate) fn chosen(conds: &[Expr], width: u32) -> Option<Choice>
     first_of(conds, width, 2)
 }
 
+/// Whether a join stands for some condition whose left column is from number `first` on.
+pub(crate) fn join_behind(conds: &[Expr], first: u32, width: u32) -> bool {
+    for cond in conds {
+        if let Some(join) = join_of(cond, width) {
+            if first <= join.lc {
+                return true;
+            }
+        }
+    }
+    false
+}
+
 /// The first of the conditions that a join of this rank stands for.
 fn first_of(conds: &[Expr], width: u32, rank: u8) -> Option<Choice>
     ensures some { IfSome result (λ choice. IsChoice width conds.now choice) }
@@ -110,7 +122,7 @@ fn two_columns(args: &[Expr]) -> Option<(u32, u32)>
 }
 
 /// The number of a column.
-fn column_of(expr: &Expr) -> Option<u32>
+pub(crate) fn column_of(expr: &Expr) -> Option<u32>
     ensures { result ≡ column_of (term_of expr.now) }
 {
     match expr {

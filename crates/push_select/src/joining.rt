@@ -4,30 +4,108 @@ ghost use Rattle.std.specs.Prelude.{◌≡◌, None, map, IfOk, OnOk, All, slice
 ghost use Rattle.scalar_ops.specs.Expressions.{ReadsBelow};
 ghost use Rattle.scalar_ops.specs.Views.{term_of};
 ghost use Rattle.algebra.specs.declared.node.Node.TheVariants.{Select};
-ghost use Rattle.algebra.specs.Growth.{Stands};
-ghost use Rattle.algebra.specs.Nodes.{IsNode, IsPlan};
+ghost use Rattle.algebra.specs.Growth.{Stands, IsAt};
+ghost use Rattle.algebra.specs.Nodes.{IsNode};
 ghost use Rattle.algebra.specs.Shapes.{shapes_of};
+ghost use Rattle.push_select.specs.Conditions.{IsApart};
 ghost use Rattle.push_select.specs.Joins.{join_of, IsChoice};
-ghost use Rattle.push_select.specs.Places.{all_pairs, joined_by, cross_of, join_of_pair, joint_width, IsPlain, Combines};
-ghost use Rattle.push_select.specs.Pushed.{width_at, ReadsBoth, StandAbove, ArePushed};
+ghost use Rattle.push_select.specs.Places.{all_pairs, joined_by, cross_of, join_of_pair, joint_width, IsPushed, IsPlain, Combines};
+ghost use Rattle.push_select.specs.Pushed.{width_at, ReadsBoth, StandAbove};
 
-use crate::below::Pair;
-use crate::join::{Choice, Join, chosen};
+use crate::below::{Below, Pair, below_of};
+use crate::join::{Choice, Join, chosen, join_behind};
+use crate::turning::turns_of;
 use algebra::{Node, Nodes};
 use scalar_ops::{Expr, Exprs};
 use span_token::OutOfMemory;
+use std::alloc::Global;
 
 /// A node of the pairs of a left and a right row on which every condition holds: a join by the first of
 /// them that one stands for, and else a product, with the others in a selection above.
-pub(crate) fn paired(nodes: &mut Nodes, pair: Pair, conds: Vec<Expr>) -> Result<u32, OutOfMemory>
+///
+/// Where the left node is a product and a join connects its right side with the right node, these two are
+/// joined first, and the left side with what they give.
+#[cycle(pairing)]
+pub(crate) fn paired(
+    alloc: Global,
+    nodes: &mut Nodes,
+    pair: Pair,
+    conds: Vec<Expr>,
+) -> Result<u32, OutOfMemory>
     requires both { IsNode (shapes_of nodes.old) (cross_of pair) }
     requires reads { All (ReadsBelow (joint_width nodes.old pair)) (map term_of conds.items) }
     requires joint { All (ReadsBoth (width_at nodes.old pair.left)) (map term_of conds.items) }
-    requires pushed { ArePushed nodes.old }
+    requires apart { All IsApart (map term_of conds.items) }
+    requires pushed { IsPushed nodes.old }
     ensures combines { IfOk result (λ n. Combines nodes.old nodes.new pair n all_pairs (map term_of conds.items)) }
-    ensures pushed { OnOk result (ArePushed nodes.new) }
+    ensures pushed { OnOk result (IsPushed nodes.new) }
 {
-    let _plan = nodes.as_slice();
+    let width = nodes.shape(pair.left).width;
+    let below = below_of(alloc, nodes.get(pair.left))?;
+    match below {
+        Below::Product(inner) => {
+            let first = nodes.shape(inner.left).width;
+            if join_behind(conds.as_slice(), first, width) {
+                let n = turned(alloc, nodes, pair, inner, conds)?;
+                Ok(n)
+            } else {
+                let n = matched(nodes, pair, conds)?;
+                Ok(n)
+            }
+        }
+        _ => {
+            let n = matched(nodes, pair, conds)?;
+            Ok(n)
+        }
+    }
+}
+
+/// The same of a product of three, its second and its third node joined first.
+#[cycle(pairing)]
+fn turned(
+    alloc: Global,
+    nodes: &mut Nodes,
+    pair: Pair,
+    inner: Pair,
+    conds: Vec<Expr>,
+) -> Result<u32, OutOfMemory>
+    requires at { IsAt nodes.old pair.left (cross_of inner) }
+    requires both { IsNode (shapes_of nodes.old) (cross_of pair) }
+    requires reads { All (ReadsBelow (joint_width nodes.old pair)) (map term_of conds.items) }
+    requires joint { All (ReadsBoth (width_at nodes.old pair.left)) (map term_of conds.items) }
+    requires apart { All IsApart (map term_of conds.items) }
+    requires pushed { IsPushed nodes.old }
+    ensures combines { IfOk result (λ n. Combines nodes.old nodes.new pair n all_pairs (map term_of conds.items)) }
+    ensures pushed { OnOk result (IsPushed nodes.new) }
+{
+    let width = nodes.shape(inner.left).width;
+    let turns = turns_of(alloc, conds.as_slice(), width)?;
+    let conditional = pair.conditional;
+    let behind = Pair {
+        left: inner.right,
+        right: pair.right,
+        conditional,
+    };
+    let right = paired(alloc, nodes, behind, turns.later)?;
+    let front = Pair {
+        left: inner.left,
+        right,
+        conditional,
+    };
+    let n = paired(alloc, nodes, front, turns.others)?;
+    Ok(n)
+}
+
+/// The same without a look at what the left node is.
+fn matched(nodes: &mut Nodes, pair: Pair, conds: Vec<Expr>) -> Result<u32, OutOfMemory>
+    requires both { IsNode (shapes_of nodes.old) (cross_of pair) }
+    requires reads { All (ReadsBelow (joint_width nodes.old pair)) (map term_of conds.items) }
+    requires joint { All (ReadsBoth (width_at nodes.old pair.left)) (map term_of conds.items) }
+    requires apart { All IsApart (map term_of conds.items) }
+    requires pushed { IsPushed nodes.old }
+    ensures combines { IfOk result (λ n. Combines nodes.old nodes.new pair n all_pairs (map term_of conds.items)) }
+    ensures pushed { OnOk result (IsPushed nodes.new) }
+{
     let width = nodes.shape(pair.left).width;
     match chosen(conds.as_slice(), width) {
         Some(found) => {
@@ -48,14 +126,13 @@ fn found_joined(
     found: Choice,
     conds: Vec<Expr>,
 ) -> Result<u32, OutOfMemory>
-    requires plan { IsPlan nodes.old }
     requires both { IsNode (shapes_of nodes.old) (cross_of pair) }
     requires reads { All (ReadsBelow (joint_width nodes.old pair)) (map term_of conds.items) }
     requires joint { All (ReadsBoth (width_at nodes.old pair.left)) (map term_of conds.items) }
     requires found { IsChoice (width_at nodes.old pair.left) conds.items found }
-    requires pushed { ArePushed nodes.old }
+    requires pushed { IsPushed nodes.old }
     ensures combines { IfOk result (λ n. Combines nodes.old nodes.new pair n all_pairs (map term_of conds.items)) }
-    ensures pushed { OnOk result (ArePushed nodes.new) }
+    ensures pushed { OnOk result (IsPushed nodes.new) }
 {
     let mut others = conds;
     let _joins = others.remove(found.place);
@@ -73,9 +150,9 @@ pub(crate) fn joined(
     requires both { IsNode (shapes_of nodes.old) (join_of_pair pair join) }
     requires reads { All (ReadsBelow (joint_width nodes.old pair)) (map term_of conds.items) }
     requires joint { All (ReadsBoth (width_at nodes.old pair.left)) (map term_of conds.items) }
-    requires pushed { ArePushed nodes.old }
+    requires pushed { IsPushed nodes.old }
     ensures combines { IfOk result (λ n. Combines nodes.old nodes.new pair n (joined_by join) (map term_of conds.items)) }
-    ensures pushed { OnOk result (ArePushed nodes.new) }
+    ensures pushed { OnOk result (IsPushed nodes.new) }
 {
     let both = nodes.add(Node::SpanJoin {
         left: pair.left,
@@ -94,10 +171,11 @@ fn crossed(nodes: &mut Nodes, pair: Pair, conds: Vec<Expr>) -> Result<u32, OutOf
     requires both { IsNode (shapes_of nodes.old) (cross_of pair) }
     requires reads { All (ReadsBelow (joint_width nodes.old pair)) (map term_of conds.items) }
     requires joint { All (ReadsBoth (width_at nodes.old pair.left)) (map term_of conds.items) }
+    requires apart { All IsApart (map term_of conds.items) }
     requires no_join { All (λ cond. join_of (width_at nodes.old pair.left) (term_of cond) ≡ None) conds.items }
-    requires pushed { ArePushed nodes.old }
+    requires pushed { IsPushed nodes.old }
     ensures combines { IfOk result (λ n. Combines nodes.old nodes.new pair n all_pairs (map term_of conds.items)) }
-    ensures pushed { OnOk result (ArePushed nodes.new) }
+    ensures pushed { OnOk result (IsPushed nodes.new) }
 {
     let both = nodes.add(Node::Cross {
         left: pair.left,
@@ -113,9 +191,9 @@ fn filtered(nodes: &mut Nodes, input: u32, conds: Vec<Expr>) -> Result<u32, OutO
     requires plain { IsPlain nodes.old input }
     requires valid { IsNode (shapes_of nodes.old) (Select input (map term_of conds.items)) }
     requires above { StandAbove nodes.old (map term_of conds.items) (slice_get nodes.old input) }
-    requires pushed { ArePushed nodes.old }
+    requires pushed { IsPushed nodes.old }
     ensures stands { IfOk result (λ n. Stands nodes.old nodes.new n (Select input (map term_of conds.items))) }
-    ensures pushed { OnOk result (ArePushed nodes.new) }
+    ensures pushed { OnOk result (IsPushed nodes.new) }
 {
     if conds.is_empty() {
         return Ok(input);

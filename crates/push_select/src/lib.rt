@@ -1,8 +1,9 @@
 //! Plans in which conditions stand as low as they can, and joins by spans take the place of products.
 //!
 //! `push` puts a plan together anew, so that each output shows the rows that it showed, as a bag, on every
-//! document: a condition of a selection over a product or a join goes down to the side that it reads alone,
-//! and a predicate of a span of each side makes the product a join (`specs/Pushed.antt`). Stands on
+//! document: a condition of a selection goes down through projections of plain columns and unions, above a
+//! product or a join to the side that it reads alone, and a predicate of a span of each side makes the product
+//! a join (`specs/Pushed.antt`). Stands on
 //! `algebra` for plans, for what a rewrite owes, and for the laws of selections and joins.
 #![tactic(auto)]
 
@@ -11,9 +12,11 @@ mod conditions;
 mod copying;
 mod join;
 mod joining;
+mod projecting;
 mod pushing;
 mod reading;
 mod selection;
 mod sides;
+mod turning;
 
 pub use pushing::push;

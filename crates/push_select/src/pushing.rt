@@ -2,6 +2,7 @@ ghost use Rattle.std.specs.Prelude.{IfOk};
 ghost use Rattle.algebra.specs.Plans.{KeepsOutputs};
 ghost use Rattle.push_select.specs.Pushed.{ArePushed};
 
+use crate::projecting::projected;
 use crate::selection::selected;
 use algebra::{Node, Nodes, Plan, Rewrite, rewritten};
 use span_token::OutOfMemory;
@@ -10,10 +11,13 @@ use std::alloc::Global;
 /// The plan with its conditions as low as they can stand, and with joins by spans for products: each output
 /// shows the same rows on each document, as a bag.
 ///
-/// A condition of a selection right above a product or a join goes down to the side that it reads alone;
-/// one that reads no column goes to the left. A condition that is `Follows`, `FollowsTok`, `Overlaps` or
-/// `Contains` of two plain columns, one of each side, makes the product a join of its kind: the first that is
-/// a distance, else the first overlap, else the first containment. The others stay in a selection above it. No condition goes down past another node.
+/// A condition of a selection goes down through projections of plain columns, with the numbers that the
+/// columns have below, and to both sides of a union. Above a product or a join it goes down to the side that
+/// it reads alone; one that reads no column goes to the left. An `And` is taken apart. A condition that is
+/// `Follows`, `FollowsTok`, `Overlaps` or `Contains` of two plain columns, one of each side, makes the
+/// product a join of its kind: the first that is a distance, else the first overlap, else the first
+/// containment. The others stay in a selection above it. No condition goes down past another node, and of projections of plain
+/// columns one above another one is left.
 ///
 /// Meaning: `ArePushed`, `specs/Pushed.antt`.
 pub fn push(alloc: Global, plan: Plan) -> Result<Plan, OutOfMemory>
@@ -25,19 +29,23 @@ pub fn push(alloc: Global, plan: Plan) -> Result<Plan, OutOfMemory>
     Ok(new)
 }
 
-/// Puts each selection as `selected` does, and every other node as it is.
+/// Puts each selection as `selected` does, each projection as `projected` does, and every other node as it is.
 #[derive(Drop)]
 struct Pushing;
 
 impl Rewrite for Pushing {
-    ghost use Rattle.push_select.specs.Pushed.{ArePushed};
+    ghost use Rattle.push_select.specs.Places.{IsPushed};
 
-    ghost knows = { λ rule nodes. ArePushed nodes };
+    ghost knows = { λ rule nodes. IsPushed nodes };
 
     fn put(&mut self, alloc: Global, nodes: &mut Nodes, node: Node) -> Result<u32, OutOfMemory> {
         match node {
             Node::Select { input, conds } => {
                 let n = selected(alloc, nodes, input, conds)?;
+                Ok(n)
+            }
+            Node::Project { input, items } => {
+                let n = projected(alloc, nodes, input, items)?;
                 Ok(n)
             }
             other => {

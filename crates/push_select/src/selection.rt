@@ -1,18 +1,19 @@
 //! Selections, with their conditions as low as they can stand.
 
 ghost use Rattle.std.specs.Prelude.{map, IfOk, OnOk, All};
-ghost use Rattle.scalar_ops.specs.Expressions.{ReadsBelow};
+ghost use Rattle.scalar_ops.specs.Expressions.{column, ReadsBelow};
 ghost use Rattle.scalar_ops.specs.Views.{term_of};
-ghost use Rattle.algebra.specs.declared.node.Node.TheVariants.{Select};
+ghost use Rattle.algebra.specs.declared.node.Node.TheVariants.{Select, Project, Union};
 ghost use Rattle.algebra.specs.Growth.{Stands, IsAt};
 ghost use Rattle.algebra.specs.Nodes.{IsNode};
 ghost use Rattle.algebra.specs.Shapes.{shapes_of};
-ghost use Rattle.push_select.specs.Places.{cross_of, join_of_pair, joint_width, Narrows, NarrowsPair};
-ghost use Rattle.push_select.specs.Pushed.{ArePushed};
+ghost use Rattle.push_select.specs.Places.{cross_of, join_of_pair, joint_width, IsPushed, Narrows, NarrowsPair};
 
-use crate::below::{Below, Pair, combined_by};
+use crate::below::{Below, Pair, below_of};
+use crate::copying::{Numbers, all_copied, all_renamed, columns_shown};
 use crate::join::Join;
 use crate::joining::{joined, paired};
+use crate::projecting::projected;
 use crate::sides::by_side;
 use algebra::{Node, Nodes};
 use scalar_ops::{Expr, Exprs};
@@ -35,17 +36,26 @@ pub(crate) fn selected(
     conds: Exprs,
 ) -> Result<u32, OutOfMemory>
     requires valid { IsNode (shapes_of nodes.old) (Select input conds) }
-    requires pushed { ArePushed nodes.old }
+    requires pushed { IsPushed nodes.old }
     ensures stands { IfOk result (λ n. Stands nodes.old nodes.new n (Select input conds)) }
-    ensures pushed { OnOk result (ArePushed nodes.new) }
+    ensures pushed { OnOk result (IsPushed nodes.new) }
 {
-    match combined_by(nodes.get(input)) {
+    let below = below_of(alloc, nodes.get(input))?;
+    match below {
         Below::Product(pair) => {
             let n = pairs_selected(alloc, nodes, input, pair, conds)?;
             Ok(n)
         }
         Below::Joined(pair, join) => {
             let n = joins_selected(alloc, nodes, input, pair, join, conds)?;
+            Ok(n)
+        }
+        Below::Both(left, right) => {
+            let n = both_selected(alloc, nodes, input, left, right, conds)?;
+            Ok(n)
+        }
+        Below::Columns(from, shown) => {
+            let n = columns_selected(alloc, nodes, input, from, shown, conds)?;
             Ok(n)
         }
         Below::Other => {
@@ -66,12 +76,12 @@ fn pairs_selected(
 ) -> Result<u32, OutOfMemory>
     requires at { IsAt nodes.old input (cross_of pair) }
     requires valid { IsNode (shapes_of nodes.old) (Select input conds) }
-    requires pushed { ArePushed nodes.old }
+    requires pushed { IsPushed nodes.old }
     ensures stands { IfOk result (λ n. Stands nodes.old nodes.new n (Select input conds)) }
-    ensures pushed { OnOk result (ArePushed nodes.new) }
+    ensures pushed { OnOk result (IsPushed nodes.new) }
 {
     let narrowed = pair_narrowed(alloc, nodes, pair, conds.as_slice())?;
-    let n = paired(nodes, narrowed.pair, narrowed.joint)?;
+    let n = paired(alloc, nodes, narrowed.pair, narrowed.joint)?;
     Ok(n)
 }
 
@@ -87,12 +97,61 @@ fn joins_selected(
 ) -> Result<u32, OutOfMemory>
     requires at { IsAt nodes.old input (join_of_pair pair join) }
     requires valid { IsNode (shapes_of nodes.old) (Select input conds) }
-    requires pushed { ArePushed nodes.old }
+    requires pushed { IsPushed nodes.old }
     ensures stands { IfOk result (λ n. Stands nodes.old nodes.new n (Select input conds)) }
-    ensures pushed { OnOk result (ArePushed nodes.new) }
+    ensures pushed { OnOk result (IsPushed nodes.new) }
 {
     let narrowed = pair_narrowed(alloc, nodes, pair, conds.as_slice())?;
     let n = joined(nodes, narrowed.pair, join, narrowed.joint)?;
+    Ok(n)
+}
+
+/// The same of a union: of both sides.
+#[cycle(selection)]
+fn both_selected(
+    alloc: Global,
+    nodes: &mut Nodes,
+    input: u32,
+    left: u32,
+    right: u32,
+    conds: Exprs,
+) -> Result<u32, OutOfMemory>
+    requires at { IsAt nodes.old input (Union left right) }
+    requires valid { IsNode (shapes_of nodes.old) (Select input conds) }
+    requires pushed { IsPushed nodes.old }
+    ensures stands { IfOk result (λ n. Stands nodes.old nodes.new n (Select input conds)) }
+    ensures pushed { OnOk result (IsPushed nodes.new) }
+{
+    let copies = all_copied(alloc, conds.as_slice())?;
+    let copies = Exprs::from(copies);
+    let left = selected(alloc, nodes, left, conds)?;
+    let right = selected(alloc, nodes, right, copies)?;
+    let n = nodes.add(Node::Union { left, right })?;
+    Ok(n)
+}
+
+/// The same of a projection of plain columns: of the rows that it shows.
+#[cycle(selection)]
+fn columns_selected(
+    alloc: Global,
+    nodes: &mut Nodes,
+    input: u32,
+    from: u32,
+    shown: Vec<u32>,
+    conds: Exprs,
+) -> Result<u32, OutOfMemory>
+    requires at { IsAt nodes.old input (Project from (map column shown.items)) }
+    requires valid { IsNode (shapes_of nodes.old) (Select input conds) }
+    requires pushed { IsPushed nodes.old }
+    ensures stands { IfOk result (λ n. Stands nodes.old nodes.new n (Select input conds)) }
+    ensures pushed { OnOk result (IsPushed nodes.new) }
+{
+    let below = all_renamed(alloc, conds.as_slice(), Numbers::Listed(shown.as_slice()))?;
+    let below = Exprs::from(below);
+    let narrower = selected(alloc, nodes, from, below)?;
+    let items = columns_shown(alloc, shown.as_slice())?;
+    let items = Exprs::from(items);
+    let n = projected(alloc, nodes, narrower, items)?;
     Ok(n)
 }
 
@@ -106,9 +165,9 @@ fn pair_narrowed(
 ) -> Result<NarrowedPair, OutOfMemory>
     requires both { IsNode (shapes_of nodes.old) (cross_of pair) }
     requires reads { All (ReadsBelow (joint_width nodes.old pair)) (map term_of conds.now) }
-    requires pushed { ArePushed nodes.old }
+    requires pushed { IsPushed nodes.old }
     ensures narrows { IfOk result (λ narrowed. NarrowsPair nodes.old nodes.new pair (map term_of conds.now) narrowed) }
-    ensures pushed { OnOk result (ArePushed nodes.new) }
+    ensures pushed { OnOk result (IsPushed nodes.new) }
 {
     let width = nodes.shape(pair.left).width;
     let parts = by_side(alloc, conds, width)?;
@@ -129,9 +188,9 @@ fn pair_narrowed(
 #[cycle(selection)]
 fn narrowed(alloc: Global, nodes: &mut Nodes, input: u32, conds: Exprs) -> Result<u32, OutOfMemory>
     requires valid { IsNode (shapes_of nodes.old) (Select input conds) }
-    requires pushed { ArePushed nodes.old }
+    requires pushed { IsPushed nodes.old }
     ensures narrows { IfOk result (λ n. Narrows nodes.old nodes.new input n conds) }
-    ensures pushed { OnOk result (ArePushed nodes.new) }
+    ensures pushed { OnOk result (IsPushed nodes.new) }
 {
     if conds.as_slice().is_empty() {
         return Ok(input);

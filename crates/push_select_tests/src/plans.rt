@@ -38,21 +38,23 @@ out C 7
     (
         "ContainsRegex(/c/, b.y) and GreaterThan(GetBegin(b.y), GetBegin(a.x))",
         "5 Cross 2 4
-6 Select 4
-7 Cross 2 6
-8 Select 7
-9 Project 8
-out C 9
+6 Select 3
+7 Project 6
+8 Cross 2 7
+9 Select 8
+10 Project 9
+out C 10
 ",
     ),
     (
         "Overlaps(b.y, a.x) and And(Equals(a.x, b.y), MatchesRegex(/d/, b.y))",
         "5 Cross 2 4
-6 Select 4
-7 SpanJoin 2 6
-8 Select 7
-9 Project 8
-out C 9
+6 Select 3
+7 Project 6
+8 SpanJoin 2 7
+9 Select 8
+10 Project 9
+out C 10
 ",
     ),
     (
@@ -66,12 +68,13 @@ out C 8
     ),
     (
         "Contains(a.x, b.y) and ContainsRegex(/c/, a.x) and Overlaps(a.x, b.y)",
-        "5 Select 2
-6 Cross 5 4
-7 SpanJoin 5 4
-8 Select 7
-9 Project 8
-out C 9
+        "5 Select 1
+6 Project 5
+7 Cross 6 4
+8 SpanJoin 6 4
+9 Select 8
+10 Project 9
+out C 10
 ",
     ),
     (
@@ -119,12 +122,13 @@ fn three_views_have_no_product_that_is_read(rt: HostRuntime) -> Result<(), Fail>
 3 Cross 2 2
 4 SpanJoin 2 2
 5 Cross 4 2
-6 Select 2
-7 SpanJoin 4 6
-8 Consolidate 7
-9 Project 8
-10 OrderLimit 9
-out Three 10
+6 Select 1
+7 Project 6
+8 SpanJoin 4 7
+9 Consolidate 8
+10 Project 9
+11 OrderLimit 10
+out Three 11
 ";
     assert_eq!(rt; got.as_str(), want);
     Ok(())

@@ -12,3 +12,6 @@ pub mod WantedLaws
 pub mod StepLaws
 pub mod HistoryLaws
 pub mod BoardLaws
+-- Words of private clauses
+-- what is kept of an item
+pub mod Spots

@@ -47,7 +47,7 @@ impl<'d> Model for Board<'d> {
 }
 
 impl<'d> Board<'d> {
-    /// The board with nothing claimed and nothing published. It takes three words an item.
+    /// The board with nothing claimed and nothing published. It takes two words an item.
     pub fn new(
         alloc: Global,
         plan: &'d Plan,

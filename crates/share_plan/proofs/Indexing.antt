@@ -141,11 +141,12 @@ module _ (nodes : List Node) (keys later : List Key) (key : Key) (n : ℕ) (is_n
   index-kept = subst (IsIndex nodes) (sym (keys_stay keys later key n is_new put old)) index
 
   -- the node itself
+  pub plain-at : (y : Node) → kind_of y ≡ Plain → key.items ≡ node_words y → slice_get nodes n ≡ Some y
+  plain-at y plain are = x_stands ∙ ap (λ (node : Node). Some node) (plain_told nodes x y plain (words-told (found_by nodes x) y (x_key ∙ are)))
+
+  -- which stands for itself
   pub plain-there : (y : Node) → kind_of y ≡ Plain → key.items ≡ node_words y → Stands nodes nodes n y
-  plain-there y plain are =
-      let is : x ≡ y = plain_told nodes x y plain (words-told (found_by nodes x) y (x_key ∙ are)) in
-      let at : slice_get nodes n ≡ Some y = x_stands ∙ ap (λ (node : Node). Some node) is in
-      (is-at nodes n y index.plan there (is_node nodes n y at)).stands
+  plain-there y plain are = (is-at nodes n y index.plan there (is_node nodes n y (plain-at y plain are))).stands
 
   -- a `Dict` node of the column
   pub dict-there : (i c : ℕ) → key.items ≡ node_words (Dict i c []) → (dicts : List ℕ) × (slice_get nodes n ≡ Some (Dict i c dicts))

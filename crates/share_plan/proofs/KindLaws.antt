@@ -102,6 +102,11 @@ plain-part i p e = subst IsPlain e tt
 pub source-part : (i p : ℕ) → Source ≡ Part i p → ⊥
 source-part i p e = subst IsSource e tt
 
+-- any node may read the rows of any other node
+pub open_shape : (node : Node) → kind_of node ≡ Plain → (s t : Shape) → IsOpen (shape_by node s t)
+open_shape (Dict i c dicts) plain s t = absurd (plain-source (sym plain))
+open_shape node plain s t = tt
+
 -- every node but a part reads rows that any node may read
 abbrev pub HasOpenInputs : List Shape → Kind → Node → Type 0
 HasOpenInputs shapes (Part input place) node = Unit {0}

@@ -10,8 +10,13 @@ pub mod Widening
 pub mod Parts
 -- nodes that are found by their numbers
 pub mod Finding
+pub mod Extending
 pub mod Indexing
 pub mod Putting
 -- nodes that are put together anew, and their outputs
+pub mod Moving
+-- marks on nodes that are read, and the nodes that are marked
+pub mod MarkLaws
+pub mod Keeping
 pub mod Rebuilding
 pub mod Outputs

@@ -14,8 +14,9 @@ use Rattle.share_plan.specs.declared.kind.Kind.{Kind}
 use Rattle.share_plan.specs.declared.kind.Kind.TheVariants.{Source, Plain}
 use Rattle.share_plan.specs.Indexes.{dict_at, found_as, found_by, Key, IsInserted, IsIndex}
 use Rattle.share_plan.specs.Kinds.{kind_of}
-use Rattle.share_plan.specs.Placing.{IsOpenAt, Keeps, IsDictOf, IsFound}
+use Rattle.share_plan.specs.Placing.{IsOpenAt, Keeps, Extends, IsPartAt, IsDictOf, IsFound}
 use Rattle.share_plan.specs.Words.{node_words}
+use Rattle.share_plan.proofs.Extending.{extends-part}
 use Rattle.share_plan.proofs.Finding.{keys_more, key_apart, key_last, there_in_front}
 use Rattle.share_plan.proofs.Indexing.{long_keys, part-there, index-more, index-wider, wider-keeps, wider-at}
 use Rattle.share_plan.proofs.KindLaws.{open_inputs}
@@ -29,7 +30,7 @@ keeps-same nodes = record {
 }
 
 module _ (nodes : List Node) (keys later : List Key) (key : Key) (n : ℕ) (index : IsIndex nodes keys) (put : IsInserted keys later key n true) where
-  last_number : n ≡ length nodes
+  pub last_number : n ≡ length nodes
   last_number = key_last keys later key n true put refl ∙ long_keys nodes keys index
 
   indexed_more : (node : Node) → IsNode (shapes_of nodes) node → key.items ≡ node_words (found_by (nodes ++ node ∷ []) node) → IsIndex (nodes ++ node ∷ []) later
@@ -71,6 +72,8 @@ module _ (nodes : List Node) (plan : IsPlan nodes) (m i c : ℕ) (dicts : List �
 -- a part that is put behind the nodes, its dictionary behind those of its `Dict` node
 pub record IsPartMore (nodes last : List Node) (later : List Key) (n i c d : ℕ) : Type 0 where
   pub keeps : Keeps nodes last
+  pub extends : Extends nodes last
+  pub part : IsPartAt last n
   pub index : IsIndex last later
   pub found : IsFound nodes last n i c d
 
@@ -131,6 +134,8 @@ module _ (nodes : List Node) (keys later : List Key) (key : Key) (n m d place : 
   final_more : IsPartMore nodes final later n i c d
   final_more = record {
     keeps = final_keeps;
+    extends = extends-part nodes wider final m i c d (length dicts) dicts at refl refl;
+    part = (m, length dicts, part_stands);
     index = final_index;
     found = found_kept nodes final final n i c d final_keeps (input_there nodes index.plan m i c dicts at) (input_open nodes index.plan m i c dicts at)
         (part_found final final_index.plan m i c (dicts ++ d ∷ []) m_final (length dicts) d listed n part_stands);
@@ -148,6 +153,12 @@ pub part-stays : (nodes : List Node) (keys later : List Key) (key : Key) (n m d 
 part-stays nodes keys later key n m d i c dicts index put are at =
     let p = part-there nodes keys later key n false index put refl m i c d dicts are at in
     part_found nodes index.plan m i c dicts at p.0 d p.2 n p.1
+
+pub part-at : (nodes : List Node) (keys later : List Key) (key : Key) (n m d i c : ℕ) (dicts : List ℕ) → IsIndex nodes keys → IsInserted keys later key n false
+    → key.items ≡ node_words (DictPart m d) → slice_get nodes m ≡ Some (Dict i c dicts) → IsPartAt nodes n
+part-at nodes keys later key n m d i c dicts index put are at =
+    let p = part-there nodes keys later key n false index put refl m i c d dicts are at in
+    (m, p.0, p.1)
 
 -- what is found in a node after more nodes were put was found in it before
 pub found_before : (nodes mid after : List Node) (n i c d : ℕ) → Grows nodes mid → IsNode (shapes_of nodes) (Dict i c []) → IsFound mid after n i c d → IsFound nodes after n i c d

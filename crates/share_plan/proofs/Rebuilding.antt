@@ -1,5 +1,5 @@
 -- Nodes that are put together anew, each column searched for dictionaries once: what holds after some of them.
-use Rattle.std.proofs.Common.{◌≡◌, ◌∙◌, ℕ, ◌+◌, ◌<◌, inl, inr, List, [], ◌∷◌, ◌++◌, length, map, get_or, slice_get, take, drop, refl, sym, ap, subst, arith, Option, Some}
+use Rattle.std.proofs.Common.{◌≡◌, ◌∙◌, ℕ, ◌+◌, ◌<◌, ◌⊎◌, inl, inr, List, [], ◌∷◌, ◌++◌, length, map, get_or, slice_get, take, drop, refl, sym, ap, subst, arith, Option, Some}
 use Rattle.std.proofs.lemmas.Bool.{cases_lt}
 use Rattle.std.proofs.lemmas.List.{map-id, length-append, get_or_append_left, get_or_at}
 use Rattle.std.proofs.lemmas.Option.{slice_get_within, get_or_from_slice_get, slice_get-get_or}
@@ -24,9 +24,12 @@ use Rattle.share_plan.specs.declared.kind.Kind.{Kind}
 use Rattle.share_plan.specs.declared.kind.Kind.TheVariants.{Source, Part, Plain}
 use Rattle.share_plan.specs.Indexes.{Key, IsIndex}
 use Rattle.share_plan.specs.Kinds.{kind_of}
-use Rattle.share_plan.specs.Placing.{IsOpenAt, IsFound, HasSource, MayPut, IsPut}
+use Rattle.share_plan.specs.Renumbering.{IsPart}
+use Rattle.share_plan.specs.Placing.{IsOpenAt, Extends, IsPlaced, IsPartAt, IsFound, HasSource, MayPut, IsPut}
+use Rattle.share_plan.proofs.Extending.{front_or_last, front_stays}
 use Rattle.share_plan.proofs.Finding.{there_in_front}
-use Rattle.share_plan.proofs.KindLaws.{is_of_kind, renamed_kind, kind-renamed, has_places, plain-source, source-part, open_inputs}
+use Rattle.share_plan.proofs.Moving.{AreMoved, ComeFrom, IsLikeAt, moved_itself, moved_later, moved-more, from-more}
+use Rattle.share_plan.proofs.KindLaws.{is_of_kind, renamed_kind, kind-renamed, has_places, plain-source, source-part, open_inputs, open_shape}
 use Rattle.share_plan.proofs.Parts.{is_node, width_at, shape_behind, rows_behind, mapped_keeps, mapped_has}
 
 -- each `Dict` node so far waits among the sources, reading the node that stands for its input
@@ -39,6 +42,8 @@ pub record IsShared (all yielded nodes sources : List Node) (to : List ℕ) (key
   pub mapped : IsMapped (IsOpenAt all) yielded nodes to
   pub index : IsIndex nodes keys
   pub sourced : AreSourced yielded sources to
+  pub moved : AreMoved (IsOpenAt all) yielded nodes to
+  pub from : ComeFrom (IsOpenAt all) nodes to
 
 -- the plan, where some of its nodes were taken
 pub taken : (nodes yielded : List Node) (node : Node) → map (λ x. x) yielded ≡ take (length yielded) nodes → length yielded < length nodes → node ≡ get_or nodes (length yielded) node
@@ -207,11 +212,74 @@ module _ (all yielded nodes sources : List Node) (to : List ℕ) (keys : List Ke
         (λ s x at. ap (λ (list : List Node). slice_get list s) same ∙ at)
         (λ i c dicts is. absurd (other (sym e ∙ ap (λ (x : Node). kind_of x) is)))
 
+    -- ---- old nodes among the new ones
+
+    renamed_plain : kind_of node ≡ Plain → kind_of (with_inputs look node) ≡ Plain
+    renamed_plain e = kind-renamed look node ∙ ap (renamed_kind look) e
+
+    plain_open : kind_of node ≡ Plain → Kept (length yielded)
+    plain_open e =
+        let here : get_or (shapes_of (yielded ++ node ∷ rest)) (length yielded) no_shape ≡ had no_shape shape_by (shapes_of (yielded ++ node ∷ rest)) node =
+        all-at no_shape shape_by yielded node rest
+        (subst (λ (m : ℕ). IsAmong m (left_input node)) (length-each no_shape shape_by yielded) valid.left_below)
+        (subst (λ (m : ℕ). IsAmong m (right_input node)) (length-each no_shape shape_by yielded) valid.right_below) in
+        subst (λ (sh : Shape). IsOpen sh) (sym (ap (λ (list : List Node). get_or (shapes_of list) (length yielded) no_shape) whole ∙ here)) (open_shape node e _ _)
+
+    plain_moved : kind_of node ≡ Plain → IsPlaced nodes after n (with_inputs look node) → AreMoved Kept (yielded ++ node ∷ []) after (to ++ n ∷ [])
+    plain_moved e placed = moved-more Kept yielded nodes to plan_so_far long node after n shared.moved stay last
+      where
+        stay : (j : ℕ) (x : Node) → slice_get nodes j ≡ Some x → (kind_of x ≡ Source → ⊥) → slice_get after j ≡ Some x
+        stay j x at other = elim placed.put [
+          | inl same ↦ ap (λ (list : List Node). slice_get list j) same ∙ at
+          | inr more ↦ ap (λ (list : List Node). slice_get list j) more.0 ∙ front_stays nodes (with_inputs look node ∷ []) j x at
+        ]
+
+        last : Kept (length yielded) → IsLikeAt after (to ++ n ∷ []) n node
+        last kept = (
+          with_inputs look node,
+          placed.at,
+          λ is. plain-source (sym (renamed_plain e) ∙ is),
+          inl (
+            e,
+            moved_later to n (length yielded) node (with_inputs look node) (omega (arith, long))
+                (subst (λ (m : ℕ). IsAmong m (left_input node)) (length-each no_shape shape_by yielded) valid.left_below)
+                (subst (λ (m : ℕ). IsAmong m (right_input node)) (length-each no_shape shape_by yielded) valid.right_below) (moved_itself to node),
+          ),
+        )
+
+    plain_from : kind_of node ≡ Plain → IsPlaced nodes after n (with_inputs look node) → ComeFrom Kept after (to ++ n ∷ [])
+    plain_from e placed = from-more Kept yielded nodes to plan_so_far long node after n shared.from were
+      where
+        were : (j : ℕ) (x : Node) → slice_get after j ≡ Some x → kind_of x ≡ Plain → (slice_get nodes j ≡ Some x) ⊎ ((j ≡ n) × Kept (length yielded))
+        were j x at plain = elim placed.put [
+          | inl same ↦ inl (ap (λ (list : List Node). slice_get list j) (sym same) ∙ at)
+          | inr more ↦ elim (front_or_last nodes (with_inputs look node) j x (ap (λ (list : List Node). slice_get list j) (sym more.0) ∙ at)) [
+            | inl h ↦ inl h
+            | inr h ↦ inr (h.0 ∙ sym more.1, plain_open e)
+          ]
+        ]
+
+    part_moved : (k p : ℕ) → kind_of node ≡ Part k p → Extends nodes after → IsPartAt after n → AreMoved Kept (yielded ++ node ∷ []) after (to ++ n ∷ [])
+    part_moved k p e extends part = moved-more Kept yielded nodes to plan_so_far long node after n shared.moved extends.stay last
+      where
+        is : node ≡ DictPart k p
+        is = is_of_kind node (Part k p) e
+
+        last : Kept (length yielded) → IsLikeAt after (to ++ n ∷ []) n node
+        last kept = (
+          DictPart part.0 part.1,
+          part.2,
+          λ source. source-part part.0 part.1 (sym source),
+          inr (subst IsPart (sym is) tt, tt),
+        )
+
     next_plain : kind_of node ≡ Plain → (Plain ≡ Source → ⊥) → IsPut sources nodes later after n Plain (with_inputs look node) → IsNext
     next_plain e other put = record {
       mapped = mapped-push Kept yielded nodes to shared.mapped node after n valid (open_inputs (shapes_of all) node Plain e (in_all node valid)) put.1;
       index = index;
       sourced = others_stay put.0 Plain e other;
+      moved = plain_moved e put.2;
+      from = plain_from e put.2;
     }
 
     next_part : (k p : ℕ) → kind_of node ≡ Part k p → (Part k p ≡ Source → ⊥) → IsPut sources nodes later after n (Part (look k) p) (with_inputs look node) → IsNext
@@ -220,13 +288,15 @@ module _ (all yielded nodes sources : List Node) (to : List ℕ) (keys : List Ke
         let s = searched k p is in
         let d = get_or s.dicts p 0 in
         let listed : slice_get s.dicts p ≡ Some d = slice_get-get_or s.dicts p 0 s.listed in
-        let found = put.2 (look s.input) s.column d s.dicts (shared.sourced k s.input s.column s.dicts s.at) listed in
+        let found = put.4 (look s.input) s.column d s.dicts (shared.sourced k s.input s.column s.dicts s.at) listed in
         let has : Has after n (had no_shape shape_by (shapes_of yielded) node) (λ lists doc. value_after lists doc yielded node) =
         subst (λ (x : Node). Has after n (had no_shape shape_by (shapes_of yielded) x) (λ lists doc. value_after lists doc yielded x)) (sym is) (found_has k p s after n d listed found) in
         record {
           mapped = mapped_has Kept yielded after to (mapped_keeps all yielded nodes to shared.mapped as_all after put.1) node n (λ kept. has);
           index = index;
           sourced = others_stay put.0 (Part k p) e other;
+          moved = part_moved k p e put.2 put.3;
+          from = from-more Kept yielded nodes to plan_so_far long node after n shared.from (λ j x at plain. inl (put.2.were j x at plain));
         }
 
     next_source : kind_of node ≡ Source → IsPut sources nodes later after n Source (with_inputs look node) → IsNext
@@ -249,6 +319,8 @@ module _ (all yielded nodes sources : List Node) (to : List ℕ) (keys : List Ke
               ap (λ (list : List Node). slice_get list n) put.0
               ∙ (slice_get-get_or (sources ++ with_inputs look node ∷ []) n Doc (omega (arith, put.2, length-append sources (with_inputs look node ∷ [])))
               ∙ (ap (λ (x : Node). Some x) (get_or_at sources (with_inputs look node) [] Doc n (sym put.2)) ∙ ap (λ (x : Node). Some (with_inputs look x)) is)));
+          moved = moved-more Kept yielded nodes to plan_so_far long node after n shared.moved (λ j x at other. ap (λ (list : List Node). slice_get list j) put.1 ∙ at) (λ kept. absurd (gone kept));
+          from = from-more Kept yielded nodes to plan_so_far long node after n shared.from (λ j x at plain. inl (ap (λ (list : List Node). slice_get list j) (sym put.1) ∙ at));
         }
 
     next_by : (kind : Kind) → kind_of node ≡ kind → IsPut sources nodes later after n (renamed_kind look kind) (with_inputs look node) → IsNext

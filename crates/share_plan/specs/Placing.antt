@@ -1,11 +1,11 @@
 -- One node more in a plan in which each column is searched for dictionaries once. A `Dict` node waits among the sources until a
 -- part of it is put; its dictionary then stands behind those that the column's `Dict` node has.
-use Rattle.std.specs.Prelude.{ℕ, ◌+◌, ◌≡◌, ◌<◌, ◌≤◌, Some, List, [], ◌∷◌, ◌++◌, length, slice_get, slice_index_or}
+use Rattle.std.specs.Prelude.{ℕ, ◌+◌, ◌≡◌, ◌<◌, ◌≤◌, ◌⊎◌, Some, List, [], ◌∷◌, ◌++◌, length, slice_get, slice_index_or}
 use Rattle.span_token.specs.Documents.{Doc}
 use Rattle.scalar_ops.specs.Tables.{Lists}
 use Rattle.aql_typed.specs.Trees.{dict}
 use Rattle.algebra.specs.declared.node.Node.{Node}
-use Rattle.algebra.specs.declared.node.Node.TheVariants.{Dict}
+use Rattle.algebra.specs.declared.node.Node.TheVariants.{Dict, DictPart}
 use Rattle.algebra.specs.Growth.{Has, Stands}
 use Rattle.algebra.specs.Nodes.{IsNode}
 use Rattle.algebra.specs.Operators.{with_found}
@@ -13,6 +13,7 @@ use Rattle.algebra.specs.Shapes.{columns, no_shape, shapes_of, IsOpen}
 use Rattle.algebra.specs.Values.{val}
 use Rattle.share_plan.specs.declared.kind.Kind.{Kind}
 use Rattle.share_plan.specs.declared.kind.Kind.TheVariants.{Source, Part, Plain}
+use Rattle.share_plan.specs.Kinds.{kind_of}
 
 -- any node may read the rows of node n
 abbrev pub IsOpenAt : List Node → ℕ → Type 0
@@ -23,6 +24,20 @@ pub record Keeps (old new : List Node) : Type 0 where
   pub long : length old ≤ length new
   pub shaped : (n : ℕ) → n < length old → IsOpenAt old n → slice_index_or (shapes_of new) n no_shape ≡ slice_index_or (shapes_of old) n no_shape
   pub same : (lists : Lists) (doc : Doc) (n : ℕ) → n < length old → IsOpenAt old n → val lists doc new n ≡ val lists doc old n
+
+-- all nodes but `Dict` nodes have stayed, and the new ones are `Dict` nodes and parts
+pub record Extends (old new : List Node) : Type 0 where
+  pub stay : (k : ℕ) (node : Node) → slice_get old k ≡ Some node → (kind_of node ≡ Source → ⊥) → slice_get new k ≡ Some node
+  pub were : (k : ℕ) (node : Node) → slice_get new k ≡ Some node → kind_of node ≡ Plain → slice_get old k ≡ Some node
+
+-- node n is this one: it was there, or was put behind the others
+pub record IsPlaced (old new : List Node) (n : ℕ) (node : Node) : Type 0 where
+  pub put : (new ≡ old) ⊎ ((new ≡ old ++ node ∷ []) × (n ≡ length old))
+  pub at : slice_get new n ≡ Some node
+
+-- node n is a part
+abbrev pub IsPartAt : List Node → ℕ → Type 0
+IsPartAt nodes n = (input place : ℕ) × (slice_get nodes n ≡ Some (DictPart input place))
 
 -- node m searches this column of this input for dictionaries
 abbrev pub IsDictOf : List Node → ℕ → ℕ → ℕ → Type 0
@@ -51,6 +66,6 @@ MayPut sources nodes Plain node = IsNode (shapes_of nodes) node
 abbrev pub IsPut : (sources nodes : List Node) (later after : List Node) → ℕ → Kind → Node → Type 0
 IsPut sources nodes later after n Source node = (later ≡ sources ++ node ∷ []) × (after ≡ nodes) × (n ≡ length sources)
 IsPut sources nodes later after n (Part k place) node =
-    (later ≡ sources) × Keeps nodes after
+    (later ≡ sources) × Keeps nodes after × Extends nodes after × IsPartAt after n
     × ((input column d : ℕ) (dicts : List ℕ) → slice_get sources k ≡ Some (Dict input column dicts) → slice_get dicts place ≡ Some d → IsFound nodes after n input column d)
-IsPut sources nodes later after n Plain node = (later ≡ sources) × Stands nodes after n node
+IsPut sources nodes later after n Plain node = (later ≡ sources) × Stands nodes after n node × IsPlaced nodes after n node

@@ -7,7 +7,7 @@ ghost use Rattle.algebra.specs.Nodes.{IsNode};
 ghost use Rattle.algebra.specs.Shapes.{shapes_of};
 ghost use Rattle.share_plan.specs.Indexes.{IsIndex, IsInserted};
 ghost use Rattle.share_plan.specs.Kinds as spec;
-ghost use Rattle.share_plan.specs.Placing.{Keeps, IsDictOf, IsFound, HasSource, MayPut, IsPut};
+ghost use Rattle.share_plan.specs.Placing.{Keeps, Extends, IsPlaced, IsPartAt, IsDictOf, IsFound, HasSource, MayPut, IsPut};
 ghost use Rattle.share_plan.specs.declared.kind.Kind.TheVariants as kinds;
 
 use crate::kind::{Kind, kind_of};
@@ -76,6 +76,7 @@ impl Shared {
         requires plain { spec.kind_of node ≡ kinds.Plain }
         requires valid { IsNode (shapes_of self.old.nodes.items) node }
         ensures stands { IfOk result (λ n. Stands self.old.nodes.items self.new.nodes.items n node) }
+        ensures placed { IfOk result (λ n. IsPlaced self.old.nodes.items self.new.nodes.items n node) }
         ensures index { OnOk result (IsIndex self.new.nodes.items self.new.index.keys) }
         ensures sources { self.new.sources ≡ self.old.sources }
     {
@@ -93,6 +94,8 @@ impl Shared {
         requires index { IsIndex self.old.nodes.items self.old.index.keys }
         requires may { (has : HasSource self.old.sources.items source place) × IsNode (shapes_of self.old.nodes.items) (variant.Dict has.input has.column []) }
         ensures keeps { OnOk result (Keeps self.old.nodes.items self.new.nodes.items) }
+        ensures extends { OnOk result (Extends self.old.nodes.items self.new.nodes.items) }
+        ensures part { IfOk result (λ n. IsPartAt self.new.nodes.items n) }
         ensures found { IfOk result (λ n. (input column d : ℕ) (dicts : List ℕ) → slice_get self.old.sources.items source ≡ Some (variant.Dict input column dicts)
             → slice_get dicts place ≡ Some d → IsFound self.old.nodes.items self.new.nodes.items n input column d) }
         ensures index { OnOk result (IsIndex self.new.nodes.items self.new.index.keys) }
@@ -111,6 +114,7 @@ impl Shared {
         requires valid { IsNode (shapes_of self.old.nodes.items) (variant.Dict input column []) }
         ensures there { IfOk result (λ m. IsDictOf self.new.nodes.items m input column) }
         ensures grows { OnOk result (Grows self.old.nodes.items self.new.nodes.items) }
+        ensures extends { OnOk result (Extends self.old.nodes.items self.new.nodes.items) }
         ensures index { OnOk result (IsIndex self.new.nodes.items self.new.index.keys) }
         ensures sources { self.new.sources ≡ self.old.sources }
     {
@@ -136,6 +140,8 @@ impl Shared {
         ensures found { IfOk result (λ n. (source column : ℕ) → IsDictOf self.old.nodes.items input source column
             → IsFound self.old.nodes.items self.new.nodes.items n source column dict) }
         ensures keeps { OnOk result (Keeps self.old.nodes.items self.new.nodes.items) }
+        ensures extends { OnOk result (Extends self.old.nodes.items self.new.nodes.items) }
+        ensures part { IfOk result (λ n. IsPartAt self.new.nodes.items n) }
         ensures index { OnOk result (IsIndex self.new.nodes.items self.new.index.keys) }
         ensures sources { self.new.sources ≡ self.old.sources }
     {

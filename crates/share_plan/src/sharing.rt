@@ -3,6 +3,7 @@ ghost use Rattle.algebra.specs.Mapping.{renumbered, IsMapped};
 ghost use Rattle.algebra.specs.Nodes.{IsPlan};
 ghost use Rattle.algebra.specs.Plans.{KeepsOutputs};
 ghost use Rattle.share_plan.specs.Placing.{IsOpenAt};
+ghost use Rattle.share_plan.specs.Renumbering.{IsRenumbered};
 ghost use Rattle.share_plan.specs.Sharing.{AreDistinct, AreMerged};
 
 use crate::index::Shared;
@@ -24,6 +25,7 @@ pub fn share(alloc: Global, plan: Plan) -> Result<Plan, OutOfMemory>
     ensures keeps { IfOk result (λ new. KeepsOutputs plan new) }
     ensures distinct { IfOk result (λ new. AreDistinct new.nodes) }
     ensures merged { IfOk result (λ new. AreMerged new.nodes) }
+    ensures renumbered { IfOk result (λ new. IsRenumbered plan.nodes new.nodes) }
 {
     let (old, tables, outputs) = plan.into_parts();
     let mut to = Vec::new(alloc);
@@ -39,6 +41,7 @@ fn shared_nodes(alloc: Global, old: Nodes, to: &mut Vec<u32>) -> Result<Vec<Node
     requires none_yet { to.old.items ≡ [] }
     ensures plan { IfOk result (λ new. IsPlan new.items) }
     ensures mapped { IfOk result (λ new. IsMapped (IsOpenAt old) old new.items to.new.items) }
+    ensures renumbered { IfOk result (λ new. IsRenumbered old new.items) }
     ensures distinct { IfOk result (λ new. AreDistinct new.items) }
     ensures merged { IfOk result (λ new. AreMerged new.items) }
 {
@@ -64,7 +67,7 @@ fn planned(alloc: Global, nodes: Vec<Node>) -> Result<Nodes, OutOfMemory>
 }
 
 /// The outputs, each shown by the node that stands for its own.
-fn outputs_shown(
+pub(crate) fn outputs_shown(
     alloc: Global,
     outputs: Vec<PlanOut>,
     to: &[u32],

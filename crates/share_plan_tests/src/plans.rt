@@ -2,7 +2,7 @@
 
 use crate::programs::typed;
 use plan_maker::{lower, plan_text};
-use share_plan::share;
+use share_plan::{prune, share};
 use std::test::Fail;
 
 /// Programs and their plans: two dictionaries on the document's text are one node, and a view that is written
@@ -98,5 +98,29 @@ fn a_plan_that_was_shared_stays_as_it_is(rt: HostRuntime) -> Result<(), Fail> {
         let got = plan_text(alloc, &again)?;
         assert_eq!(rt; got.as_str(), *want, "of {program}");
     }
+    Ok(())
+}
+
+/// A program with views that no output needs: one that reads others and two that it reads, of which an
+/// output needs one.
+const UNREAD: &str = "create view A as extract regex /a/ on d.text as x from Document d;
+     create view B as extract regex /b/ on d.text as y from Document d;
+     create view Both as select a.x, b.y from A a, B b;
+     create view C as extract regex /c/ on b.y as z from B b;
+     output view C;";
+
+#[test]
+fn what_nobody_reads_is_dropped(rt: HostRuntime) -> Result<(), Fail> {
+    let alloc = rt.alloc();
+    let plan = prune(alloc, lower(alloc, typed(alloc, UNREAD)?)?)?;
+    let got = plan_text(alloc, &plan)?;
+    let want = "0 Doc
+1 Regex 0
+2 Project 1
+3 Regex 2
+4 Project 3
+out C 4
+";
+    assert_eq!(rt; got.as_str(), want);
     Ok(())
 }

@@ -7,7 +7,7 @@ use Rattle.demo_corpus.specs.Totals.{Answer, answer_of, tally_of}
 use Rattle.algebra.specs.declared.output.PlanOut.{PlanOut}
 use Rattle.aqlx_top.specs.Planned.{rows_by}
 use Rattle.aqlx_top.proofs.Planning.{tally_alike}
-use Rattle.aqlx_top.proofs.Showing as law
+use Rattle.window_lines.specs.ShownLaws as law
 use Rattle.aqlx_top.proofs.demonstration.count_shown.Goals as goal
 
 pub returns : goal.returns

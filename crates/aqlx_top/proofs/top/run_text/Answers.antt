@@ -7,11 +7,11 @@ use Rattle.aqlx_top.proofs.top.run_text.Goals as goal
 pub returns-in-Ok-clause-ran : goal.returns-in-Ok-clause-ran
 returns-in-Ok-clause-ran g c =
     let planned = c.in-Ok.ensures.compiled.planned in
-    law.text_run c.args.bytes.now planned.program (line_by c.in-Ok.program.plan) (source_ends (g.S.Source.left c.args.corpus.now) (g.S.Source.left c.run.new.corpus) (g.S.Source.faults c.args.corpus.now) (g.S.Source.faults c.run.new.corpus)) (sink_ends (g.O.Sink.held c.args.out.now) (g.O.Sink.held c.run.new.out) (g.O.Sink.flushed c.args.out.now) (g.O.Sink.flushed c.run.new.out) (g.O.Sink.faults c.args.out.now) (g.O.Sink.faults c.run.new.out)) c.run.result
-    planned.holds (plan_means c.args.bytes.now c.in-Ok.program.plan planned) c.run.ensures.ran
+    law.text_run c.args.bytes.now planned.program (line_by c.in-Ok.program.plan) (source_ends (g.S.Source.left c.args.corpus.now) (g.S.Source.left c.run_by.new.corpus) (g.S.Source.faults c.args.corpus.now) (g.S.Source.faults c.run_by.new.corpus)) (sink_ends (g.O.Sink.held c.args.out.now) (g.O.Sink.held c.run_by.new.out) (g.O.Sink.flushed c.args.out.now) (g.O.Sink.flushed c.run_by.new.out) (g.O.Sink.faults c.args.out.now) (g.O.Sink.faults c.run_by.new.out)) c.run_by.result
+    planned.holds (plan_means c.args.bytes.now c.in-Ok.program.plan planned) c.run_by.ensures.ran
 
 pub returns-in-Ok-clause-part : goal.returns-in-Ok-clause-part
 returns-in-Ok-clause-part g c =
     let planned = c.in-Ok.ensures.compiled.planned in
-    law.text_part c.args.bytes.now planned.program (line_by c.in-Ok.program.plan) (source_ends (g.S.Source.left c.args.corpus.now) (g.S.Source.left c.run.new.corpus) (g.S.Source.faults c.args.corpus.now) (g.S.Source.faults c.run.new.corpus)) (sink_ends (g.O.Sink.held c.args.out.now) (g.O.Sink.held c.run.new.out) (g.O.Sink.flushed c.args.out.now) (g.O.Sink.flushed c.run.new.out) (g.O.Sink.faults c.args.out.now) (g.O.Sink.faults c.run.new.out)) c.run.result
-    planned.holds (plan_means c.args.bytes.now c.in-Ok.program.plan planned) c.run.ensures.part
+    law.text_part c.args.bytes.now planned.program (line_by c.in-Ok.program.plan) (source_ends (g.S.Source.left c.args.corpus.now) (g.S.Source.left c.run_by.new.corpus) (g.S.Source.faults c.args.corpus.now) (g.S.Source.faults c.run_by.new.corpus)) (sink_ends (g.O.Sink.held c.args.out.now) (g.O.Sink.held c.run_by.new.out) (g.O.Sink.flushed c.args.out.now) (g.O.Sink.flushed c.run_by.new.out) (g.O.Sink.faults c.args.out.now) (g.O.Sink.faults c.run_by.new.out)) c.run_by.result
+    planned.holds (plan_means c.args.bytes.now c.in-Ok.program.plan planned) c.run_by.ensures.part

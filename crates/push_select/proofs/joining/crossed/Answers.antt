@@ -13,10 +13,10 @@ pub filtered-requires-clause-above : goal.filtered-requires-clause-above
 filtered-requires-clause-above c =
     above-last c.args.nodes.now c.add.new.self c.in_ok-both.both (cross_of c.args.pair) (map term_of c.args.conds.items) c.in_ok-both.ensures.ok.0 c.in_ok-both.ensures.ok.1
     (above-cross c.args.nodes.now c.add.new.self c.args.pair c.args.conds.items c.in_ok-both.ensures.stands.grows (node_there c.args.nodes.now c.args.pair.left c.requires.both.left_below)
-    c.requires.joint c.requires.no_join)
+    c.requires.joint c.requires.apart c.requires.no_join)
 
 pub filtered-requires-clause-pushed : goal.filtered-requires-clause-pushed
-filtered-requires-clause-pushed c = pushed-add c.args.nodes.now c.add.new.self (cross_of c.args.pair) c.in_ok-both.ensures.ok.1 c.requires.pushed tt
+filtered-requires-clause-pushed c = pushed-add c.args.nodes.now c.add.new.self (cross_of c.args.pair) c.in_ok-both.ensures.ok.1 c.requires.both c.requires.pushed tt
 
 pub returns-clause-combines : goal.returns-clause-combines
 returns-clause-combines c =

@@ -3,6 +3,8 @@ use Rattle.std.specs.Prelude.{slice_get}
 use Rattle.scalar_ops.specs.Expressions.{Term}
 use Rattle.scalar_ops.specs.Views.{term_of}
 use Rattle.algebra.specs.declared.node.Node.TheVariants.{Select}
+use Rattle.algebra.specs.Nodes.{IsNode}
+use Rattle.algebra.specs.Shapes.{shapes_of}
 use Rattle.push_select.specs.Pushed.{StandAbove}
 use Rattle.push_select.proofs.Placing.{terms_none, stands-none}
 use Rattle.push_select.proofs.Standing.{pushed-add}
@@ -15,5 +17,6 @@ returns-then-is_empty-clause-stands c =
 
 pub returns-clause-pushed : goal.returns-clause-pushed
 returns-clause-pushed c =
-    pushed-add c.args.nodes.now c.add.new.self (Select c.args.input c.from-conds.result) c.in_ok-n.ensures.ok.1 c.requires.pushed
+    pushed-add c.args.nodes.now c.add.new.self (Select c.args.input c.from-conds.result) c.in_ok-n.ensures.ok.1
+    (subst (λ (cs : List Term). IsNode (shapes_of c.args.nodes.now) (Select c.args.input cs)) (sym c.from-conds.ensures) c.requires.valid) c.requires.pushed
     (subst (λ (cs : List Term). StandAbove c.args.nodes.now cs (slice_get c.args.nodes.now c.args.input)) (sym c.from-conds.ensures) c.requires.above)

@@ -19,5 +19,5 @@ joined-requires-clause-joint c =
 
 pub returns-clause-combines : goal.returns-clause-combines
 returns-clause-combines c =
-    found-combines c.args.nodes.now c.args.pair c.requires.both c.args.conds.items c.args.found c.requires.found c.requires.plan
+    found-combines c.args.nodes.now c.args.pair c.requires.both c.args.conds.items c.args.found c.requires.found c.requires.pushed.plan
     c.remove-joins.new.self.items c.remove-joins.ensures.by_index.2 c.joined.new.nodes c.in_ok-n.n c.in_ok-n.ensures.combines

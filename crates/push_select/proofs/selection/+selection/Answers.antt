@@ -1,12 +1,15 @@
 use Rattle.std.proofs.Common.{rules, ◌≡◌, ◌∙◌, ℕ, ◌<◌, List, length, map, refl, sym, ap, subst, arith}
-use Rattle.scalar_ops.specs.Expressions.{Term}
+use Rattle.scalar_ops.specs.Expressions.{Term, column}
 use Rattle.scalar_ops.specs.Views.{term_of}
 use Rattle.algebra.specs.declared.node.Node.{Node}
-use Rattle.algebra.specs.declared.node.Node.TheVariants.{Select}
+use Rattle.algebra.specs.declared.node.Node.TheVariants.{Select, Project, Union}
 use Rattle.algebra.specs.Growth.{Stands, IsAt}
-use Rattle.push_select.specs.Places.{cross_of, join_of_pair}
-use Rattle.push_select.proofs.BelowViews.{is_product, is_joined, above-other}
-use Rattle.push_select.proofs.Narrowing.{left-valid, right-valid, pair-narrows, narrowed-valid, narrowed-join-valid, narrowed-reads, narrowed-both, product-stands, join-stands, reads_joint, sides_at}
+use Rattle.algebra.specs.Nodes.{IsNode}
+use Rattle.algebra.specs.Shapes.{shapes_of}
+use Rattle.push_select.specs.Places.{IsBelow}
+use Rattle.push_select.proofs.ExprViews.{named-terms}
+use Rattle.push_select.proofs.Going.{union-left, union-right, union-valid, union-stands, columns-below, columns-above, columns-stands}
+use Rattle.push_select.proofs.Narrowing.{left-valid, right-valid, pair-narrows, narrowed-valid, narrowed-join-valid, narrowed-reads, narrowed-both, narrowed-apart, product-stands, join-stands, reads_joint, sides_at}
 use Rattle.push_select.proofs.Placing.{node_there, terms_none, narrows-none, narrows-stands}
 use Rattle.push_select.proofs.Standing.{pushed-add, above-there}
 use Rattle.push_select.proofs.selection.+selection.Goals as goal
@@ -20,7 +23,7 @@ pub selected-pairs_selected-requires : goal.selected-pairs_selected-requires
 selected-pairs_selected-requires t c = (
   omega arith,
   (
-    subst (λ (node : Node). IsAt c.args.nodes.now c.args.input node) (is_product c.get.result.now c.in-Product.pair (sym c.combined_by.ensures ∙ c.in-Product.is)) c.get.ensures.at,
+    subst (λ (node : Node). IsAt c.args.nodes.now c.args.input node) (subst (IsBelow c.get.result.now) c.in-Product.is c.in_ok-below.ensures) c.get.ensures.at,
     (c.requires.valid, c.requires.pushed),
   ),
 )
@@ -29,16 +32,102 @@ pub selected-joins_selected-requires : goal.selected-joins_selected-requires
 selected-joins_selected-requires t c = (
   omega arith,
   (
-    subst (λ (node : Node). IsAt c.args.nodes.now c.args.input node) (is_joined c.get.result.now c.in-Joined.pair c.in-Joined.join (sym c.combined_by.ensures ∙ c.in-Joined.is)) c.get.ensures.at,
+    subst (λ (node : Node). IsAt c.args.nodes.now c.args.input node) (subst (IsBelow c.get.result.now) c.in-Joined.is c.in_ok-below.ensures) c.get.ensures.at,
+    (c.requires.valid, c.requires.pushed),
+  ),
+)
+
+pub selected-both_selected-requires : goal.selected-both_selected-requires
+selected-both_selected-requires t c = (
+  omega arith,
+  (
+    subst (λ (node : Node). IsAt c.args.nodes.now c.args.input node) (subst (IsBelow c.get.result.now) c.in-Both.is c.in_ok-below.ensures) c.get.ensures.at,
+    (c.requires.valid, c.requires.pushed),
+  ),
+)
+
+pub selected-columns_selected-requires : goal.selected-columns_selected-requires
+selected-columns_selected-requires t c = (
+  omega arith,
+  (
+    subst (λ (node : Node). IsAt c.args.nodes.now c.args.input node) (subst (IsBelow c.get.result.now) c.in-Columns.is c.in_ok-below.ensures) c.get.ensures.at,
     (c.requires.valid, c.requires.pushed),
   ),
 )
 
 pub selected-returns-in_ok-n-in-Other-clause-pushed : goal.selected-returns-in_ok-n-in-Other-clause-pushed
 selected-returns-in_ok-n-in-Other-clause-pushed t c =
-    pushed-add c.args.nodes.now c.add.new.self (Select c.args.input c.args.conds) c.in_ok-n-in-Other.ensures.ok.1 c.requires.pushed
+    pushed-add c.args.nodes.now c.add.new.self (Select c.args.input c.args.conds) c.in_ok-n-in-Other.ensures.ok.1 c.requires.valid c.requires.pushed
     (above-there c.args.nodes.now c.args.input c.get.result.now c.args.conds (node_there c.args.nodes.now c.args.input c.requires.valid.left_below) c.get.ensures.node
-    (above-other c.args.nodes.now c.args.conds c.get.result.now (sym c.combined_by.ensures ∙ c.in-Other.is)))
+    ((subst (IsBelow c.get.result.now) c.in-Other.is c.in_ok-below.ensures).0 c.args.nodes.now c.args.conds))
+
+-- ---- over a union
+
+pub both_selected-selected-requires : goal.both_selected-selected-requires
+both_selected-selected-requires t c =
+    let left : c.args.left < c.args.input = c.requires.at.left_lower in
+    (omega (arith, left), (union-left c.args.nodes.now c.args.input c.args.left c.args.right c.requires.at c.args.conds c.requires.valid, c.requires.pushed))
+
+pub both_selected-selected-requires-2 : goal.both_selected-selected-requires-2
+both_selected-selected-requires-2 t c =
+    let right : c.args.right < c.args.input = c.requires.at.right_lower in (
+      omega (arith, right),
+      (
+        union-right c.args.nodes.now c.args.input c.args.left c.args.right c.requires.at c.args.conds c.requires.valid c.from-copies.result
+            (c.from-copies.ensures ∙ (c.in_ok-copies.ensures ∙ c.as_slice.ensures)) c.selected.new.nodes c.in_ok-left.left c.in_ok-left.ensures.stands,
+        c.in_ok-left.ensures.pushed,
+      ),
+    )
+
+pub both_selected-add-requires : goal.both_selected-add-requires
+both_selected-add-requires t c = record {
+  valid = union-valid c.args.nodes.now c.args.input c.args.left c.args.right c.requires.at c.args.conds c.requires.valid c.from-copies.result
+      (c.from-copies.ensures ∙ (c.in_ok-copies.ensures ∙ c.as_slice.ensures)) c.selected.new.nodes c.in_ok-left.left c.in_ok-left.ensures.stands
+      c.selected-2.new.nodes c.in_ok-right.right c.in_ok-right.ensures.stands;
+}
+
+pub both_selected-returns-clause-stands : goal.both_selected-returns-clause-stands
+both_selected-returns-clause-stands t c =
+    union-stands c.args.nodes.now c.args.input c.args.left c.args.right c.requires.at c.args.conds c.requires.valid c.from-copies.result
+    (c.from-copies.ensures ∙ (c.in_ok-copies.ensures ∙ c.as_slice.ensures)) c.selected.new.nodes c.in_ok-left.left c.in_ok-left.ensures.stands
+    c.selected-2.new.nodes c.in_ok-right.right c.in_ok-right.ensures.stands c.add.new.self c.in_ok-n.n c.in_ok-n.ensures.stands
+
+pub both_selected-returns-clause-pushed : goal.both_selected-returns-clause-pushed
+both_selected-returns-clause-pushed t c =
+    pushed-add c.selected-2.new.nodes c.add.new.self (Union c.in_ok-left.left c.in_ok-right.right) c.in_ok-n.ensures.ok.1
+    (union-valid c.args.nodes.now c.args.input c.args.left c.args.right c.requires.at c.args.conds c.requires.valid c.from-copies.result
+    (c.from-copies.ensures ∙ (c.in_ok-copies.ensures ∙ c.as_slice.ensures)) c.selected.new.nodes c.in_ok-left.left c.in_ok-left.ensures.stands
+    c.selected-2.new.nodes c.in_ok-right.right c.in_ok-right.ensures.stands)
+    c.in_ok-right.ensures.pushed tt
+
+-- ---- over a projection of plain columns
+
+pub columns_selected-selected-requires : goal.columns_selected-selected-requires
+columns_selected-selected-requires t c =
+    let from : c.args.from < c.args.input = c.requires.at.left_lower in (
+      omega (arith, from),
+      (
+        columns-below c.args.nodes.now c.args.input c.args.from c.args.shown.items c.requires.at c.args.conds c.requires.valid c.from-below.result
+            (named-terms c.as_slice-2.result.now c.args.shown.items c.as_slice.result.now c.in_ok-below.below.items c.args.conds c.from-below.result c.as_slice-2.ensures.value c.as_slice.ensures c.in_ok-below.ensures c.from-below.ensures),
+        c.requires.pushed,
+      ),
+    )
+
+pub columns_selected-projected-requires-clause-valid : goal.columns_selected-projected-requires-clause-valid
+columns_selected-projected-requires-clause-valid t c =
+    let items : c.from-items.result ≡ map column c.args.shown.items = c.from-items.ensures ∙ (c.in_ok-items.ensures ∙ ap (map column) c.as_slice-3.ensures.value) in
+    subst (λ (ts : List Term). IsNode (shapes_of c.selected.new.nodes) (Project c.in_ok-narrower.narrower ts)) (sym items)
+    (columns-above c.args.nodes.now c.args.input c.args.from c.args.shown.items c.requires.at c.args.conds c.requires.valid c.from-below.result
+    (named-terms c.as_slice-2.result.now c.args.shown.items c.as_slice.result.now c.in_ok-below.below.items c.args.conds c.from-below.result c.as_slice-2.ensures.value c.as_slice.ensures c.in_ok-below.ensures c.from-below.ensures)
+    c.selected.new.nodes c.in_ok-narrower.narrower c.in_ok-narrower.ensures.stands)
+
+pub columns_selected-returns-clause-stands : goal.columns_selected-returns-clause-stands
+columns_selected-returns-clause-stands t c =
+    let items : c.from-items.result ≡ map column c.args.shown.items = c.from-items.ensures ∙ (c.in_ok-items.ensures ∙ ap (map column) c.as_slice-3.ensures.value) in
+    columns-stands c.args.nodes.now c.args.input c.args.from c.args.shown.items c.requires.at c.args.conds c.requires.valid c.from-below.result
+    (named-terms c.as_slice-2.result.now c.args.shown.items c.as_slice.result.now c.in_ok-below.below.items c.args.conds c.from-below.result c.as_slice-2.ensures.value c.as_slice.ensures c.in_ok-below.ensures c.from-below.ensures)
+    c.selected.new.nodes c.in_ok-narrower.narrower c.in_ok-narrower.ensures.stands c.projected.new.nodes c.in_ok-n.n
+    (subst (λ (ts : List Term). Stands c.selected.new.nodes c.projected.new.nodes c.in_ok-n.n (Project c.in_ok-narrower.narrower ts)) items c.in_ok-n.ensures.stands)
 
 -- ---- over a product
 
@@ -67,6 +156,10 @@ pairs_selected-paired-requires-clause-reads t c =
 pub pairs_selected-paired-requires-clause-joint : goal.pairs_selected-paired-requires-clause-joint
 pairs_selected-paired-requires-clause-joint t c =
     narrowed-both c.args.nodes.now c.pair_narrowed.new.nodes c.args.pair (map term_of c.as_slice.result.now) c.in_ok-narrowed.narrowed c.in_ok-narrowed.ensures.narrows
+
+pub pairs_selected-paired-requires-clause-apart : goal.pairs_selected-paired-requires-clause-apart
+pairs_selected-paired-requires-clause-apart t c =
+    narrowed-apart c.args.nodes.now c.pair_narrowed.new.nodes c.args.pair (map term_of c.as_slice.result.now) c.in_ok-narrowed.narrowed c.in_ok-narrowed.ensures.narrows
 
 pub pairs_selected-returns-clause-stands : goal.pairs_selected-returns-clause-stands
 pairs_selected-returns-clause-stands t c =

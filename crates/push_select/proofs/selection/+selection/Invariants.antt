@@ -11,6 +11,12 @@ decreases-pairs_selected l = 4 * l.input
 abbrev pub decreases-joins_selected : goal.decreases-joins_selected
 decreases-joins_selected l = 4 * l.input
 
+abbrev pub decreases-both_selected : goal.decreases-both_selected
+decreases-both_selected l = 4 * l.input
+
+abbrev pub decreases-columns_selected : goal.decreases-columns_selected
+decreases-columns_selected l = 4 * l.input
+
 abbrev pub decreases-pair_narrowed : goal.decreases-pair_narrowed
 decreases-pair_narrowed l = 4 * max l.pair.left l.pair.right + 3
 

@@ -24,6 +24,7 @@ returns c =
       parts = parts;
       same = c.in_ok-rest.ensures.same;
       reads = c.in_ok-rest.ensures.reads;
+      apart = c.in_ok-rest.ensures.apart;
       left = c.from-left.ensures ∙ (c.in_ok-left.ensures ∙ (ap (λ (cs : List (Bor Expr)). terms_lent cs) c.as_slice-3.ensures.value ∙ on_left));
       right = c.from-right.ensures
           ∙ (c.in_ok-right.ensures

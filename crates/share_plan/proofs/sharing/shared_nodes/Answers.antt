@@ -1,12 +1,14 @@
 use Rattle.std.proofs.Common.{rules, ◌≡◌, ◌∙◌, ℕ, List, [], ◌∷◌, ◌++◌, length, drop, ◌+◌, ap, sym, subst, Global}
 use Rattle.std.proofs.lemmas.Iterator.Adapters.{YieldsList-from_vec}
-use Rattle.std.proofs.lemmas.Iterator.Consumers.{YieldsList-turn, YieldsList-so_far}
+use Rattle.std.proofs.lemmas.Iterator.Consumers.{YieldsList-turn, YieldsList-so_far, YieldsList-end}
+use Rattle.std.proofs.lemmas.List.{map-id}
 use Rattle.algebra.specs.declared.node.Node.{Node}
 use Rattle.algebra.specs.Inputs.{left_input, right_input, with_inputs, IsAmong}
 use Rattle.algebra.specs.Mapping.{new_number}
 use Rattle.share_plan.specs.Kinds.{kind_of}
 use Rattle.share_plan.specs.Placing.{MayPut, IsPut}
 use Rattle.share_plan.proofs.Indexing.{index-distinct, index-merged}
+use Rattle.share_plan.proofs.Moving.{open-renumbered}
 use Rattle.share_plan.proofs.Rebuilding.{IsShared, taken, left_there, right_there, may_be_put, one_more}
 use Rattle.share_plan.proofs.sharing.shared_nodes.Goals as goal
 
@@ -66,3 +68,14 @@ returns-clause-distinct c = index-distinct _ _ c.loop-node.invariant.index
 
 pub returns-clause-merged : goal.returns-clause-merged
 returns-clause-merged c = index-merged _ _ c.loop-node.invariant.index
+
+pub returns-clause-renumbered : goal.returns-clause-renumbered
+returns-clause-renumbered c =
+    let items = c.into_vec-node-items.result.items in
+    let list = YieldsList-from_vec {Z = Global} items (search rules) (search rules) in
+    let end =
+    YieldsList-end list c.loop-node.yielded c.loop-node.node-iterator c.loop-node.yielded_by c.next.result c.next.new.self c.in-None.is c.next.ensures.steps in
+    let whole : c.loop-node.yielded ≡ c.args.old = sym (map-id c.loop-node.yielded) ∙ (end.0 ∙ c.into_vec-node-items.ensures.nodes) in
+    let shared : IsShared c.args.old c.args.old c.loop-node.shared.nodes.items c.loop-node.shared.sources.items c.loop-node.to.items c.loop-node.shared.index.keys =
+    subst (λ (yielded : List Node). IsShared c.args.old yielded c.loop-node.shared.nodes.items c.loop-node.shared.sources.items c.loop-node.to.items c.loop-node.shared.index.keys) whole c.loop-node.invariant in
+    open-renumbered _ _ _ c.into_vec-node-items.ensures.plan shared.mapped shared.moved shared.from

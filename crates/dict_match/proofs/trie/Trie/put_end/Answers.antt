@@ -19,8 +19,8 @@ returns c = λ put path r.
     let ends = c.args.self.now.ends.items in
     let seen : c.as_slice.result.now ≡ get_or ends c.args.node [] = c.as_slice.ensures ∙ c.index.ensures ∙ get_or_default ends c.args.node c.index.result.now [] c.requires.there in
     let lent : c.index_mut.result.now ≡ get_or ends c.args.node [] = c.index_mut.ensures.value ∙ get_or_default ends c.args.node c.index_mut.result.now [] c.requires.there in
-    let new : Trie = record { words = c.args.self.now.words; edges = c.args.self.now.edges; ends = with_item c.args.self.now.ends c.args.node c.push.new.self } in
-    Reaches-end c.args.self.now new put c.args.node path c.args.end refl refl
+    let new : Trie = record { words = c.args.self.now.words; edges = c.args.self.now.edges; ends = with_item c.args.self.now.ends c.args.node c.push.new.self; marks = c.args.self.now.marks } in
+    Reaches-end c.args.self.now new put c.args.node path c.args.end refl refl refl
     (ap (set ends c.args.node) (c.in_ok-push.ensures.ok ∙ ap (λ (es : List End). es ++ c.args.end ∷ []) lent))
     (λ there. let yes : c.is_listed.result ≡ true = c.is_listed.ensures.1 (subst (λ (es : List End). Contains es c.args.end) (sym seen) there) in
     let no : c.is_listed.result ≡ false = c.if-is_listed.false in cc)

@@ -5,6 +5,7 @@ use Rattle.algebra.specs.declared.node.Node.TheVariants.{Dict}
 use Rattle.algebra.specs.Nodes.{IsNode}
 use Rattle.algebra.specs.Shapes.{shapes_of}
 use Rattle.share_plan.specs.Placing.{IsFound}
+use Rattle.share_plan.proofs.Extending.{extends-trans}
 use Rattle.share_plan.proofs.Parts.{keeps_grows, keeps_trans}
 use Rattle.share_plan.proofs.Putting.{found_before}
 use Rattle.share_plan.proofs.index.Shared.put_part.Goals as goal
@@ -38,3 +39,6 @@ returns-clause-found c =
     let same : r.2 ≡ d = sym (get_or_from_slice_get dicts c.args.place r.2 0 known.2) ∙ get_or_from_slice_get dicts c.args.place d 0 listed in
     subst (λ (i : ℕ). IsFound nodes after c.in_ok-number.number i column d) known.0
     (subst (λ (k : ℕ). IsFound nodes after c.in_ok-number.number r.0 k d) known.1 (subst (λ (f : ℕ). IsFound nodes after c.in_ok-number.number r.0 r.1 f) same found))
+
+pub returns-clause-extends : goal.returns-clause-extends
+returns-clause-extends c = extends-trans _ _ _ c.in_ok-searching.ensures.extends c.in_ok-number.ensures.extends

@@ -1,0 +1,2 @@
+-- the results of items without a row
+pub mod EmptyItems

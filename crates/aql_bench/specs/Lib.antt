@@ -1,0 +1,2 @@
+-- the plan of items without a row
+pub mod EmptyPlans

@@ -1,0 +1,419 @@
+//! A run by workers: documents are evaluated in windows, several together.
+
+ghost use Rattle.std.specs.Prelude.{◌≡◌, ◌≢◌, ◌<◌, ◌≤◌, ◌+◌, ◌*◌, ◌^◌, ◌++◌, ℕ, [], ◌∷◌, false, true, not, IfOk, OnOk, OnErr, Option, List, MatchResult, None, length, map, drop};
+ghost use Rattle.algebra.specs.Plans.{Parts};
+ghost use Rattle.aql_io.specs.Causes.{Rose};
+ghost use Rattle.corpus_json.specs.Documents.{documents, is_bad_line};
+ghost use Rattle.corpus_json.specs.Inputs.{doc_of};
+ghost use Rattle.span_token.specs.Documents.{Doc};
+ghost use Rattle.aqlx_top.specs.Devices.{source_ends, source_between, sink_between};
+ghost use Rattle.aqlx_top.specs.Endings.{InPart};
+ghost use Rattle.aqlx_top.specs.Progress.{Stands, IsGoing, IsRunTo};
+ghost use Rattle.aqlx_top.specs.Planned.{line_by, names_in};
+ghost use Rattle.aqlx_top.specs.Turns.{Turned};
+ghost use Rattle.aqlx_top.specs.Windows.{meant_by, Fits};
+ghost use Rattle.window_lines.specs.Ahead.{IsAhead, IsFirstRead, IsReadOf};
+ghost use Rattle.window_lines.specs.Lines.{AreShort};
+
+use crate::asks::asks_for_tokens;
+use crate::put::put;
+use crate::run::{PIECE, Turn, finish, run};
+use crate::{CorpusFault, Status};
+use algebra::Plan;
+use aql_io::{Failed, Sink, Source};
+use corpus_json::{DocumentReader, Input, Layout, LineBuffer, Step};
+use plan_operators::Schedule;
+use row_values::Output;
+use span_token::OutOfMemory;
+use std::alloc::Global;
+use std::collections::VecDeque;
+use std::thread::Threads;
+use window_lines::{Hands, Parsed, append_short, append_window, read_ahead, read_line};
+use worker_pool::Crew;
+
+/// The most documents of a window.
+const MOST_DOCUMENTS: u32 = 1_024;
+
+/// How many bytes of lines make a window full.
+const MOST_BYTES: usize = 16_777_216;
+
+/// Documents of fewer bytes on average are evaluated by stretches, each by one thread alone.
+const SHORT: usize = 16_384;
+
+/// How many bytes that are ready pay for the threads that read their lines.
+const MANY_BYTES: usize = 131_072;
+
+/// How many bytes one read of the corpus may bring: more than a pipe holds, so that a read that brings as many
+/// comes from a file, which is never waited for.
+const ROOM: usize = 2_097_152;
+
+/// What a run keeps from line to line: lines that are pending, and behind them a window of documents whose
+/// lines aren't made yet, which has at most `most` documents and so many bytes of lines.
+#[derive(Drop)]
+pub(crate) struct Windowed<'p> {
+    pub plan: &'p Plan,
+    pub schedule: Schedule<'p>,
+    pub hands: Hands<'p>,
+    pub crew: Crew<'p>,
+    pub with_tokens: bool,
+    pub layout: Layout<'p>,
+    pub workers: usize,
+    pub reader: LineBuffer,
+    pub line: Vec<u8>,
+    pub documents: DocumentReader,
+    pub number: u64,
+    pub most: usize,
+    pub window: Vec<Input>,
+    pub bytes: usize,
+    pub pending: Vec<u8>,
+}
+
+/// Runs a plan over a corpus by so many workers: one evaluates line by line, and several in windows.
+pub(crate) fn run_by<R: Threads + Sync, S: Source, O: Sink>(
+    rt: &R,
+    alloc: Global,
+    workers: u32,
+    plan: &Plan,
+    outputs: &[Output],
+    corpus: &mut S,
+    out: &mut O,
+) -> Result<Status, OutOfMemory>
+    requires some { 1 ≤ workers }
+    requires outputs { outputs.now ≡ names_in plan.now }
+    ensures ran { IfOk result (IsRunTo (line_by plan.now)
+        (source_between S.left S.faults corpus.old corpus.new)
+        (sink_between O.held O.flushed O.faults out.old out.new)) }
+    ensures part { OnErr result (InPart (line_by plan.now)
+        (source_between S.left S.faults corpus.old corpus.new)
+        (O.held out.old) (O.held out.new)) }
+{
+    if workers > 1 {
+        run_in_windows(rt, alloc, workers, plan, outputs, corpus, out)
+    } else {
+        run(alloc, plan, outputs, corpus, out)
+    }
+}
+
+/// Runs a plan over a corpus as `run` does, with the documents evaluated in windows by so many workers.
+fn run_in_windows<R: Threads + Sync, S: Source, O: Sink>(
+    rt: &R,
+    alloc: Global,
+    workers: u32,
+    plan: &Plan,
+    outputs: &[Output],
+    corpus: &mut S,
+    out: &mut O,
+) -> Result<Status, OutOfMemory>
+    requires some { 1 ≤ workers }
+    requires outputs { outputs.now ≡ names_in plan.now }
+    ensures ran { IfOk result (IsRunTo (line_by plan.now)
+        (source_between S.left S.faults corpus.old corpus.new)
+        (sink_between O.held O.flushed O.faults out.old out.new)) }
+    ensures part { OnErr result (InPart (line_by plan.now)
+        (source_between S.left S.faults corpus.old corpus.new)
+        (O.held out.old) (O.held out.new)) }
+{
+    let mut work = begin_windows(alloc, workers, plan, outputs)?;
+    let mut ahead = VecDeque::new(alloc);
+    'lines: loop {
+        match send_between(out, &mut work) {
+            Ok(()) => {}
+            Err(Failed) => return Ok(Status::WriteFault),
+        }
+        match turn_in_window(rt, alloc, &mut work, &mut ahead, corpus)? {
+            Turn::Next => {}
+            Turn::Ended(status) => return Ok(finish(out, &work.pending, status)),
+        }
+    }
+}
+
+fn begin_windows<'p>(
+    alloc: Global,
+    workers: u32,
+    plan: &'p Plan,
+    outputs: &'p [Output],
+) -> Result<Windowed<'p>, OutOfMemory>
+    requires some { 1 ≤ workers }
+    requires outputs { outputs.now ≡ names_in plan.now }
+    ensures fits { IfOk result (Fits plan.now) }
+    ensures reader { IfOk result (λ work. work.reader ≡ record { ready = []; taken = 0; last = None }) }
+    ensures nothing { IfOk result (λ work. (work.pending.items ≡ []) × (work.window.items ≡ []) × (work.number ≡ 0)) }
+{
+    let schedule = Schedule::new(alloc, plan)?;
+    let with_tokens = asks_for_tokens(&schedule);
+    Ok(Windowed {
+        plan,
+        schedule,
+        hands: Hands::new(alloc, plan, workers)?,
+        crew: Crew::new(alloc, plan, workers)?,
+        with_tokens,
+        layout: Layout::new(alloc, outputs)?,
+        workers: workers as usize,
+        reader: LineBuffer::with_room(alloc, ROOM)?,
+        line: Vec::new(alloc),
+        documents: DocumentReader::new(alloc),
+        number: 0,
+        most: most_documents(plan) as usize,
+        window: Vec::new(alloc),
+        bytes: 0,
+        pending: Vec::new(alloc),
+    })
+}
+
+/// How many documents a window may have, so that the nodes of the plan on them are fewer than 2^32.
+fn most_documents(plan: &Plan) -> u32
+    ensures some { 0 < result }
+    ensures few { result * length plan.now.nodes < 2 ^ 32 }
+{
+    let nodes = plan.nodes().len();
+    if nodes == 0 {
+        MOST_DOCUMENTS
+    } else {
+        MOST_DOCUMENTS.min(u32::MAX / nodes)
+    }
+}
+
+/// Writes what is pending where no document is behind it, once it is a piece or the next line isn't whole
+/// yet, so that what is there stands on the output before the corpus is waited for.
+fn send_between<O: Sink>(out: &mut O, work: &mut Windowed<'_>) -> Result<(), Failed>
+    ensures sent { (piece : Doc → List ℕ) (left_before left_now : Option (List ℕ)) (faults_before faults_now : ℕ) (before : Option (List ℕ)) →
+        Stands piece (source_ends left_before left_now faults_before faults_now) before (O.held out.old) work.old.reader (meant_by piece work.old.pending.items work.old.window.items) work.old.number →
+        MatchResult result
+        (λ _. Stands piece (source_ends left_before left_now faults_before faults_now) before (O.held out.new) work.new.reader (meant_by piece work.new.pending.items work.new.window.items) work.new.number)
+        (λ _. InPart piece (source_ends left_before left_now faults_before faults_now) before (O.held out.new)) }
+    ensures fits { OnOk result ((plan : Parts) → Fits plan work.old → Fits plan work.new) }
+    ensures same { OnOk result ((work.new.reader ≡ work.old.reader) × (work.new.number ≡ work.old.number) × (work.new.most ≡ work.old.most) × (work.new.window.items ≡ work.old.window.items)) }
+    ensures stands { OnOk result (O.faults out.new ≡ O.faults out.old) }
+    ensures cause { OnErr result (Rose (O.faults out.old) (O.faults out.new)) }
+{
+    if is_to_send(work) {
+        put(out, &work.pending)?;
+        work.pending.clear();
+    }
+    Ok(())
+}
+
+/// Whether what is pending is to be written: no document is behind it, and it is a piece or the next line isn't
+/// whole yet.
+fn is_to_send(work: &Windowed<'_>) -> bool
+    ensures { result ≡ true → work.now.window.items ≡ [] }
+{
+    work.window.is_empty() && (work.pending.len() >= PIECE || !work.reader.has_line())
+}
+
+/// Looks at the next line, puts its document into the window, and evaluates the window where it is due: so
+/// it is empty at the end of the run.
+fn turn_in_window<R: Threads + Sync, S: Source>(
+    rt: &R,
+    alloc: Global,
+    work: &mut Windowed<'_>,
+    ahead: &mut VecDeque<Parsed>,
+    corpus: &mut S,
+) -> Result<Turn, OutOfMemory>
+    requires fits { Fits work.old.plan.now work.old }
+    requires read { IsAhead work.old.reader ahead.old.items }
+    requires below { length work.old.window.items < work.old.most }
+    requires room { work.old.number < 2 ^ 63 }
+    requires going { IsGoing work.old.reader }
+    ensures turned { (plan : Parts) (left : Option (List ℕ)) (faults : ℕ) (before now : Option (List ℕ)) → work.old.plan.now ≡ plan →
+        Stands (line_by plan) (source_ends left (S.left corpus.old) faults (S.faults corpus.old)) before now work.old.reader (meant_by (line_by plan) work.old.pending.items work.old.window.items) work.old.number →
+        Turned (line_by plan) (source_ends left (S.left corpus.new) faults (S.faults corpus.new)) before now work.new.reader (meant_by (line_by plan) work.new.pending.items work.new.window.items) work.new.number result }
+    ensures counts { IfOk result (λ came. came ≡ Turn.Next → work.new.number ≡ work.old.number + 1) }
+    ensures going { IfOk result (λ came. came ≡ Turn.Next → IsGoing work.new.reader) }
+    ensures fits { IfOk result (λ _. (plan : Parts) → Fits plan work.old → Fits plan work.new) }
+    ensures below { IfOk result (λ came. came ≡ Turn.Next → length work.new.window.items < work.new.most) }
+    ensures ended { IfOk result (λ came. came ≢ Turn.Next → work.new.window.items ≡ []) }
+    ensures read { IfOk result (λ _. IsAhead work.new.reader ahead.new.items) }
+{
+    read_before(rt, alloc, work.workers, &work.reader, ahead)?;
+    let turn = take_line(alloc, work, ahead, corpus)?;
+    if is_due(work, &turn) {
+        evaluate_window(rt, alloc, work)?;
+        Ok(turn)
+    } else {
+        Ok(turn)
+    }
+}
+
+/// Has the lines that are ready read by the workers, where none of them was and there are many bytes.
+fn read_before<R: Threads + Sync>(
+    rt: &R,
+    alloc: Global,
+    workers: usize,
+    reader: &LineBuffer,
+    ahead: &mut VecDeque<Parsed>,
+) -> Result<(), OutOfMemory>
+    requires some { 0 < workers }
+    requires read { IsAhead reader.now ahead.old.items }
+    ensures read { OnOk result (IsAhead reader.now ahead.new.items) }
+{
+    if ahead.is_empty() && reader.ready().len() >= MANY_BYTES {
+        *ahead = read_ahead(rt, alloc, workers, reader.ready())?;
+    }
+    Ok(())
+}
+
+/// Looks at the next line, and puts the document that it is into the window.
+fn take_line<S: Source>(
+    alloc: Global,
+    work: &mut Windowed<'_>,
+    ahead: &mut VecDeque<Parsed>,
+    corpus: &mut S,
+) -> Result<Turn, OutOfMemory>
+    requires read { IsAhead work.old.reader ahead.old.items }
+    requires short { AreShort work.old.window.items }
+    requires below { length work.old.window.items < work.old.most }
+    requires room { work.old.number < 2 ^ 63 }
+    requires going { IsGoing work.old.reader }
+    ensures turned { (piece : Doc → List ℕ) (left : Option (List ℕ)) (faults : ℕ) (before now : Option (List ℕ)) →
+        Stands piece (source_ends left (S.left corpus.old) faults (S.faults corpus.old)) before now work.old.reader (meant_by piece work.old.pending.items work.old.window.items) work.old.number →
+        Turned piece (source_ends left (S.left corpus.new) faults (S.faults corpus.new)) before now work.new.reader (meant_by piece work.new.pending.items work.new.window.items) work.new.number result }
+    ensures counts { IfOk result (λ came. came ≡ Turn.Next → work.new.number ≡ work.old.number + 1) }
+    ensures going { IfOk result (λ came. came ≡ Turn.Next → IsGoing work.new.reader) }
+    ensures fits { IfOk result (λ _. (plan : Parts) → Fits plan work.old → Fits plan work.new) }
+    ensures read { IfOk result (λ _. IsAhead work.new.reader ahead.new.items) }
+{
+    match work.reader.next_line(corpus, &mut work.line)? {
+        Step::Line => {
+            work.number += 1;
+            // no more bytes were taken than a corpus has, which bounds the number of lines
+            let _taken = work.reader.taken();
+            if take_document(
+                alloc,
+                &mut work.documents,
+                ahead,
+                &work.line,
+                &mut work.window,
+            )? {
+                work.bytes = work.bytes.saturating_add(work.line.len());
+                Ok(Turn::Next)
+            } else {
+                Ok(Turn::Ended(Status::Corpus(CorpusFault::BadLine(work.number))))
+            }
+        }
+        Step::End => Ok(Turn::Ended(Status::Done)),
+        Step::Long => Ok(Turn::Ended(Status::Corpus(CorpusFault::LineLong(work.number + 1)))),
+        Step::Failed => Ok(Turn::Ended(Status::ReadFault)),
+        Step::Limit => Ok(Turn::Ended(Status::Corpus(CorpusFault::CorpusLarge))),
+    }
+}
+
+/// Puts the document of a line behind the others; a blank line has none. False where the line is neither.
+fn take_document(
+    alloc: Global,
+    reader: &mut DocumentReader,
+    ahead: &mut VecDeque<Parsed>,
+    line: &[u8],
+    window: &mut Vec<Input>,
+) -> Result<bool, OutOfMemory>
+    requires line { length line.now ≤ 16777216 }
+    requires short { AreShort window.old.items }
+    requires first { IsFirstRead line.now ahead.old.items }
+    ensures good { IfOk result (λ good. is_bad_line line.now ≡ not good) }
+    ensures documents { IfOk result (λ good. map doc_of window.new.items ≡ map doc_of window.old.items ++ documents (line.now ∷ [])) }
+    ensures more { IfOk result (λ good. length window.new.items ≤ length window.old.items + 1) }
+    ensures short { IfOk result (λ good. AreShort window.new.items) }
+    ensures rest { IfOk result (λ good. ahead.new.items ≡ drop 1 ahead.old.items) }
+{
+    match line_read(alloc, reader, ahead, line)? {
+        Parsed::Document(input) => {
+            window.push(input)?;
+            Ok(true)
+        }
+        Parsed::Blank => Ok(true),
+        Parsed::Bad => Ok(false),
+    }
+}
+
+/// What the line is: what it was read as before it was given, where it was.
+fn line_read(
+    alloc: Global,
+    reader: &mut DocumentReader,
+    ahead: &mut VecDeque<Parsed>,
+    line: &[u8],
+) -> Result<Parsed, OutOfMemory>
+    requires first { IsFirstRead line.now ahead.old.items }
+    ensures read { IfOk result (IsReadOf line.now) }
+    ensures rest { IfOk result (λ _. ahead.new.items ≡ drop 1 ahead.old.items) }
+{
+    match ahead.pop_front() {
+        Some(parsed) => Ok(parsed),
+        None => read_line(alloc, reader, line),
+    }
+}
+
+/// Whether the window is to be evaluated: where the run ends, where it is full, or where the next line isn't
+/// whole yet and no more input may be there already.
+fn is_due(work: &Windowed<'_>, turn: &Turn) -> bool
+    ensures goes_on { result ≡ false → turn.now ≡ Turn.Next }
+    ensures below { result ≡ false → length work.now.window.items < work.now.most }
+{
+    match turn {
+        Turn::Next => {
+            work.window.len() >= work.most
+                || work.bytes >= MOST_BYTES
+                || !(work.reader.has_line() || work.reader.was_filled())
+        }
+        Turn::Ended(_) => true,
+    }
+}
+
+/// Evaluates the window, and puts the lines of its documents behind what is pending.
+fn evaluate_window<R: Threads + Sync>(
+    rt: &R,
+    alloc: Global,
+    work: &mut Windowed<'_>,
+) -> Result<(), OutOfMemory>
+    requires fits { Fits work.old.plan.now work.old }
+    ensures meant { OnOk result (work.new.pending.items ≡ meant_by (line_by work.old.plan.now) work.old.pending.items work.old.window.items) }
+    ensures empty { OnOk result (work.new.window.items ≡ []) }
+    ensures fits { OnOk result ((plan : Parts) → Fits plan work.old → Fits plan work.new) }
+    ensures same { OnOk result ((work.new.reader ≡ work.old.reader) × (work.new.number ≡ work.old.number) × (work.new.most ≡ work.old.most)) }
+{
+    append_lines(rt, alloc, work)?;
+    work.window.clear();
+    work.bytes = 0;
+    Ok(())
+}
+
+/// Puts the lines of the window's documents behind what is pending.
+fn append_lines<R: Threads + Sync>(
+    rt: &R,
+    alloc: Global,
+    work: &mut Windowed<'_>,
+) -> Result<(), OutOfMemory>
+    requires fits { Fits work.old.plan.now work.old }
+    ensures meant { OnOk result (work.new.pending.items ≡ meant_by (line_by work.old.plan.now) work.old.pending.items work.old.window.items) }
+    ensures fits { OnOk result ((plan : Parts) → Fits plan work.old → Fits plan work.new) }
+    ensures same { OnOk result ((work.new.reader ≡ work.old.reader) × (work.new.number ≡ work.old.number) × (work.new.most ≡ work.old.most)) }
+{
+    if is_of_short(work) {
+        append_short(
+            rt,
+            alloc,
+            &work.schedule,
+            work.with_tokens,
+            &work.layout,
+            &mut work.hands,
+            &work.window,
+            &mut work.pending,
+        )
+    } else {
+        append_window(
+            rt,
+            alloc,
+            work.plan,
+            work.with_tokens,
+            &work.layout,
+            &mut work.crew,
+            work.workers,
+            &work.window,
+            &mut work.pending,
+        )
+    }
+}
+
+/// Whether the window's documents are short, on average.
+fn is_of_short(work: &Windowed<'_>) -> bool {
+    work.bytes < SHORT.saturating_mul(work.window.len())
+}

@@ -1,0 +1,31 @@
+ghost use Rattle.std.specs.Prelude.{◌≡◌, IfOk};
+ghost use Rattle.std.specs.HashMap.{get_by_text};
+ghost use Rattle.dict_match.specs.Dictionaries.{folded};
+ghost use Rattle.dict_match.specs.Tries.{IsTrie};
+
+use crate::fold::{fold_into, is_plain};
+use crate::marks::mark_of;
+use crate::trie::Trie;
+use span_token::OutOfMemory;
+
+/// What the tree's words have for the full case folding of `text`.
+///
+/// Most ASCII texts that aren't words are told by their mark, without a fold and a look at the words. Takes
+/// memory only where `buffer` has no room for the folding.
+pub(crate) fn number_of_folded(
+    trie: &Trie,
+    text: &str,
+    buffer: &mut String,
+) -> Result<Option<usize>, OutOfMemory>
+    requires trie { IsTrie trie.now }
+    ensures { IfOk result (λ number. number ≡ get_by_text trie.now.words (folded text.now)) }
+{
+    if text.is_ascii() && !trie.marks[mark_of(text)] {
+        return Ok(None);
+    }
+    if is_plain(text) {
+        return Ok(trie.words.get(text).copied());
+    }
+    fold_into(text, buffer)?;
+    Ok(trie.words.get(buffer.as_str()).copied())
+}

@@ -1,5 +1,0 @@
-use Rattle.plan_operators.proofs.Placing.{unmarked-is}
-use Rattle.plan_operators.proofs.dicts.unmarked.Goals as goal
-
-pub returns : goal.returns
-returns c = unmarked-is c.values-values.result.now c.args.row.now c.in_ok-out.out c.extend.new.self c.values-values.ensures c.in_ok-out.ensures c.in_ok-extend.ensures.ok

@@ -1,0 +1,35 @@
+-- What the threads that write lines share.
+use denote.Param.Send.{IsSend, IsSync, sendable}
+use denote.Ref.{NamedLft}
+use denote.RattleType.{RattleType}
+use denote.Struct.Tuple.{TupleAt}
+use mir.Syntax.{Sym}
+use Rattle.std.specs.Prelude.{[], ◌∷◌}
+use Rattle.std.proofs.Crossing.{crosses}
+use Rattle.std.proofs.vec.Vec.TheSendSync as vec
+use Rattle.span_token.proofs.document.Document.TheSendSync as document
+use Rattle.corpus_json.proofs.write.layout.Layout.TheSendSync as layout
+use Rattle.scalar_ops.proofs.Crosses.{tools}
+use Rattle.plan_operators.specs.contracts.schedule.Schedule as Schedule
+use Rattle.worker_pool.proofs.Crosses.{Plan-sync}
+use Rattle.window_lines.specs.contracts.lines.Writing as Writing
+use Rattle.window_lines.specs.contracts.short.Hand as Hand
+use Rattle.window_lines.specs.contracts.short.Short as Short
+
+-- what they share may be shared
+pub Writing-sync : (a l d : NamedLft) → IsSync (Writing.the_row a l d)
+Writing-sync a l d = search (Plan-sync, layout.the_sync, document.the_sync, vec.the_sync, crosses, sendable) depth 60 fits 20000
+
+pub one_captured_sync : (ν : Sym) (A : RattleType) → IsSync A → IsSync (TupleAt ν (A ∷ []))
+one_captured_sync ν A a = search sendable depth 20
+
+Schedule-sync : (p : NamedLft) → IsSync (Schedule.the_row p)
+Schedule-sync p = search (Plan-sync, vec.the_sync, crosses, sendable) depth 60 fits 20000
+
+-- what threads share that evaluate short documents
+pub Short-sync : (a l p : NamedLft) → IsSync (Short.the_row a l p)
+Short-sync a l p = search (Schedule-sync, layout.the_sync, vec.the_sync, crosses, sendable) depth 60 fits 20000
+
+-- a hand may be sent: its tools
+pub Hand-send : (p : NamedLft) → IsSend (Hand.the_row p)
+Hand-send p = search (tools, vec.the_send, crosses, sendable) depth 60 fits 20000

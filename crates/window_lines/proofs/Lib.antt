@@ -1,0 +1,8 @@
+-- what the outputs of a plan show, by rows that are theirs
+pub mod Sharing
+-- stretches of lists
+pub mod Stretches
+-- parts of bytes, whose lines were read
+pub mod Parts
+-- what is shared among threads, and sent to them
+pub mod Crosses

@@ -1,0 +1,121 @@
+//! The line of one document, by one thread.
+
+ghost use Rattle.std.specs.Prelude.{◌≡◌, ◌≤◌, ◌++◌, All, IfOk, OnOk, IsSome, None, ◌<◌, length, map, slice_index_or};
+ghost use Rattle.corpus_json.specs.Inputs.{doc_of, doc_of_ref};
+ghost use Rattle.plan_operators.specs.Boards.{Holds, rows_there};
+ghost use Rattle.window_lines.specs.Lines.{line_by, names_in};
+
+use algebra::{Plan, PlanOut};
+use corpus_json::{Input, InputRef, Layout, append_document};
+use plan_operators::{Schedule, evaluate, rows_shown};
+use row_values::Rows;
+use scalar_ops::Tools;
+use span_token::{Document, OutOfMemory};
+use std::alloc::Global;
+use std::mem;
+
+/// Puts the line of a document behind what is pending; `line` is room for it.
+///
+/// `schedule` is the plan's, `layout` has its outputs, and `tools` are made of its tables. `with_tokens` says
+/// whether the document keeps its tokens, and changes no byte. The text is no longer than a line of the corpus.
+///
+/// Meaning: `line_by`, `specs/Lines.antt`.
+pub fn append_answer(
+    alloc: Global,
+    schedule: &Schedule<'_>,
+    with_tokens: bool,
+    layout: &Layout<'_>,
+    tools: &mut Tools<'_>,
+    input: InputRef<'_>,
+    line: &mut Vec<u8>,
+    pending: &mut Vec<u8>,
+) -> Result<(), OutOfMemory>
+    requires layout { layout.now ≡ names_in schedule.now }
+    requires tables { tools.old ≡ schedule.now.lists }
+    requires short { length input.text.now ≤ 16777216 }
+    ensures bytes { OnOk result (pending.new.items ≡ pending.old.items ++ line_by schedule.now (doc_of_ref input.entry)) }
+    ensures same { tools.new ≡ tools.old }
+{
+    let document = document_of(alloc, with_tokens, input)?;
+    let board = evaluate(alloc, tools, &document, schedule)?;
+    append_rows(
+        alloc,
+        schedule.plan(),
+        layout,
+        &document,
+        board.as_slice(),
+        line,
+        pending,
+    )
+}
+
+/// The document that was read, with its tokens kept or not.
+pub fn document_of<'d>(
+    alloc: Global,
+    with_tokens: bool,
+    input: InputRef<'d>,
+) -> Result<Document<'d>, OutOfMemory>
+    requires short { length input.text.now ≤ 16777216 }
+    ensures { IfOk result (λ document. document ≡ doc_of_ref input.entry) }
+{
+    if with_tokens {
+        Document::new(alloc, input.text, input.label)
+    } else {
+        Document::plain(alloc, input.text, input.label)
+    }
+}
+
+/// Puts the line of a document after what is pending; `board` has the rows of each output's node,
+/// and `line` is room for the line.
+fn append_rows<'d>(
+    alloc: Global,
+    plan: &Plan,
+    layout: &Layout<'_>,
+    document: &Document<'d>,
+    board: &[Option<Rows<'d>>],
+    line: &mut Vec<u8>,
+    pending: &mut Vec<u8>,
+) -> Result<(), OutOfMemory>
+    requires layout { layout.now ≡ names_in plan.now }
+    requires long { length board.now ≡ length plan.now.nodes }
+    requires shown { All (λ out. Holds plan.now.lists document.now plan.now.nodes out.node (slice_index_or board.now out.node None)) plan.now.outputs }
+    ensures bytes { OnOk result (pending.new.items ≡ pending.old.items ++ line_by plan.now document.now) }
+{
+    let shown = all_shown(alloc, plan.outputs(), board)?;
+    line.clear();
+    let empty = mem::replace(line, Vec::new(alloc));
+    *line = append_document(alloc, empty, document, layout, shown.as_slice())?;
+    pending.extend_from_slice(line)?;
+    Ok(())
+}
+
+/// The rows that each output shows.
+pub fn all_shown<'r, 'd>(
+    alloc: Global,
+    outputs: &[PlanOut],
+    board: &'r [Option<Rows<'d>>],
+) -> Result<Vec<&'r Rows<'d>>, OutOfMemory>
+    requires there { All (λ out. out.node < length board.now) outputs.now }
+    requires shown { All (λ out. IsSome (slice_index_or board.now out.node None)) outputs.now }
+    ensures { IfOk result (λ shown. map (λ list. list.now) shown.items ≡ map (λ out. rows_there (slice_index_or board.now out.node None)) outputs.now) }
+{
+    let mut shown = Vec::new(alloc);
+    for out in outputs {
+        shown.push(rows_shown(board, out))?;
+    }
+    Ok(shown)
+}
+
+/// A document with its texts borrowed.
+pub fn lent(input: &Input) -> InputRef<'_>
+    ensures { doc_of_ref result ≡ doc_of input.now }
+{
+    let label = match &input.label {
+        Some(label) => Some(label.as_str()),
+        None => None,
+    };
+    InputRef {
+        label,
+        text: input.text.as_str(),
+    }
+}

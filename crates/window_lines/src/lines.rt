@@ -1,0 +1,195 @@
+//! The lines of a window, written in stretches.
+
+ghost use Rattle.std.specs.Prelude.{◌≡◌, ◌<◌, ◌≤◌, ◌*◌, ◌++◌, ℕ, IfOk, OnOk, length, map, vec_len, slice_index_or};
+ghost use Rattle.std.specs.Arc.{arc_value};
+ghost use Rattle.std.specs.Fork.{slice_chunk};
+ghost use Rattle.std.specs.List.{flat_map};
+ghost use Rattle.algebra.specs.Plans.{Parts};
+ghost use Rattle.span_token.specs.Documents.{Doc};
+ghost use Rattle.worker_pool.specs.Evaluations.{AreAnswers, AreOutputRows};
+ghost use Rattle.window_lines.specs.Lines.{line_by, names_in};
+
+use crate::stretch::{stretch, stretch_count, stretch_size};
+use algebra::Plan;
+use corpus_json::{Layout, append_document};
+use row_values::Rows;
+use span_token::{Document, OutOfMemory};
+use std::alloc::Global;
+use std::mem;
+use std::ops::Deref;
+use std::sync::Arc;
+use std::thread::{self, Threads};
+
+/// What the threads that write lines share; `answers` has for each document the rows of each output.
+#[derive(Drop)]
+struct Writing<'a, 'l, 'd> {
+    alloc: Global,
+    plan: &'a Plan,
+    layout: &'a Layout<'l>,
+    size: usize,
+    docs: &'a [Document<'d>],
+    answers: &'a [Vec<Arc<Rows<'d>, Global>>],
+    ghost some: { 0 < size },
+    ghost of_plan: { layout.now ≡ names_in plan.now },
+}
+
+impl<'a, 'l, 'd> Writing<'a, 'l, 'd> {
+    /// The lines of the stretch of number `n`.
+    fn part(&self, n: usize) -> Result<Vec<u8>, OutOfMemory>
+        requires begun { n * self.now.size < length self.now.docs.now }
+        requires shown { AreAnswers self.now.plan.now self.now.docs.now (map (λ rows. map arc_value rows.items) self.now.answers.now) }
+        ensures { IfOk result (λ lines. lines.items ≡ flat_map (line_by self.now.plan.now) (slice_chunk self.now.docs.now self.now.size n)) }
+    {
+        let mut lines = Vec::new(self.alloc);
+        append_answers(
+            self.alloc,
+            self.plan,
+            self.layout,
+            stretch(self.docs, self.size, n),
+            stretch(self.answers, self.size, n),
+            &mut lines,
+        )?;
+        Ok(lines)
+    }
+}
+
+/// Puts the lines of documents behind what is pending, in their order, made in so many threads at most;
+/// `answers` has for each document the rows of each output.
+pub(crate) fn append_lines<'d, R: Threads + Sync>(
+    rt: &R,
+    alloc: Global,
+    threads: usize,
+    plan: &Plan,
+    layout: &Layout<'_>,
+    docs: &[Document<'d>],
+    answers: &[Vec<Arc<Rows<'d>, Global>>],
+    pending: &mut Vec<u8>,
+) -> Result<(), OutOfMemory>
+    requires some { 0 < threads }
+    requires layout { layout.now ≡ names_in plan.now }
+    requires answers { AreAnswers plan.now docs.now (map (λ rows. map arc_value rows.items) answers.now) }
+    ensures bytes { OnOk result (pending.new.items ≡ pending.old.items ++ flat_map (line_by plan.now) docs.now) }
+{
+    if threads == 1 {
+        return append_answers(alloc, plan, layout, docs, answers, pending);
+    }
+    let size = stretch_size(docs.len(), threads);
+    let writing = Writing {
+        alloc,
+        plan,
+        layout,
+        size,
+        docs,
+        answers,
+    };
+    let parts = parts_of(rt, &writing)?;
+    append_parts(plan, docs, size, parts, pending)
+}
+
+/// The lines of each stretch.
+fn parts_of<R: Threads + Sync>(
+    rt: &R,
+    writing: &Writing<'_, '_, '_>,
+) -> Result<Vec<Result<Vec<u8>, OutOfMemory>>, OutOfMemory>
+    requires shown { AreAnswers writing.now.plan.now writing.now.docs.now (map (λ rows. map arc_value rows.items) writing.now.answers.now) }
+    ensures all { IfOk result (λ parts. length writing.now.docs.now ≤ vec_len parts * writing.now.size) }
+    ensures each { IfOk result (λ parts. (n : ℕ) (d : _) → n < vec_len parts →
+        IfOk (slice_index_or parts.items n d) (λ lines. lines.items ≡ flat_map (line_by writing.now.plan.now) (slice_chunk writing.now.docs.now writing.now.size n))) }
+{
+    let count = stretch_count(writing.docs.len(), writing.size);
+    let job = |n: usize| -> Result<Vec<u8>, OutOfMemory>
+        requires { (n * writing.now.size < length writing.now.docs.now) × AreAnswers writing.now.plan.now writing.now.docs.now (map (λ rows. map arc_value rows.items) writing.now.answers.now) }
+        ensures { IfOk result (λ lines. lines.items ≡ flat_map (line_by writing.entry.now.plan.now) (slice_chunk writing.entry.now.docs.now writing.entry.now.size n)) }
+    { writing.part(n) };
+    let parts = thread::map_indices(rt, writing.alloc, count, &job)?;
+    Ok(parts)
+}
+
+/// Puts the lines of all stretches behind what is pending.
+fn append_parts(
+    plan: &Plan,
+    docs: &[Document<'_>],
+    size: usize,
+    parts: Vec<Result<Vec<u8>, OutOfMemory>>,
+    pending: &mut Vec<u8>,
+) -> Result<(), OutOfMemory>
+    requires all { length docs.now ≤ vec_len parts * size }
+    requires each { (n : ℕ) (d : _) → n < vec_len parts →
+        IfOk (slice_index_or parts.items n d) (λ lines. lines.items ≡ flat_map (line_by plan.now) (slice_chunk docs.now size n)) }
+    ensures bytes { OnOk result (pending.new.items ≡ pending.old.items ++ flat_map (line_by plan.now) docs.now) }
+{
+    let _ = plan;
+    let _ = docs;
+    let _ = size;
+    for part in parts {
+        let lines = part?;
+        pending.extend_from_slice(lines.as_slice())?;
+    }
+    Ok(())
+}
+
+/// Puts the lines of documents behind what is pending, one after another.
+fn append_answers<'d>(
+    alloc: Global,
+    plan: &Plan,
+    layout: &Layout<'_>,
+    docs: &[Document<'d>],
+    answers: &[Vec<Arc<Rows<'d>, Global>>],
+    pending: &mut Vec<u8>,
+) -> Result<(), OutOfMemory>
+    requires layout { layout.now ≡ names_in plan.now }
+    requires answers { AreAnswers plan.now docs.now (map (λ rows. map arc_value rows.items) answers.now) }
+    ensures bytes { OnOk result (pending.new.items ≡ pending.old.items ++ flat_map (line_by plan.now) docs.now) }
+{
+    let mut line = Vec::new(alloc);
+    for d in 0..docs.len() {
+        append_shared(
+            alloc,
+            plan,
+            layout,
+            &docs[d],
+            answers[d].as_slice(),
+            &mut line,
+            pending,
+        )?;
+    }
+    Ok(())
+}
+
+/// Puts the line of a document behind what is pending; `rows` are those of each output, and `line` is room
+/// for the line.
+fn append_shared<'d>(
+    alloc: Global,
+    plan: &Plan,
+    layout: &Layout<'_>,
+    document: &Document<'d>,
+    rows: &[Arc<Rows<'d>, Global>],
+    line: &mut Vec<u8>,
+    pending: &mut Vec<u8>,
+) -> Result<(), OutOfMemory>
+    requires layout { layout.now ≡ names_in plan.now }
+    requires rows { AreOutputRows plan.now document.now (map arc_value rows.now) }
+    ensures bytes { OnOk result (pending.new.items ≡ pending.old.items ++ line_by plan.now document.now) }
+{
+    let _ = plan.outputs();
+    let shown = all_lent(alloc, rows)?;
+    line.clear();
+    let empty = mem::replace(line, Vec::new(alloc));
+    *line = append_document(alloc, empty, document, layout, shown.as_slice())?;
+    pending.extend_from_slice(line)?;
+    Ok(())
+}
+
+/// Shared rows, borrowed.
+fn all_lent<'r, 'd>(
+    alloc: Global,
+    rows: &'r [Arc<Rows<'d>, Global>],
+) -> Result<Vec<&'r Rows<'d>>, OutOfMemory>
+    ensures { IfOk result (λ shown. map (λ list. list.now) shown.items ≡ map arc_value rows.now) }
+{
+    let mut shown = Vec::with_capacity(alloc, rows.len())?;
+    for list in rows {
+        shown.push(list.deref())?;
+    }
+    Ok(shown)
+}

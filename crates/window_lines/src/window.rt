@@ -1,0 +1,124 @@
+ghost use Rattle.std.specs.Prelude.{◌≡◌, ◌<◌, ◌*◌, ◌^◌, ◌++◌, OnOk, length, map};
+ghost use Rattle.std.specs.List.{flat_map};
+ghost use Rattle.corpus_json.specs.Inputs.{doc_of};
+ghost use Rattle.window_lines.specs.Lines.{line_by, names_in, AreShort};
+
+use crate::documents::documents_of;
+use crate::lines::append_lines;
+use algebra::Plan;
+use corpus_json::{Input, Layout};
+use row_values::Rows;
+use span_token::{Document, OutOfMemory};
+use std::alloc::Global;
+use std::sync::Arc;
+use std::thread::Threads;
+use worker_pool::{Crew, Open, evaluate};
+
+/// How many bytes of text pay for the threads that look for their tokens.
+const MANY_BYTES: usize = 131_072;
+
+/// How many rows pay for the threads that write them.
+const MANY_ROWS: usize = 2_048;
+
+/// Puts the output lines of a window's documents behind what is pending, in their order.
+///
+/// The plan is evaluated by the workers of `crew`, and where the window is large enough its documents are
+/// made, and its lines written, in `threads` threads at most; the bytes are the same for every number.
+/// `with_tokens` says whether documents keep their tokens, and changes no byte. `layout` has the plan's
+/// outputs, and the texts are no longer than a line of the corpus.
+///
+/// Meaning: `line_by`, `specs/Lines.antt`: for each output the value of its node on the document.
+pub fn append_window<R: Threads + Sync>(
+    rt: &R,
+    alloc: Global,
+    plan: &Plan,
+    with_tokens: bool,
+    layout: &Layout<'_>,
+    crew: &mut Crew<'_>,
+    threads: usize,
+    inputs: &[Input],
+    pending: &mut Vec<u8>,
+) -> Result<(), OutOfMemory>
+    requires some { 0 < threads }
+    requires layout { layout.now ≡ names_in plan.now }
+    requires of_plan { crew.old ≡ plan.now.lists }
+    requires few { length inputs.now * length plan.now.nodes < 2 ^ 32 }
+    requires short { AreShort inputs.now }
+    ensures bytes { OnOk result (pending.new.items ≡ pending.old.items ++ flat_map (line_by plan.now) (map doc_of inputs.now)) }
+    ensures same { crew.new ≡ crew.old }
+{
+    if inputs.is_empty() {
+        return Ok(());
+    }
+    let readers = if with_tokens && byte_count(inputs) >= MANY_BYTES {
+        threads
+    } else {
+        1
+    };
+    let docs = documents_of(rt, alloc, with_tokens, readers, inputs)?;
+    append_documents(
+        rt,
+        alloc,
+        plan,
+        layout,
+        crew,
+        threads,
+        docs.as_slice(),
+        pending,
+    )
+}
+
+/// Puts the lines of documents behind what is pending.
+fn append_documents<'d, R: Threads + Sync>(
+    rt: &R,
+    alloc: Global,
+    plan: &'d Plan,
+    layout: &Layout<'_>,
+    crew: &mut Crew<'_>,
+    threads: usize,
+    docs: &'d [Document<'d>],
+    pending: &mut Vec<u8>,
+) -> Result<(), OutOfMemory>
+    requires some { 0 < threads }
+    requires layout { layout.now ≡ names_in plan.now }
+    requires of_plan { crew.old ≡ plan.now.lists }
+    requires few { length docs.now * length plan.now.nodes < 2 ^ 32 }
+    ensures bytes { OnOk result (pending.new.items ≡ pending.old.items ++ flat_map (line_by plan.now) docs.now) }
+    ensures same { crew.new ≡ crew.old }
+{
+    let answer = evaluate(rt, alloc, plan, docs, crew, &Open)?.into_rows();
+    let answers = answer.docs.as_slice();
+    let writers = if row_count(answers) >= MANY_ROWS {
+        threads
+    } else {
+        1
+    };
+    append_lines(rt, alloc, writers, plan, layout, docs, answers, pending)
+}
+
+/// How many bytes of text there are.
+fn byte_count(inputs: &[Input]) -> usize {
+    let mut bytes: usize = 0;
+    for input in inputs {
+        bytes = bytes.saturating_add(input.text.as_str().len());
+    }
+    bytes
+}
+
+/// How many rows there are, of all outputs.
+fn row_count(answers: &[Vec<Arc<Rows<'_>, Global>>]) -> usize {
+    let mut rows: usize = 0;
+    for answer in answers {
+        rows = rows.saturating_add(rows_of(answer.as_slice()));
+    }
+    rows
+}
+
+/// How many rows one document has.
+fn rows_of(lists: &[Arc<Rows<'_>, Global>]) -> usize {
+    let mut rows: usize = 0;
+    for list in lists {
+        rows = rows.saturating_add(list.len() as usize);
+    }
+    rows
+}
