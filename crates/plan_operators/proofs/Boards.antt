@@ -1,19 +1,21 @@
 -- The rows of nodes, made of those of their inputs.
 use Rattle.std.proofs.Common.{◌≡◌, ◌∙◌, ◌<◌, ◌≤◌, ◌+◌, ◌^◌, ◌++◌, ◌∷◌, ℕ, List, [], Option, Some, None, length, refl, sym, ap, ap₂, subst, arith, ⊎_elim, Bool}
-use Rattle.std.specs.Prelude.{slice_index_or, IsSome}
+use Rattle.std.specs.Prelude.{slice_index_or, IfSome, IsSome, map, true, ◌⊎◌, Contains}
+use Rattle.std.proofs.Common.{inl, inr, rules}
 use Rattle.std.proofs.lemmas.Bool.{cases_lt}
 use Rattle.std.proofs.lemmas.List.{length-append}
 use Rattle.std.proofs.Math.ListN.{get_or-append}
 use Rattle.std.proofs.Math.Seq.{get_or-append_seam}
 use Rattle.std.proofs.lemmas.List.Elements.{All-nil, All-weaker}
 use Rattle.aql_base.specs.Bags.{SameBag}
+use Rattle.aql_base.specs.CountLaws.{length-SameBag}
 use Rattle.aql_base.specs.BagLaws.{SameBag-is, SameBag-refl, SameBag-sym, SameBag-trans}
 use Rattle.span_token.specs.Documents.{Doc}
 use Rattle.row_values.specs.Datums.{IsOfDocument}
 use Rattle.row_values.specs.Rows.{RowList, RowsLieIn, product}
 use Rattle.row_values.specs.RowBags.{RowsLieIn-product}
 use Rattle.scalar_ops.specs.Expressions.{Term}
-use Rattle.aql_typed.specs.Meaning.{selected}
+use Rattle.aql_typed.specs.Meaning.{Rows, selected}
 use Rattle.scalar_ops.specs.Tables.{Lists}
 use Rattle.std.specs.List.{All}
 use Rattle.algebra.specs.declared.node.Node.{Node}
@@ -24,31 +26,98 @@ use Rattle.algebra.specs.FoldLaws.{length-each}
 use Rattle.algebra.specs.Folds.{of_input}
 use Rattle.algebra.specs.Plans.{IsOutput, AreOutputs}
 use Rattle.algebra.specs.Growth.{IsAt}
-use Rattle.algebra.specs.Inputs.{left_input, right_input, IsAmong}
+use Rattle.algebra.specs.Inputs.{left_input, right_input, is_conditional, IsAmong}
+use Rattle.algebra.specs.JoiningLaws.{conditional-nil}
+use Rattle.algebra.specs.Needed as needs
 use Rattle.algebra.specs.OperatorLaws.{op-SameBag}
 use Rattle.algebra.specs.Operators.{op}
 use Rattle.algebra.specs.Shapes.{no_shape, shapes_of, shape_by}
 use Rattle.algebra.specs.Values.{all_values, val}
-use Rattle.plan_operators.specs.Boards.{IsOf, Holds, IsInput, IsOnBoard, read_until, IsKeptFor, IsBoard, no_rows, rows_there}
+use Rattle.plan_operators.specs.Boards.{IsOf, Holds, HasAsked, HasNeeded, IsBoard, IsEmptyInput, IsInput, IsOnBoard, IsRightThere, IsSpared, IsTaken, IsThere, input_on, no_rows, read_until, rows_or_none}
 use Rattle.plan_operators.specs.Given.{MayRead}
 
+none_of : (xs : Rows) → length xs ≡ 0 → xs ≡ []
+none_of [] e = refl
+none_of (x ∷ xs) e = absurd (omega (arith, e))
+
+-- a bag of none
+pub same_none : (xs ys : Rows) → SameBag xs ys → ys ≡ [] → xs ≡ []
+same_none xs ys same e = none_of xs (length-SameBag xs ys same ∙ ap (λ (zs : Rows). length zs) e)
+
 module _ (lists : Lists) (doc : Doc) (nodes : List Node) where
-  held : (i : ℕ) (o : Option RowList) → Holds lists doc nodes i o → IsInput lists doc nodes (Some i) (rows_there o)
-  held i None h = absurd h
-  held i (Some list) h = record { same = h.same; wide = h.wide; lies = h.lies }
+  width_of : ℕ → ℕ
+  width_of i = (slice_index_or (shapes_of nodes) i no_shape).width
 
-  there : (i : ℕ) (o : Option RowList) → Holds lists doc nodes i o → IsSome o
-  there i None h = absurd h
-  there i (Some list) h = refl
+  held : (i w : ℕ) (o : Option RowList) → IsSome o → IfSome o (IsOf lists doc nodes i) → IsInput lists doc nodes (Some i) (rows_or_none w o)
+  held i w None some h = absurd (none_some some)
+    where
+      none_some : IsSome {A = RowList} None → ⊥
+      none_some e = search (rules, e)
+  held i w (Some list) some h = record { same = h.same; wide = h.wide; lies = h.lies }
 
-  module _ (untils : List ℕ) (board : List (Option RowList)) (has : IsBoard lists doc nodes untils board) where
-    -- an input that is kept for the next node has its rows on the board
-    pub on_board : (o : Option ℕ) → IsAmong (length board) o → IsKeptFor (length board) untils o → IsOnBoard lists doc nodes board o
-    on_board None among kept = record { among = tt; present = tt; has = record { same = SameBag-refl []; wide = refl; lies = All-nil (All (IsOfDocument doc)) } }
-    on_board (Some i) among kept = record {
+  fits : (i : ℕ) (o : Option RowList) → IfSome o (IsOf lists doc nodes i) → ((rows_or_none (width_of i) o).width ≡ width_of i) × RowsLieIn doc (rows_or_none (width_of i) o).rows
+  fits i None h = (refl, All-nil (All (IsOfDocument doc)))
+  fits i (Some list) h = (h.wide, h.lies)
+
+  module _ (board : List (Option RowList)) (has : IsBoard lists doc nodes board) where
+    -- an input that is there is on the board
+    pub on_board : (o : Option ℕ) → IsAmong (length board) o → IsThere board o → IsOnBoard lists doc nodes board o
+    on_board None among present = record { among = tt; present = tt; has = record { same = SameBag-refl []; wide = refl; lies = All-nil (All (IsOfDocument doc)) } }
+    on_board (Some i) among present = record {
       among = among;
-      present = there i (slice_index_or board i None) (has.each i among kept);
-      has = held i (slice_index_or board i None) (has.each i among kept);
+      present = present;
+      has = held i (width_of i) (slice_index_or board i None) present (has.each i among);
+    }
+
+    -- where an input has no row on the board it is worth none
+    pub empty_none : (o : Option ℕ) → IsEmptyInput board o → of_input [] (all_values lists doc nodes) o ≡ []
+    empty_none None empty = refl
+    empty_none (Some i) empty =
+        let is : IsOf lists doc nodes i empty.list = subst (λ (o : Option RowList). IfSome o (IsOf lists doc nodes i)) empty.list_is (has.each i empty.there) in
+        same_none (val lists doc nodes i) empty.list.rows (SameBag-sym empty.list.rows (val lists doc nodes i) is.same) empty.none
+
+    fit : (o : Option ℕ) → IsAmong (length board) o → ((input_on nodes board o).width ≡ (of_input no_shape (shapes_of nodes) o).width) × RowsLieIn doc (input_on nodes board o).rows
+    fit None among = (refl, All-nil (All (IsOfDocument doc)))
+    fit (Some i) among = fits i (slice_index_or board i None) (has.each i among)
+
+    -- what a node asks for is there
+    pub right_there : (node : Node) → IsAmong (length board) (right_input node) → HasAsked board node → IsRightThere lists doc nodes board node
+    right_there node among asked =
+        ⊎_elim (λ (present : IsThere board (right_input node)). inl (on_board (right_input node) among present))
+        (λ (spared : (is_conditional node ≡ true) × IsEmptyInput board (left_input node)).
+        let fitting = fit (right_input node) among in
+        inr (record { conditional = spared.0; none = empty_none (left_input node) spared.1; among = among; wide = fitting.0; lies = fitting.1 }))
+        asked.right
+
+    -- rows that were taken off it are those of their input
+    pub taken_is : (left right : Option ℕ) (rows : RowList) → IsAmong (length board) left → IsTaken left right rows board → IsInput lists doc nodes left rows
+    taken_is left right rows among taken =
+        let below : taken.place < length board = subst (IsAmong (length board)) taken.is_left among in
+        let is : IsOf lists doc nodes taken.place rows = subst (λ (o : Option RowList). IfSome o (IsOf lists doc nodes taken.place)) taken.rows_are (has.each taken.place below) in
+        subst (λ (o : Option ℕ). IsInput lists doc nodes o rows) (sym taken.is_left) (record { same = is.same; wide = is.wide; lies = is.lies })
+
+    -- and what is left of it is right as well
+    pub board_less : (new : List (Option RowList)) → length new ≡ length board
+        → ((m : ℕ) → (slice_index_or new m None ≡ None) ⊎ (slice_index_or new m None ≡ slice_index_or board m None)) → IsBoard lists doc nodes new
+    board_less new long less = record {
+      each = λ n below.
+          ⊎_elim (λ (gone : slice_index_or new n None ≡ None). subst (λ (o : Option RowList). IfSome o (IsOf lists doc nodes n)) (sym gone) tt)
+          (λ (same : slice_index_or new n None ≡ slice_index_or board n None). subst (λ (o : Option RowList). IfSome o (IsOf lists doc nodes n)) (sym same) (has.each n (omega (arith, below, long))))
+          (less n);
+    }
+
+    -- the board after one more node
+    pub board_next : (o : Option RowList) → IfSome o (IsOf lists doc nodes (length board)) → IsBoard lists doc nodes (board ++ o ∷ [])
+    board_next o now = record {
+      each = λ m below.
+          let size : length (board ++ o ∷ []) ≡ length board + 1 = length-append board (o ∷ []) in
+          ⊎_elim
+          (λ (before : m < length board). subst (λ (p : Option RowList). IfSome p (IsOf lists doc nodes m)) (sym (get_or-append board (o ∷ []) None m before)) (has.each m before))
+          (λ (last : length board ≤ m).
+          let is : m ≡ length board = omega (arith, last, below, size) in
+          subst (λ (k : ℕ). IfSome (slice_index_or (board ++ o ∷ []) k None) (IsOf lists doc nodes k)) (sym is)
+          (subst (λ (p : Option RowList). IfSome p (IsOf lists doc nodes (length board))) (sym (get_or-append_seam board o [] None)) now))
+          (cases_lt m (length board));
     }
 
   -- an input whose rows stand as they stood is on the board
@@ -60,54 +129,98 @@ module _ (lists : Lists) (doc : Doc) (nodes : List Node) where
       record {
         among = subst (λ (k : ℕ). i < k) (sym long) on.among;
         present = subst IsSome (sym e) on.present;
-        has = subst (λ (o : Option RowList). IsInput lists doc nodes (Some i) (rows_there o)) (sym e) on.has;
+        has = subst (λ (o : Option RowList). IsInput lists doc nodes (Some i) (rows_or_none (width_of i) o)) (sym e) on.has;
       }
 
-  -- the board after one more node
-  pub board_next : (untils : List ℕ) (old new : List (Option RowList)) (o : Option RowList) → length new ≡ length old → IsBoard lists doc nodes untils old
-      → ((m : ℕ) → length old + 1 < read_until untils m → slice_index_or new m None ≡ slice_index_or old m None)
-      → (0 < read_until untils (length old) → Holds lists doc nodes (length old) o) → IsBoard lists doc nodes untils (new ++ o ∷ [])
-  board_next untils old new o long has same now = record { each = each }
-    where
-      each : (m : ℕ) → m < length (new ++ o ∷ []) → length (new ++ o ∷ []) < read_until untils m → Holds lists doc nodes m (slice_index_or (new ++ o ∷ []) m None)
-      each m below read =
-          let size : length (new ++ o ∷ []) ≡ length old + 1 = length-append new (o ∷ []) ∙ ap (λ (k : ℕ). k + 1) long in
-          ⊎_elim
-          (λ (before : m < length old).
-          subst (Holds lists doc nodes m) (sym (get_or-append new (o ∷ []) None m (omega (arith, before, long)) ∙ same m (subst (λ (k : ℕ). k < read_until untils m) size read)))
-          (has.each m before (omega (arith, size, read))))
-          (λ (last : length old ≤ m).
-          let is : m ≡ length old = omega (arith, last, below, size) in
-          let at : slice_index_or (new ++ o ∷ []) (length old) None ≡ o = subst (λ (k : ℕ). slice_index_or (new ++ o ∷ []) k None ≡ o) long (get_or-append_seam new o [] None) in
-          subst (λ (k : ℕ). Holds lists doc nodes k (slice_index_or (new ++ o ∷ []) k None)) (sym is)
-          (subst (Holds lists doc nodes (length old)) (sym at) (now (subst (λ (k : ℕ). 0 < read_until untils k) is (omega (arith, size, read))))))
-          (cases_lt m (length old))
+  same_input : (old new : List (Option RowList)) (o : Option ℕ) → ((m : ℕ) → o ≡ Some m → slice_index_or new m None ≡ slice_index_or old m None) → input_on nodes new o ≡ input_on nodes old o
+  same_input old new None same = refl
+  same_input old new (Some i) same = ap (rows_or_none (width_of i)) (same i refl)
 
-  module _ (n : ℕ) (node : Node) (at : IsAt nodes n node) (left right : RowList) (l : IsInput lists doc nodes (left_input node) left) (r : IsInput lists doc nodes (right_input node) right) where
-    -- the node may read them
-    pub may_read : MayRead node left right
-    may_read = record {
-      left_shape = of_input no_shape (shapes_of nodes) (left_input node);
-      right_shape = of_input no_shape (shapes_of nodes) (right_input node);
-      left_width = l.wide;
-      right_width = r.wide;
-      made = at.valid.made;
-    }
+  among_still : (old new : List (Option RowList)) (o : Option ℕ) → length new ≡ length old → IsAmong (length old) o → IsAmong (length new) o
+  among_still old new o long among = subst (λ (k : ℕ). IsAmong k o) (sym long) among
 
-    -- and what its operator gives of them are its rows
-    pub node_is : (out : RowList) → SameBag out.rows (op lists doc node left.rows right.rows)
+  -- and so is the right input of a node, or it isn't asked for
+  pub right_still : (old new : List (Option RowList)) (node : Node) → length new ≡ length old
+      → ((m : ℕ) → right_input node ≡ Some m → slice_index_or new m None ≡ slice_index_or old m None) → IsRightThere lists doc nodes old node → IsRightThere lists doc nodes new node
+  right_still old new node long same right =
+      let e = same_input old new (right_input node) same in
+      ⊎_elim (λ (on : IsOnBoard lists doc nodes old (right_input node)). inl (still_there old new (right_input node) long same on))
+      (λ (spared : IsSpared lists doc nodes old node).
+      inr
+      (record {
+        conditional = spared.conditional;
+        none = spared.none;
+        among = among_still old new (right_input node) long spared.among;
+        wide = ap (λ (list : RowList). list.width) e ∙ spared.wide;
+        lies = subst (λ (list : RowList). RowsLieIn doc list.rows) (sym e) spared.lies;
+      }))
+      right
+
+  module _ (n : ℕ) (node : Node) (at : IsAt nodes n node) (left right : RowList) (l : IsInput lists doc nodes (left_input node) left) where
+    abbrev left_worth : Rows
+    left_worth = of_input [] (all_values lists doc nodes) (left_input node)
+
+    abbrev right_worth : Rows
+    right_worth = of_input [] (all_values lists doc nodes) (right_input node)
+
+    module _ (wide_right : right.width ≡ (of_input no_shape (shapes_of nodes) (right_input node)).width) where
+      -- the node may read them
+      may_read_wide : MayRead node left right
+      may_read_wide = record {
+        left_shape = of_input no_shape (shapes_of nodes) (left_input node);
+        right_shape = of_input no_shape (shapes_of nodes) (right_input node);
+        left_width = l.wide;
+        right_width = wide_right;
+        made = at.valid.made;
+      }
+
+      -- and where its operator gives of them what it gives of its inputs' values, these are its rows
+      is_of : (out : RowList) → SameBag (op lists doc node left.rows right.rows) (op lists doc node left_worth right_worth) → SameBag out.rows (op lists doc node left.rows right.rows)
+          → out.width ≡ (shape_by node (of_input no_shape (shapes_of nodes) (left_input node)) (of_input no_shape (shapes_of nodes) (right_input node))).width → RowsLieIn doc out.rows → IsOf lists doc nodes n out
+      is_of out worth same wide lies = record {
+        same = SameBag-trans out.rows (op lists doc node left.rows right.rows) (val lists doc nodes n) same
+            (SameBag-trans (op lists doc node left.rows right.rows) (op lists doc node left_worth right_worth) (val lists doc nodes n) worth
+            (SameBag-sym (val lists doc nodes n) (op lists doc node left_worth right_worth) (at.stands.has.same lists doc)));
+        wide = wide ∙ sym (ap (λ (s : Shape). s.width) at.stands.has.shaped);
+        lies = lies;
+      }
+
+    -- of both inputs
+    node_is : (r : IsInput lists doc nodes (right_input node) right) (out : RowList) → SameBag out.rows (op lists doc node left.rows right.rows)
         → out.width ≡ (shape_by node (of_input no_shape (shapes_of nodes) (left_input node)) (of_input no_shape (shapes_of nodes) (right_input node))).width → RowsLieIn doc out.rows → IsOf lists doc nodes n out
-    node_is out same wide lies =
-        let a = of_input [] (all_values lists doc nodes) (left_input node) in
-        let b = of_input [] (all_values lists doc nodes) (right_input node) in
-        record {
-          same = SameBag-trans out.rows (op lists doc node left.rows right.rows) (val lists doc nodes n) same
-              (SameBag-trans (op lists doc node left.rows right.rows) (op lists doc node a b) (val lists doc nodes n)
-              (op-SameBag lists doc node left.rows a right.rows b l.same r.same)
-              (SameBag-sym (val lists doc nodes n) (op lists doc node a b) (at.stands.has.same lists doc)));
-          wide = wide ∙ sym (ap (λ (s : Shape). s.width) at.stands.has.shaped);
-          lies = lies;
-        }
+    node_is r out same wide lies = is_of r.wide out (op-SameBag lists doc node left.rows left_worth right.rows right_worth l.same r.same) same wide lies
+
+    -- of the left one alone
+    spared_same : is_conditional node ≡ true → left_worth ≡ [] → SameBag (op lists doc node left.rows right.rows) (op lists doc node left_worth right_worth)
+    spared_same conditional none =
+        let no_left : left.rows ≡ [] = same_none left.rows left_worth l.same none in
+        SameBag-is (op lists doc node left.rows right.rows) (op lists doc node left_worth right_worth)
+        (ap (λ (rows : Rows). op lists doc node rows right.rows) no_left
+        ∙ (conditional-nil lists doc node right.rows conditional
+        ∙ (sym (conditional-nil lists doc node right_worth conditional) ∙ ap (λ (rows : Rows). op lists doc node rows right_worth) (sym none))))
+
+  -- the rows on the right, by what the board has
+  module _ (board : List (Option RowList)) (n : ℕ) (node : Node) (at : IsAt nodes n node) (left right : RowList) (l : IsInput lists doc nodes (left_input node) left)
+      (is : right ≡ input_on nodes board (right_input node)) (there : IsRightThere lists doc nodes board node) where
+    right_wide : right.width ≡ (of_input no_shape (shapes_of nodes) (right_input node)).width
+    right_wide =
+        ap (λ (list : RowList). list.width) is
+        ∙ ⊎_elim (λ (on : IsOnBoard lists doc nodes board (right_input node)). on.has.wide) (λ (spared : IsSpared lists doc nodes board node). spared.wide) there
+
+    pub right_lies : RowsLieIn doc right.rows
+    right_lies =
+        subst (λ (list : RowList). RowsLieIn doc list.rows) (sym is)
+        (⊎_elim (λ (on : IsOnBoard lists doc nodes board (right_input node)). on.has.lies) (λ (spared : IsSpared lists doc nodes board node). spared.lies) there)
+
+    pub may_read : MayRead node left right
+    may_read = may_read_wide n node at left right l right_wide
+
+    pub rows_are : (out : RowList) → SameBag out.rows (op lists doc node left.rows right.rows)
+        → out.width ≡ (shape_by node (of_input no_shape (shapes_of nodes) (left_input node)) (of_input no_shape (shapes_of nodes) (right_input node))).width → RowsLieIn doc out.rows → IsOf lists doc nodes n out
+    rows_are out same wide lies =
+        ⊎_elim
+        (λ (on : IsOnBoard lists doc nodes board (right_input node)). node_is n node at left right l (subst (IsInput lists doc nodes (right_input node)) (sym is) on.has) out same wide lies)
+        (λ (spared : IsSpared lists doc nodes board node). is_of n node at left right l right_wide out (spared_same n node at left right l spared.conditional spared.none) same wide lies) there
 
   -- a selection on a product has those of the pairs of the product's sides on which its conditions hold
   pub narrowed_is : (n : ℕ) (p s : Node) (l r i : ℕ) (c : Bool) (conds : List Term) → p ≡ Cross l r c → s ≡ Select i conds → left_input s ≡ Some n → IsAt nodes n p → IsAt nodes (n + 1) s
@@ -137,13 +250,22 @@ pub outputs-there : (nodes : List Node) (outs : List PlanOut) → AreOutputs nod
 outputs-there nodes outs valid =
     All-weaker (IsOutput (shapes_of nodes)) (λ (out : PlanOut). out.node < length nodes) (λ out is. omega (arith, is.there, length-each no_shape shape_by nodes)) outs valid.each
 
+-- rows that are there and right
+pub held-there : (lists : Lists) (doc : Doc) (nodes : List Node) (n : ℕ) (o : Option RowList) → IsSome o → IfSome o (IsOf lists doc nodes n) → Holds lists doc nodes n o
+held-there lists doc nodes n None some is = absurd (none-there some)
+  where
+    none-there : IsSome {A = RowList} None → ⊥
+    none-there e = search (rules, e)
+held-there lists doc nodes n (Some list) some is = is
+
 -- and their rows are on the board
-pub all-shown : (lists lists' : Lists) (doc : Doc) (nodes nodes' : List Node) (untils : List ℕ) (board : List (Option RowList)) (outs : List PlanOut)
-    → lists' ≡ lists → nodes' ≡ nodes → length board ≡ length nodes → length nodes < 2 ^ 32 → All (λ (out : PlanOut). out.node < length nodes) outs
-    → IsBoard lists' doc nodes' untils board → All (λ (out : PlanOut). 2 ^ 32 ≤ read_until untils out.node) outs → All (λ (out : PlanOut). Holds lists doc nodes out.node (slice_index_or board out.node None)) outs
-all-shown lists lists' doc nodes nodes' untils board outs same_lists same_nodes long few there has shown = λ k d below.
-    let all : IsBoard lists doc nodes untils board =
-    subst (λ (l : Lists). IsBoard l doc nodes untils board) same_lists (subst (λ (ns : List Node). IsBoard lists' doc ns untils board) same_nodes has) in
-    let inside = there k d below in
-    let late = shown k d below in
-    all.each (slice_index_or outs k d).node (omega (arith, inside, long)) (omega (arith, late, few, long))
+pub all-shown : (lists : Lists) (doc : Doc) (nodes : List Node) (outs untils : List ℕ) (board : List (Option RowList)) (shown : List PlanOut)
+    → outs ≡ map (λ (out : PlanOut). out.node) shown → length board ≡ length nodes → length nodes < 2 ^ 32 → All (λ (out : PlanOut). out.node < length nodes) shown
+    → All (λ (out : PlanOut). 2 ^ 32 ≤ read_until untils out.node) shown → IsBoard lists doc nodes board → HasNeeded lists doc nodes outs untils board
+    → All (λ (out : PlanOut). Holds lists doc nodes out.node (slice_index_or board out.node None)) shown
+all-shown lists doc nodes outs untils board shown outs_are long few there late has needed = λ k d below.
+    let n : ℕ = (slice_index_or shown k d).node in
+    let inside : n < length board = let at = there k d below in omega (arith, at, long) in
+    let listed : Contains outs n = subst (λ (ns : List ℕ). Contains ns n) (sym outs_are) (Contains-map-at shown k d below) in
+    let until : length board < read_until untils n = let at = late k d below in omega (arith, at, long, few) in
+    held-there lists doc nodes n (slice_index_or board n None) (needed.each n inside until (needs.output n listed)) (has.each n inside)

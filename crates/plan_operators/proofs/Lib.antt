@@ -12,6 +12,10 @@ pub mod Needing
 pub mod Pairing
 -- which nodes are read
 pub mod Scheduling
+-- who asks for nodes
+pub mod Guarding
+-- nodes that are evaluated where they are needed
+pub mod Needs
 -- rows that a policy keeps
 pub mod Keeping
 -- how many elements of a list pass a test

@@ -1,5 +1,5 @@
 -- What the nodes of a plan have, so far as they are evaluated.
-use Rattle.std.specs.Prelude.{ℕ, ◌≡◌, ◌+◌, ◌<◌, ◌≤◌, ◌^◌, Bool, true, false, IsTrue, List, [], Option, Some, None, length, slice_index_or, IsSome, All}
+use Rattle.std.specs.Prelude.{ℕ, ◌≡◌, ◌+◌, ◌<◌, ◌≤◌, ◌^◌, Bool, true, false, IsTrue, List, [], Option, Some, None, length, map, slice_index_or, IfSome, IsSome, All, ◌⊎◌}
 use Rattle.aql_base.specs.Bags.{SameBag}
 use Rattle.span_token.specs.Documents.{Doc}
 use Rattle.row_values.specs.Rows.{RowList, RowsLieIn}
@@ -7,7 +7,8 @@ use Rattle.scalar_ops.specs.Tables.{Lists}
 use Rattle.algebra.specs.declared.node.Node.{Node}
 use Rattle.algebra.specs.declared.node.Node.TheVariants.{Cross, Select}
 use Rattle.algebra.specs.Folds.{of_input}
-use Rattle.algebra.specs.Inputs.{left_input, right_input, IsAmong}
+use Rattle.algebra.specs.Inputs.{left_input, right_input, is_conditional, IsAmong}
+use Rattle.algebra.specs.Needed.{IsNeeded}
 use Rattle.algebra.specs.Plans.{Parts}
 use Rattle.algebra.specs.Shapes.{no_shape, shapes_of}
 use Rattle.algebra.specs.Values.{all_values, val}
@@ -44,9 +45,13 @@ pub record IsScheduled (plan : Parts) (untils : List ℕ) : Type 0 where
   pub shown : All (λ out. 2 ^ 32 ≤ read_until untils out.node) plan.outputs
   pub closed : IsClosedFrom 0 plan.nodes untils
 
--- the board has the rows of each node with a lower number that somebody still reads
-pub record IsBoard (lists : Lists) (doc : Doc) (nodes : List Node) (untils : List ℕ) (board : List (Option RowList)) : Type 0 where
-  pub each : (n : ℕ) → n < length board → length board < read_until untils n → Holds lists doc nodes n (slice_index_or board n None)
+-- what is on the board are the rows of its node
+pub record IsBoard (lists : Lists) (doc : Doc) (nodes : List Node) (board : List (Option RowList)) : Type 0 where
+  pub each : (n : ℕ) → n < length board → IfSome (slice_index_or board n None) (IsOf lists doc nodes n)
+
+-- each node with a lower number that is needed for the nodes `outs` and still read has its rows on the board
+pub record HasNeeded (lists : Lists) (doc : Doc) (nodes : List Node) (outs untils : List ℕ) (board : List (Option RowList)) : Type 0 where
+  pub each : (n : ℕ) → n < length board → length board < read_until untils n → IsNeeded lists doc nodes outs n → IsSome (slice_index_or board n None)
 
 -- an input, where there is one, has rows on a board
 abbrev pub IsThere : List (Option RowList) → Option ℕ → Type 0
@@ -61,9 +66,14 @@ abbrev pub rows_there : Option RowList → RowList
 rows_there None = no_rows
 rows_there (Some list) = list
 
-abbrev pub input_on : List (Option RowList) → Option ℕ → RowList
-input_on board None = no_rows
-input_on board (Some i) = rows_there (slice_index_or board i None)
+-- of the columns of its node, where it isn't there
+abbrev pub rows_or_none : ℕ → Option RowList → RowList
+rows_or_none width None = record { width = width; rows = [] }
+rows_or_none width (Some list) = list
+
+abbrev pub input_on : List Node → List (Option RowList) → Option ℕ → RowList
+input_on nodes board None = no_rows
+input_on nodes board (Some i) = rows_or_none (slice_index_or (shapes_of nodes) i no_shape).width (slice_index_or board i None)
 
 -- the list is what an input has
 pub record IsInput (lists : Lists) (doc : Doc) (nodes : List Node) (input : Option ℕ) (list : RowList) : Type 0 where
@@ -75,12 +85,44 @@ pub record IsInput (lists : Lists) (doc : Doc) (nodes : List Node) (input : Opti
 pub record IsOnBoard (lists : Lists) (doc : Doc) (nodes : List Node) (board : List (Option RowList)) (input : Option ℕ) : Type 0 where
   pub among : IsAmong (length board) input
   pub present : IsThere board input
-  pub has : IsInput lists doc nodes input (input_on board input)
+  pub has : IsInput lists doc nodes input (input_on nodes board input)
+
+-- the right input of a node isn't asked for, as the node is a conditional join whose left input has no row; what stands for it
+-- has its columns
+pub record IsSpared (lists : Lists) (doc : Doc) (nodes : List Node) (board : List (Option RowList)) (node : Node) : Type 0 where
+  pub conditional : is_conditional node ≡ true
+  pub none : of_input [] (all_values lists doc nodes) (left_input node) ≡ []
+  pub among : IsAmong (length board) (right_input node)
+  pub wide : (input_on nodes board (right_input node)).width ≡ (of_input no_shape (shapes_of nodes) (right_input node)).width
+  pub lies : RowsLieIn doc (input_on nodes board (right_input node)).rows
+
+-- the right input of a node is on the board, or not asked for
+abbrev pub IsRightThere : Lists → Doc → List Node → List (Option RowList) → Node → Type 0
+IsRightThere lists doc nodes board node = IsOnBoard lists doc nodes board (right_input node) ⊎ IsSpared lists doc nodes board node
 
 -- rows that were taken off a board: those of the left input, which the right one isn't
 pub record IsTaken (left right : Option ℕ) (rows : RowList) (board : List (Option RowList)) : Type 0 where
-  pub rows_are : rows ≡ input_on board left
+  pub place : ℕ
+  pub is_left : left ≡ Some place
+  pub rows_are : slice_index_or board place None ≡ Some rows
   pub other : right ≡ left → ⊥
+
+-- node n has its rows on the board, and they are none
+pub record IsEmptyOn (board : List (Option RowList)) (n : ℕ) : Type 0 where
+  pub there : n < length board
+  pub list : RowList
+  pub list_is : slice_index_or board n None ≡ Some list
+  pub none : list.rows ≡ []
+
+-- so it is with an input, where there is one
+abbrev pub IsEmptyInput : List (Option RowList) → Option ℕ → Type 0
+IsEmptyInput board None = Unit {0}
+IsEmptyInput board (Some i) = IsEmptyOn board i
+
+-- the board has what a node asks for
+pub record HasAsked (board : List (Option RowList)) (node : Node) : Type 0 where
+  pub left : IsThere board (left_input node)
+  pub right : IsThere board (right_input node) ⊎ ((is_conditional node ≡ true) × IsEmptyInput board (left_input node))
 
 -- a product; a selection
 abbrev pub is_product : Node → Bool

@@ -3,6 +3,8 @@
 pub mod Given
 -- what the nodes of a plan have, so far as they are evaluated
 pub mod Boards
+-- nodes that are asked for only where another node has rows
+pub mod Guards
 -- Words of private clauses
 -- rows with the place of a dictionary
 pub mod Places

@@ -1,9 +1,12 @@
-ghost use Rattle.std.specs.Prelude.{◌≡◌, ◌↔◌, ℕ, ◌+◌, ◌<◌, ◌≤◌, ◌^◌, IfOk, IfSome, IfNone, OnOk, IsTrue, IsSome, All, Some, None, length, slice_index_or, vec_len};
+ghost use Rattle.std.specs.Prelude.{◌≡◌, ◌↔◌, ℕ, ◌+◌, ◌<◌, ◌≤◌, ◌⊎◌, ◌^◌, IfOk, IfSome, IfNone, OnOk, IsTrue, IsFalse, IsSome, All, List, Some, None, true, length, map, slice_index_or, vec_len};
 ghost use Rattle.algebra.specs.declared.node.Node as declared_node;
 ghost use Rattle.algebra.specs.Inputs.{left_input, right_input, IsAmong};
+ghost use Rattle.algebra.specs.Needed.{IsNeeded};
 ghost use Rattle.plan_operators.specs.Given.{input_rows};
-ghost use Rattle.plan_operators.specs.Boards.{IsOf, Holds, IsBoard, IsClosedFrom, IsInput, IsNarrowed, IsOnBoard, IsTaken, IsThere, is_product, is_selection, read_until, input_on};
+ghost use Rattle.plan_operators.specs.Boards.{IsOf, Holds, IsBoard, HasAsked, HasNeeded, IsClosedFrom, IsEmptyInput, IsEmptyOn, IsInput, IsNarrowed, IsOnBoard, IsRightThere, IsTaken, IsThere, is_product, is_selection, read_until, input_on};
+ghost use Rattle.plan_operators.specs.Guards.{AreAsked, IsIdle};
 
+use crate::guards::Asked;
 use crate::select::selected_pairs;
 use crate::{Input, Schedule, apply};
 use algebra::{Node, Nodes, PlanOut};
@@ -12,10 +15,11 @@ use scalar_ops::Tools;
 use span_token::{Document, OutOfMemory};
 use std::alloc::Global;
 
-/// The rows of the nodes that the outputs of a plan need, on a document, by the nodes' numbers.
+/// The rows of the nodes that the outputs of a plan need on a document, by the nodes' numbers.
 ///
-/// Each node that an output shows, and each that a needed node reads, is evaluated once, in the order of
-/// their numbers. Rows are given up to the last node that reads them as its left input, so that what only
+/// A node is evaluated once, in the order of the numbers, where an output shows it or a node that is evaluated
+/// reads it, but the right side of a conditional join, what nobody else reads of it, only where the left one has
+/// a row. Rows are given up to the last node that reads them as its left input, so that what only
 /// passes through isn't copied; what is given up and what nobody needs has no rows here. `tools` are made of
 /// the plan's tables.
 ///
@@ -32,7 +36,8 @@ pub fn evaluate<'d>(
     ensures same { tools.new ≡ tools.old }
 {
     let nodes = schedule.plan().nodes();
-    let board = board_of(alloc, tools, doc, nodes, schedule.untils())?;
+    let (untils, asked) = schedule.readers();
+    let board = board_of(alloc, tools, doc, nodes, untils, asked)?;
     Ok(board)
 }
 
@@ -48,24 +53,27 @@ pub fn rows_shown<'r, 'd>(board: &'r [Option<Rows<'d>>], out: &PlanOut) -> &'r R
     }
 }
 
-/// The rows of each node that somebody reads, in the order of the numbers.
+/// The rows of each node that is needed, in the order of the numbers.
 fn board_of<'d>(
     alloc: Global,
     tools: &mut Tools<'_>,
     doc: &Document<'d>,
     nodes: &'d Nodes,
     untils: &[u64],
+    asked: &[Asked],
 ) -> Result<Vec<Option<Rows<'d>>>, OutOfMemory>
     requires long { length untils.now ≡ length nodes.now }
+    requires asked_long { length asked.now ≡ length nodes.now }
     requires closed { IsClosedFrom 0 nodes.now untils.now }
     ensures long { IfOk result (λ board. vec_len board ≡ length nodes.now) }
-    ensures board { IfOk result (λ board. IsBoard tools.old doc.now nodes.now untils.now board.items) }
+    ensures board { IfOk result (λ board. IsBoard tools.old doc.now nodes.now board.items) }
+    ensures needed { IfOk result (λ board. (outs : List ℕ) → All (λ n. 0 < read_until untils.now n) outs → AreAsked 0 nodes.now outs untils.now asked.now → HasNeeded tools.old doc.now nodes.now outs untils.now board.items) }
     ensures few { IfOk result (λ _. length nodes.now < 2 ^ 32) }
     ensures same { tools.new ≡ tools.old }
 {
     let mut board = Vec::new(alloc);
     'nodes: while board.len() < nodes.len() as usize {
-        push_next(alloc, tools, doc, nodes, untils, &mut board)?;
+        push_next(alloc, tools, doc, nodes, untils, asked, &mut board)?;
     }
     Ok(board)
 }
@@ -78,29 +86,105 @@ fn push_next<'d>(
     doc: &Document<'d>,
     nodes: &'d Nodes,
     untils: &[u64],
+    asked: &[Asked],
     board: &mut Vec<Option<Rows<'d>>>,
 ) -> Result<(), OutOfMemory>
     requires there { vec_len board.old < length nodes.now }
     requires long { length untils.now ≡ length nodes.now }
+    requires asked_long { length asked.now ≡ length nodes.now }
     requires closed { IsClosedFrom 0 nodes.now untils.now }
-    requires board { IsBoard tools.old doc.now nodes.now untils.now board.old.items }
-    ensures board { OnOk result (IsBoard tools.old doc.now nodes.now untils.now board.new.items) }
+    requires board { IsBoard tools.old doc.now nodes.now board.old.items }
+    ensures board { OnOk result (IsBoard tools.old doc.now nodes.now board.new.items) }
+    ensures needed { OnOk result ((outs : List ℕ) → All (λ n. 0 < read_until untils.now n) outs → AreAsked 0 nodes.now outs untils.now asked.now
+        → HasNeeded tools.old doc.now nodes.now outs untils.now board.old.items → HasNeeded tools.old doc.now nodes.now outs untils.now board.new.items) }
     ensures longer { OnOk result (vec_len board.old < vec_len board.new) }
     ensures within { OnOk result (vec_len board.new ≤ length nodes.now) }
     ensures same { tools.new ≡ tools.old }
 {
     let _number = nodes.len();
     let n = board.len() as u32;
-    if is_narrowed(nodes, n, untils) {
-        let _product = nodes.get(n);
+    if is_idle(asked[n as usize], board.as_slice()) {
+        board.push(None)?;
+    } else if is_narrowed(nodes, n, untils) && has_both(nodes, n, board.as_slice()) {
         let rows = rows_of_narrowed(alloc, tools, doc, nodes, n, board.as_slice())?;
         board.push(None)?;
         board.push(Some(rows))?;
     } else {
-        let rows = rows_if_read(alloc, tools, doc, nodes, n, untils, board)?;
+        let rows = rows_if_asked(alloc, tools, doc, nodes, n, untils, board)?;
         board.push(rows)?;
     }
     Ok(())
+}
+
+/// Whether a node is asked for behind another one alone, which has no row.
+fn is_idle(asked: Asked, board: &[Option<Rows<'_>>]) -> bool
+    ensures { IsTrue result → IsIdle asked board.now }
+{
+    match asked {
+        Asked::Behind(g) => is_empty(board, g),
+        Asked::Never | Asked::Always => false,
+    }
+}
+
+/// Whether node `n` has its rows on the board, and they are none.
+fn is_empty(board: &[Option<Rows<'_>>], n: u32) -> bool
+    ensures yes { IsTrue result → IsEmptyOn board.now n }
+    ensures no { IsFalse result → IsEmptyOn board.now n → ⊥ }
+{
+    let place = n as usize;
+    if place < board.len() {
+        match &board[place] {
+            Some(rows) => rows.len() == 0,
+            None => false,
+        }
+    } else {
+        false
+    }
+}
+
+/// Whether an input, where there is one, has its rows on the board.
+fn is_there(board: &[Option<Rows<'_>>], input: Option<u32>) -> bool
+    requires among { IsAmong (length board.now) input }
+    ensures { IsTrue result ↔ IsThere board.now input }
+{
+    match input {
+        Some(i) => board[i as usize].is_some(),
+        None => true,
+    }
+}
+
+/// Whether an input, where there is one, has no row on the board, on which it stands.
+fn is_empty_input(board: &[Option<Rows<'_>>], input: Option<u32>) -> bool
+    ensures yes { IsTrue result → IsEmptyInput board.now input }
+    ensures no { IsFalse result → IsEmptyInput board.now input → ⊥ }
+{
+    match input {
+        Some(i) => is_empty(board, i),
+        None => true,
+    }
+}
+
+/// Whether both inputs of a node have their rows on the board.
+fn has_both(nodes: &Nodes, n: u32, board: &[Option<Rows<'_>>]) -> bool
+    requires there { n < length nodes.now }
+    requires before { length board.now ≡ n }
+    ensures { IsTrue result → (node : declared_node.Node) → node ≡ slice_index_or nodes.now n node → IsThere board.now (left_input node) × IsThere board.now (right_input node) }
+{
+    let (left, right) = nodes.get(n).inputs();
+    is_there(board, left) && is_there(board, right)
+}
+
+/// Whether the board has what a node asks for: its inputs, but of a conditional join whose left input has no row
+/// that one alone.
+fn has_asked(nodes: &Nodes, n: u32, board: &[Option<Rows<'_>>]) -> bool
+    requires there { n < length nodes.now }
+    requires before { length board.now ≡ n }
+    ensures { (node : declared_node.Node) → node ≡ slice_index_or nodes.now n node → IsTrue result ↔ HasAsked board.now node }
+{
+    let node = nodes.get(n);
+    let (left, right) = node.inputs();
+    is_there(board, left)
+        && (is_there(board, right) || node.is_conditional() && is_empty_input(board, left))
 }
 
 /// Whether node `n` is a product that somebody reads, the node behind it alone, and that one is a selection.
@@ -142,8 +226,8 @@ fn rows_of_narrowed<'d>(
     let product = nodes.get(n);
     let selection = nodes.get(n + 1);
     let (left, right) = product.inputs();
-    let left_rows = lent(alloc, board, left);
-    let right_rows = lent(alloc, board, right);
+    let left_rows = lent(alloc, nodes, board, left);
+    let right_rows = lent(alloc, nodes, board, right);
     match product {
         Node::Cross { .. } => match selection {
             Node::Select { conds, .. } => {
@@ -163,9 +247,9 @@ fn rows_of_narrowed<'d>(
     }
 }
 
-/// The rows of a node, where somebody reads it; the board has those of the nodes before it, and gives up
-/// those of its left input where nobody reads them later.
-fn rows_if_read<'d>(
+/// The rows of a node, where the board has what it asks for, and somebody reads it; the board gives up those of
+/// its left input where nobody reads them later.
+fn rows_if_asked<'d>(
     alloc: Global,
     tools: &mut Tools<'_>,
     doc: &Document<'d>,
@@ -178,13 +262,15 @@ fn rows_if_read<'d>(
     requires long { length untils.now ≡ length nodes.now }
     requires before { vec_len board.old ≡ n }
     requires closed { IsClosedFrom 0 nodes.now untils.now }
-    requires board { IsBoard tools.old doc.now nodes.now untils.now board.old.items }
-    ensures rows { 0 < read_until untils.now n → IfOk result (Holds tools.old doc.now nodes.now n) }
+    requires board { IsBoard tools.old doc.now nodes.now board.old.items }
+    ensures rows { IfOk result (λ rows. IfSome rows (IsOf tools.old doc.now nodes.now n)) }
+    ensures asked { IfOk result (λ rows. (node : declared_node.Node) → node ≡ slice_index_or nodes.now n node → 0 < read_until untils.now n → HasAsked board.old.items node → IsSome rows) }
     ensures long { vec_len board.new ≡ vec_len board.old }
+    ensures less { (m : ℕ) → (slice_index_or board.new.items m None ≡ None) ⊎ (slice_index_or board.new.items m None ≡ slice_index_or board.old.items m None) }
     ensures kept { (m : ℕ) → n + 1 < read_until untils.now m → slice_index_or board.new.items m None ≡ slice_index_or board.old.items m None }
     ensures same { tools.new ≡ tools.old }
 {
-    if untils[n as usize] == 0 {
+    if untils[n as usize] == 0 || !has_asked(nodes, n, board.as_slice()) {
         return Ok(None);
     }
     let (left, right) = nodes.get(n).inputs();
@@ -215,6 +301,7 @@ fn given_up<'d>(
     ensures none { IfNone result ((m : ℕ) → slice_index_or board.new.items m None ≡ slice_index_or board.old.items m None) }
     ensures long { vec_len board.new ≡ vec_len board.old }
     ensures others { (m : ℕ) → (left ≡ Some m → ⊥) → slice_index_or board.new.items m None ≡ slice_index_or board.old.items m None }
+    ensures less { (m : ℕ) → (slice_index_or board.new.items m None ≡ None) ⊎ (slice_index_or board.new.items m None ≡ slice_index_or board.old.items m None) }
     ensures kept { (m : ℕ) → n + 1 < read_until untils.now m → slice_index_or board.new.items m None ≡ slice_index_or board.old.items m None }
 {
     match left {
@@ -239,7 +326,7 @@ fn is_node(input: Option<u32>, i: u32) -> bool
     }
 }
 
-/// The rows of a node whose left input is given up; its right one has its rows on the board.
+/// The rows of a node whose left input is given up; its right one has its rows on the board, where it is asked for.
 fn rows_of_given<'d>(
     alloc: Global,
     tools: &mut Tools<'_>,
@@ -252,18 +339,18 @@ fn rows_of_given<'d>(
     requires there { n < length nodes.now }
     requires before { length board.now ≡ n }
     requires left { (node : declared_node.Node) → node ≡ slice_index_or nodes.now n node → IsInput tools.old doc.now nodes.now (left_input node) left }
-    requires right { (node : declared_node.Node) → node ≡ slice_index_or nodes.now n node → IsOnBoard tools.old doc.now nodes.now board.now (right_input node) }
+    requires right { (node : declared_node.Node) → node ≡ slice_index_or nodes.now n node → IsRightThere tools.old doc.now nodes.now board.now node }
     ensures rows { IfOk result (IsOf tools.old doc.now nodes.now n) }
     ensures same { tools.new ≡ tools.old }
 {
     let node = nodes.get(n);
     let (_left, right) = node.inputs();
-    let right_rows = lent(alloc, board, right);
+    let right_rows = lent(alloc, nodes, board, right);
     let rows = apply(alloc, tools, doc, node, Input::Given(left), right_rows)?;
     Ok(rows)
 }
 
-/// The rows of a node whose inputs have their rows on the board.
+/// The rows of a node whose inputs have their rows on the board, the right one where it is asked for.
 fn rows_of_lent<'d>(
     alloc: Global,
     tools: &mut Tools<'_>,
@@ -275,28 +362,34 @@ fn rows_of_lent<'d>(
     requires there { n < length nodes.now }
     requires before { length board.now ≡ n }
     requires left { (node : declared_node.Node) → node ≡ slice_index_or nodes.now n node → IsOnBoard tools.old doc.now nodes.now board.now (left_input node) }
-    requires right { (node : declared_node.Node) → node ≡ slice_index_or nodes.now n node → IsOnBoard tools.old doc.now nodes.now board.now (right_input node) }
+    requires right { (node : declared_node.Node) → node ≡ slice_index_or nodes.now n node → IsRightThere tools.old doc.now nodes.now board.now node }
     ensures rows { IfOk result (IsOf tools.old doc.now nodes.now n) }
     ensures same { tools.new ≡ tools.old }
 {
     let node = nodes.get(n);
     let (left, right) = node.inputs();
-    let left_rows = lent(alloc, board, left);
-    let right_rows = lent(alloc, board, right);
+    let left_rows = lent(alloc, nodes, board, left);
+    let right_rows = lent(alloc, nodes, board, right);
     let rows = apply(alloc, tools, doc, node, left_rows, right_rows)?;
     Ok(rows)
 }
 
-/// The rows of an input, which are lent; none, of no column, where there is no input.
-fn lent<'r, 'd>(alloc: Global, board: &'r [Option<Rows<'d>>], input: Option<u32>) -> Input<'r, 'd>
+/// The rows of an input, which are lent; none, of its columns, where it has no rows on the board, and of no column
+/// where there is no input.
+fn lent<'r, 'd>(
+    alloc: Global,
+    nodes: &Nodes,
+    board: &'r [Option<Rows<'d>>],
+    input: Option<u32>,
+) -> Input<'r, 'd>
     requires among { IsAmong (length board.now) input }
-    requires evaluated { IsThere board.now input }
-    ensures { input_rows result ≡ input_on board.now input }
+    requires below { IsAmong (length nodes.now) input }
+    ensures { input_rows result ≡ input_on nodes.now board.now input }
 {
     match input {
         Some(i) => match &board[i as usize] {
             Some(rows) => Input::Lent(rows),
-            None => unreachable!(),
+            None => Input::Given(Rows::new(alloc, nodes.shape(i).width)),
         },
         None => Input::Given(Rows::new(alloc, 0)),
     }

@@ -12,6 +12,7 @@ mod cross;
 mod dict;
 mod dict_part;
 mod extract;
+mod guards;
 mod input;
 mod minus;
 mod near;
