@@ -1,12 +1,12 @@
 -- The rows of nodes, made of those of their inputs.
 use Rattle.std.proofs.Common.{◌≡◌, ◌∙◌, ◌<◌, ◌≤◌, ◌+◌, ◌^◌, ◌++◌, ◌∷◌, ℕ, List, [], Option, Some, None, length, refl, sym, ap, ap₂, subst, arith, ⊎_elim, Bool}
 use Rattle.std.specs.Prelude.{slice_index_or, IfSome, IsSome, map, true, ◌⊎◌, Contains}
-use Rattle.std.proofs.Common.{inl, inr, rules}
-use Rattle.std.proofs.lemmas.Bool.{cases_lt}
-use Rattle.std.proofs.lemmas.List.{length-append}
+use Rattle.std.proofs.Common.{inl, inr}
+use Rattle.std.proofs.lemmas.Bool.{cases_lt, true≢false}
+use Rattle.std.proofs.lemmas.List.{length-append, length-map, get_or-map}
 use Rattle.std.proofs.Math.ListN.{get_or-append}
 use Rattle.std.proofs.Math.Seq.{get_or-append_seam}
-use Rattle.std.proofs.lemmas.List.Elements.{All-nil, All-weaker}
+use Rattle.std.proofs.lemmas.List.Elements.{All-nil, All-weaker, Contains-get_or}
 use Rattle.aql_base.specs.Bags.{SameBag}
 use Rattle.aql_base.specs.CountLaws.{length-SameBag}
 use Rattle.aql_base.specs.BagLaws.{SameBag-is, SameBag-refl, SameBag-sym, SameBag-trans}
@@ -45,14 +45,11 @@ pub same_none : (xs ys : Rows) → SameBag xs ys → ys ≡ [] → xs ≡ []
 same_none xs ys same e = none_of xs (length-SameBag xs ys same ∙ ap (λ (zs : Rows). length zs) e)
 
 module _ (lists : Lists) (doc : Doc) (nodes : List Node) where
-  width_of : ℕ → ℕ
+  abbrev width_of : ℕ → ℕ
   width_of i = (slice_index_or (shapes_of nodes) i no_shape).width
 
   held : (i w : ℕ) (o : Option RowList) → IsSome o → IfSome o (IsOf lists doc nodes i) → IsInput lists doc nodes (Some i) (rows_or_none w o)
-  held i w None some h = absurd (none_some some)
-    where
-      none_some : IsSome {A = RowList} None → ⊥
-      none_some e = search (rules, e)
+  held i w None some h = absurd (true≢false (sym some))
   held i w (Some list) some h = record { same = h.same; wide = h.wide; lies = h.lies }
 
   fits : (i : ℕ) (o : Option RowList) → IfSome o (IsOf lists doc nodes i) → ((rows_or_none (width_of i) o).width ≡ width_of i) × RowsLieIn doc (rows_or_none (width_of i) o).rows
@@ -202,7 +199,7 @@ module _ (lists : Lists) (doc : Doc) (nodes : List Node) where
   -- the rows on the right, by what the board has
   module _ (board : List (Option RowList)) (n : ℕ) (node : Node) (at : IsAt nodes n node) (left right : RowList) (l : IsInput lists doc nodes (left_input node) left)
       (is : right ≡ input_on nodes board (right_input node)) (there : IsRightThere lists doc nodes board node) where
-    right_wide : right.width ≡ (of_input no_shape (shapes_of nodes) (right_input node)).width
+    pub right_wide : right.width ≡ (of_input no_shape (shapes_of nodes) (right_input node)).width
     right_wide =
         ap (λ (list : RowList). list.width) is
         ∙ ⊎_elim (λ (on : IsOnBoard lists doc nodes board (right_input node)). on.has.wide) (λ (spared : IsSpared lists doc nodes board node). spared.wide) there
@@ -252,10 +249,7 @@ outputs-there nodes outs valid =
 
 -- rows that are there and right
 pub held-there : (lists : Lists) (doc : Doc) (nodes : List Node) (n : ℕ) (o : Option RowList) → IsSome o → IfSome o (IsOf lists doc nodes n) → Holds lists doc nodes n o
-held-there lists doc nodes n None some is = absurd (none-there some)
-  where
-    none-there : IsSome {A = RowList} None → ⊥
-    none-there e = search (rules, e)
+held-there lists doc nodes n None some is = absurd (true≢false (sym some))
 held-there lists doc nodes n (Some list) some is = is
 
 -- and their rows are on the board
@@ -266,6 +260,8 @@ pub all-shown : (lists : Lists) (doc : Doc) (nodes : List Node) (outs untils : L
 all-shown lists doc nodes outs untils board shown outs_are long few there late has needed = λ k d below.
     let n : ℕ = (slice_index_or shown k d).node in
     let inside : n < length board = let at = there k d below in omega (arith, at, long) in
-    let listed : Contains outs n = subst (λ (ns : List ℕ). Contains ns n) (sym outs_are) (Contains-map-at shown k d below) in
+    let listed : Contains outs n = subst (λ (ns : List ℕ). Contains ns n) (sym outs_are)
+    (subst (Contains (map (λ (out : PlanOut). out.node) shown)) (get_or-map (λ (out : PlanOut). out.node) shown k d 0 below)
+    (Contains-get_or (map (λ (out : PlanOut). out.node) shown) k 0 (omega (arith, below, length-map shown (λ (out : PlanOut). out.node))))) in
     let until : length board < read_until untils n = let at = late k d below in omega (arith, at, long, few) in
     held-there lists doc nodes n (slice_index_or board n None) (needed.each n inside until (needs.output n listed)) (has.each n inside)

@@ -1,5 +1,5 @@
 -- Who asks for nodes, from the last one on, and what isn't needed on a document.
-use Rattle.std.proofs.Common.{◌≡◌, ◌∙◌, ◌<◌, ◌≤◌, ◌+◌, ◌⊎◌, inl, inr, ⊎_elim, ℕ, Bool, true, false, List, [], ◌∷◌, Option, Some, None, length, refl, sym, ap, subst, arith, All, Contains}
+use Rattle.std.proofs.Common.{◌≡◌, ◌∙◌, ◌<◌, ◌≤◌, ◌+◌, ◌⊎◌, inl, inr, ⊎_elim, ℕ, Bool, true, false, List, [], Option, Some, None, length, refl, sym, ap, subst, arith, All}
 use Rattle.std.specs.Prelude.{slice_index_or, slice_get}
 use Rattle.std.proofs.lemmas.Bool.{cases_lt, true≢false}
 use Rattle.std.proofs.lemmas.List.Elements.{All-contains}
@@ -96,8 +96,7 @@ module _ (nodes : List Node) (outs untils : List ℕ) (n : ℕ) (node : Node) (a
     never_new k e =
         let r = never_right k e in
         let l = never_left k r.0 in
-        let w = known k Never l.0 in
-        (
+        let w = known k Never l.0 in (
           w.0,
           λ q x le reader.
               ⊎_elim (λ (lt : n < q). w.1 q x (omega (arith, lt)) reader)
@@ -110,8 +109,7 @@ module _ (nodes : List Node) (outs untils : List ℕ) (n : ℕ) (node : Node) (a
         let here : (q : ℕ) (x : Node) → n ≤ q → q ≤ n → IsReader nodes untils q x → AsksBehind new g k q x = at_n (AsksBehind new g k) b.1 in
         ⊎_elim
         (λ (never : asked_at old k ≡ Never).
-        let w = known k Never never in
-        (
+        let w = known k Never never in (
           w.0,
           λ q x le reader.
               ⊎_elim (λ (lt : n < q). let no = w.1 q x (omega (arith, lt)) reader in record { left = λ is. absurd (no.0 is); right = λ is. absurd (no.1 is) }) (λ (ge : q ≤ n). here q x le ge reader) (cases_lt n q),
@@ -155,11 +153,10 @@ asked-shown nodes outs untils asked shown never n = each (asked_at asked n) refl
     is_always Always = true
 
     each : (t : Asked) → asked_at asked n ≡ t → IsAsked (length nodes) nodes outs untils asked n t
-    each Never e =
-        (
-          λ listed. true≢false (ap is_always (sym (All-contains (λ (k : ℕ). asked_at asked k ≡ Always) outs n shown listed) ∙ e)),
-          λ r x le reader. let there = reader.there in absurd (omega (arith, le, there)),
-        )
+    each Never e = (
+      λ listed. true≢false (ap is_always (sym (All-contains (λ (k : ℕ). asked_at asked k ≡ Always) outs n shown listed) ∙ e)),
+      λ r x le reader. let there = reader.there in absurd (omega (arith, le, there)),
+    )
     each (Behind g) e = absurd (never n g (ap guard_in e))
     each Always e = tt
 

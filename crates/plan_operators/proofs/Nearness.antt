@@ -1,6 +1,6 @@
 -- A run of tokens that joins with a span stands near it, for each predicate of joins.
-use Rattle.std.proofs.Common.{◌≡◌, ◌+◌, ◌-◌, ◌<◌, ◌≤◌, ◌&&◌, ℕ, ℤ, pos, negsuc, Bool, true, inl, inr, List, length, get_or, nat_lt, nat_le, int_le, arith, ap}
-use Rattle.std.proofs.lemmas.Bool.{cases_lt, and_parts, and_from, le-leb, or_cases, le-ltb}
+use Rattle.std.proofs.Common.{◌≡◌, ◌+◌, ◌-◌, ◌<◌, ◌≤◌, ◌&&◌, ℕ, ℤ, pos, negsuc, Bool, true, inl, inr, List, length, get_or, nat_le, int_le, arith, ap}
+use Rattle.std.proofs.lemmas.Bool.{cases_lt, and_parts, and_from, le-leb}
 use Rattle.std.proofs.lemmas.Bool.Decides.{nat_tests}
 use Rattle.std.proofs.lemmas.List.{get_or_default}
 use Rattle.span_token.specs.Contexts.{how_many}

@@ -1,11 +1,10 @@
 -- Nodes that are evaluated where they are needed.
-use Rattle.std.proofs.Common.{◌≡◌, ◌∙◌, ◌<◌, ◌≤◌, ◌+◌, ◌⊎◌, inl, inr, ⊎_elim, ℕ, Bool, true, false, List, [], ◌∷◌, ◌++◌, Option, Some, None, length, refl, sym, ap, subst, arith, All}
+use Rattle.std.proofs.Common.{◌≡◌, ◌∙◌, ◌<◌, ◌≤◌, ◌+◌, ◌⊎◌, inl, inr, ⊎_elim, ℕ, true, false, List, [], ◌∷◌, ◌++◌, Option, Some, None, length, refl, sym, ap, subst, arith, All}
 use Rattle.std.specs.Prelude.{slice_index_or, slice_get, IsSome, IfSome}
 use Rattle.std.proofs.lemmas.Bool.{cases_lt, cases_Bool, true≢false}
 use Rattle.std.proofs.lemmas.List.{length-append}
 use Rattle.std.proofs.Math.ListN.{get_or-append}
 use Rattle.std.proofs.Math.Seq.{get_or-append_seam}
-use Rattle.aql_base.specs.Bags.{SameBag}
 use Rattle.span_token.specs.Documents.{Doc}
 use Rattle.row_values.specs.Rows.{RowList}
 use Rattle.scalar_ops.specs.Tables.{Lists}
@@ -50,20 +49,20 @@ module _ (lists : Lists) (doc : Doc) (nodes : List Node) (outs untils : List ℕ
   pub needed_pair : (board : List (Option RowList)) (list : RowList) → HasNeeded lists doc nodes outs untils board → read_until untils (length board) ≤ length board + 2
       → HasNeeded lists doc nodes outs untils ((board ++ None ∷ []) ++ Some list ∷ [])
   needed_pair board list has until =
-      let one : length (board ++ None {A = RowList} ∷ []) ≡ length board + 1 = length-append board (None ∷ []) in
+      let one : length (board ++ None ∷ []) ≡ length board + 1 = length-append board (None ∷ []) in
       let two : length ((board ++ None ∷ []) ++ Some list ∷ []) ≡ length board + 2 = length-append (board ++ None ∷ []) (Some list ∷ []) ∙ omega (arith, one) in
       needed_more board ((board ++ None ∷ []) ++ Some list ∷ []) has (omega (arith, two))
       (λ m before read. get_or-append (board ++ None ∷ []) (Some list ∷ []) None m (omega (arith, before, one)) ∙ get_or-append board (None ∷ []) None m before)
       (λ m behind below read needed.
       ⊎_elim
-      (λ (first : m < length (board ++ None {A = RowList} ∷ [])).
+      (λ (first : m < length (board ++ None ∷ [])).
       let is : m ≡ length board = omega (arith, behind, first, one) in
       let late = subst (λ (k : ℕ). length ((board ++ None ∷ []) ++ Some list ∷ []) < read_until untils k) is read in
       absurd (omega (arith, late, until, two)))
-      (λ (second : length (board ++ None {A = RowList} ∷ []) ≤ m).
+      (λ (second : length (board ++ None ∷ []) ≤ m).
       let is : m ≡ length (board ++ None ∷ []) = omega (arith, second, below, one, two) in
       subst (λ (k : ℕ). IsSome (slice_index_or ((board ++ None ∷ []) ++ Some list ∷ []) k None)) (sym is) (subst IsSome (sym (get_or-append_seam (board ++ None ∷ []) (Some list) [] None)) refl))
-      (cases_lt m (length (board ++ None {A = RowList} ∷ []))))
+      (cases_lt m (length (board ++ None ∷ []))))
 
   module _ (closed : IsClosedFrom 0 nodes untils) (shown : All (λ (n : ℕ). 0 < read_until untils n) outs) (board : List (Option RowList)) (has : IsBoard lists doc nodes board) where
     -- a node that is asked for behind one without a row isn't needed
@@ -90,7 +89,7 @@ module _ (lists : Lists) (doc : Doc) (nodes : List Node) (outs untils : List ℕ
       emptied (Some i) among present none = empty_at (slice_index_or board i None) refl present (has.each i among)
         where
           empty_at : (p : Option RowList) → slice_index_or board i None ≡ p → IsSome p → IfSome p (IsOf lists doc nodes i) → IsEmptyOn board i
-          empty_at None e is_some is = absurd (search (rules, is_some))
+          empty_at None e is_some is = absurd (true≢false (sym is_some))
           empty_at (Some list) e is_some is = record { there = among; list = list; list_is = e; none = same_none list.rows (val lists doc nodes i) is.same none }
 
       right_by : (rows : Rows) → of_input [] (all_values lists doc nodes) (left_input node) ≡ rows → is_conditional node ≡ true

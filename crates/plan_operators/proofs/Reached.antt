@@ -1,18 +1,18 @@
 -- How far what is found from a token reaches: it lies in a run of tokens from there, and what stands behind a run as long
 -- as a match may be changes nothing.
-use Rattle.std.proofs.Common.{◌≡◌, ◌∙◌, ◌+◌, ◌-◌, ◌<◌, ◌≤◌, ◌++◌, ◌*◌, min, ℕ, zero, suc, Bool, true, false, List, [], ◌∷◌, length, map, take, drop, Option, Some, None, option_map, refl, sym, ap, ap₂, subst, arith, slice_get, slice_range, IsUtf8, encode_utf8_all, inl, inr}
+use Rattle.std.proofs.Common.{◌≡◌, ◌∙◌, ◌+◌, ◌-◌, ◌<◌, ◌≤◌, ◌++◌, ◌*◌, min, ℕ, zero, suc, true, false, List, [], ◌∷◌, length, map, take, drop, Option, Some, None, option_map, refl, sym, ap, subst, arith, slice_get, slice_range, IsUtf8, encode_utf8_all, inl, inr}
 use Rattle.std.specs.List.{cons_option, filter, range_with_len}
 use Rattle.std.specs.Option.{option_or}
 use Rattle.std.specs.Str.{chars, chars_after, continuation_len, lead_bits}
 use Rattle.std.proofs.Math.Utf8.{scalar, scalars}
-use Rattle.std.proofs.lemmas.Bool.{and_parts, and_from, cases_lt, cases_Bool, true≢false}
-use Rattle.std.proofs.lemmas.List.{length-take, length-drop, append-nil}
+use Rattle.std.proofs.lemmas.Bool.{and_parts, and_from, cases_Bool}
+use Rattle.std.proofs.lemmas.List.{length-take, append-nil}
 use Rattle.std.proofs.lemmas.List.Elements.{filter-append}
 use Rattle.std.proofs.lemmas.Option.{none-some, same_Some}
 use Rattle.std.proofs.lemmas.Str.{chars-encodes, scalars-chars}
-use Rattle.span_token.specs.Documents.{Doc, characters, text_in, chars_before, moved}
+use Rattle.span_token.specs.Documents.{Doc, characters, text_in, moved}
 use Rattle.span_token.specs.Extents.{Extent}
-use Rattle.span_token.specs.SourceTokens.{InTextOrder, nth_token, run_extent}
+use Rattle.span_token.specs.SourceTokens.{nth_token, run_extent}
 use Rattle.span_token.specs.Tokens.{tokens_of}
 use Rattle.aql_regex_extract.specs.Matches.{first_match, group_in, row_by, row_of}
 use Rattle.aql_regex_extract.specs.Patterns.{whole_form}

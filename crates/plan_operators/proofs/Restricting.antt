@@ -1,5 +1,5 @@
 -- What is put after the rows of a restricted join, one stretch after another.
-use Rattle.std.proofs.Common.{◌≡◌, ◌∙◌, ◌+◌, ◌-◌, ◌<◌, ◌≤◌, ◌++◌, min, max, ℕ, zero, suc, Bool, true, false, cond, List, [], ◌∷◌, length, map, take, drop, get_or, Option, Some, None, refl, sym, ap, ap₂, subst, arith, IsUtf8, inl, inr, append_assoc}
+use Rattle.std.proofs.Common.{◌≡◌, ◌∙◌, ◌+◌, ◌-◌, ◌<◌, ◌≤◌, ◌++◌, min, max, ℕ, zero, suc, Bool, true, false, cond, List, [], ◌∷◌, length, map, take, drop, get_or, Option, Some, refl, sym, ap, ap₂, subst, arith, IsUtf8, inl, inr, append_assoc}
 use Rattle.std.specs.List.{filter, flat_map, range_with_len}
 use Rattle.std.proofs.lemmas.Bool.{cases_Bool, cases_lt}
 use Rattle.std.proofs.lemmas.Bool.Decides.{nat_tests}
@@ -16,12 +16,12 @@ use Rattle.row_values.specs.Rows.{RowList, span_in}
 use Rattle.scalar_ops.specs.Tables.{Lists}
 use Rattle.aql_typed.specs.Meaning.{group_value, found_in}
 use Rattle.algebra.specs.declared.node.Local.{Local}
-use Rattle.algebra.specs.Operators.{sought_by, followed}
+use Rattle.algebra.specs.Operators.{sought_by}
 use Rattle.algebra.specs.Shapes.{IsSought}
 use Rattle.plan_operators.specs.declared.stretches.Stretch.{Stretch}
-use Rattle.plan_operators.specs.Neighbourhoods.{IsInRun, IsIn, IsInSome, DoRise, stretch_at, IsReach, BeginIn, PutsStretch, found_from, rows_from, rows_between}
+use Rattle.plan_operators.specs.Neighbourhoods.{IsIn, IsInSome, DoRise, stretch_at, IsReach, BeginIn, PutsStretch, found_from, rows_from, rows_between}
 use Rattle.plan_operators.proofs.Found.{found-by_token}
-use Rattle.plan_operators.proofs.Numbers.{Each, each-map, filter-none, flat_map-shift, flat_map-split, map-flat_map}
+use Rattle.plan_operators.proofs.Numbers.{each-map, filter-none, flat_map-shift, flat_map-split, map-flat_map}
 use Rattle.plan_operators.proofs.Reached.{IsFoundNear, found-near, found-limit}
 use Rattle.plan_operators.proofs.StretchLemmas.{in-there}
 use Rattle.plan_operators.proofs.TokenNumbers.{tokens-in-order, begins-rise, ends-rise}

@@ -1,5 +1,5 @@
 -- What the nodes of a plan have, so far as they are evaluated.
-use Rattle.std.specs.Prelude.{ℕ, ◌≡◌, ◌+◌, ◌<◌, ◌≤◌, ◌^◌, Bool, true, false, IsTrue, List, [], Option, Some, None, length, map, slice_index_or, IfSome, IsSome, All, ◌⊎◌}
+use Rattle.std.specs.Prelude.{ℕ, ◌≡◌, ◌+◌, ◌<◌, ◌≤◌, ◌^◌, Bool, true, false, IsTrue, List, [], Option, Some, None, length, slice_index_or, IfSome, IsSome, All, ◌⊎◌}
 use Rattle.aql_base.specs.Bags.{SameBag}
 use Rattle.span_token.specs.Documents.{Doc}
 use Rattle.row_values.specs.Rows.{RowList, RowsLieIn}

@@ -103,6 +103,7 @@ fn push_next<'d>(
 {
     let _number = nodes.len();
     let n = board.len() as u32;
+    let _node = nodes.get(n);
     if is_idle(asked[n as usize], board.as_slice()) {
         board.push(None)?;
     } else if is_narrowed(nodes, n, untils) && has_both(nodes, n, board.as_slice()) {

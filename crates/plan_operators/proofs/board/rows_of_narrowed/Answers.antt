@@ -15,9 +15,9 @@ returns-clause-rows c =
     let l = c.requires.left p c.get-product.ensures.node in
     let r = c.requires.right p c.get-product.ensures.node in
     let left : IsInput lists doc nodes (left_input p) c.rows.result.now =
-    subst (IsInput lists doc nodes (left_input p)) (sym (c.rows.ensures ∙ c.lent-left_rows.ensures ∙ ap (input_on board) c.inputs-left.ensures.left)) l.has in
+    subst (IsInput lists doc nodes (left_input p)) (sym (c.rows.ensures ∙ c.lent-left_rows.ensures ∙ ap (input_on nodes board) c.inputs-left.ensures.left)) l.has in
     let right : IsInput lists doc nodes (right_input p) c.rows-in-Select.result.now =
-    subst (IsInput lists doc nodes (right_input p)) (sym (c.rows-in-Select.ensures ∙ c.lent-right_rows.ensures ∙ ap (input_on board) c.inputs-left.ensures.right)) r.has in
+    subst (IsInput lists doc nodes (right_input p)) (sym (c.rows-in-Select.ensures ∙ c.lent-right_rows.ensures ∙ ap (input_on nodes board) c.inputs-left.ensures.right)) r.has in
     narrowed_is lists doc nodes c.args.n p s c.in-Cross.left c.in-Cross.right c.in-Select.input c.in-Cross.conditional c.in-Select.conds c.in-Cross.is c.in-Select.is
     (c.requires.from_it s c.get-selection.ensures.node) c.get-product.ensures.at c.get-selection.ensures.at c.rows.result.now c.rows-in-Select.result.now left right
     c.in_ok-rows-in-Select.rows c.in_ok-rows-in-Select.ensures.rows c.in_ok-rows-in-Select.ensures.width c.in_ok-rows-in-Select.ensures.lies

@@ -1,7 +1,6 @@
 use Rattle.std.proofs.Common.{◌≡◌, ◌∙◌, ◌<◌, ◌⊎◌, true, ℕ, Option, Some, length, sym, ap, subst, arith}
 use Rattle.std.proofs.lemmas.List.{get_or_default}
 use Rattle.algebra.specs.Inputs.{left_input, is_conditional}
-use Rattle.plan_operators.specs.declared.guards.Asked.{Asked}
 use Rattle.plan_operators.specs.declared.guards.Asked.TheVariants.{Always}
 use Rattle.plan_operators.specs.Guards.{asked_at, guard_in}
 use Rattle.plan_operators.proofs.Guarding.{asked-more}

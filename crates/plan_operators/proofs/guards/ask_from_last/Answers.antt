@@ -1,4 +1,4 @@
-use Rattle.std.proofs.Common.{◌≡◌, ◌-◌, ◌+◌, ◌≤◌, ℕ, List, length, sym, subst, arith}
+use Rattle.std.proofs.Common.{◌≡◌, ◌-◌, ◌+◌, ℕ, subst, arith}
 use Rattle.plan_operators.specs.Boards.{read_until}
 use Rattle.plan_operators.specs.Guards.{AreAsked}
 use Rattle.plan_operators.proofs.Guarding.{asked-unread}

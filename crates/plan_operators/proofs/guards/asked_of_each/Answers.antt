@@ -1,4 +1,4 @@
-use Rattle.std.proofs.Common.{◌≡◌, ℕ, map, All}
+use Rattle.std.proofs.Common.{◌≡◌, ℕ, map}
 use Rattle.std.proofs.lemmas.List.Elements.{All-map}
 use Rattle.algebra.specs.declared.output.PlanOut.{PlanOut}
 use Rattle.plan_operators.specs.declared.guards.Asked.TheVariants.{Always}

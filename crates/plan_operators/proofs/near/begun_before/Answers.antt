@@ -1,4 +1,4 @@
-use Rattle.std.proofs.Common.{◌≡◌, ◌∙◌, ℕ, length, subst, sym, arith, ap, nat_lt}
+use Rattle.std.proofs.Common.{◌≡◌, ◌∙◌, ℕ, length, subst, sym, arith, nat_lt}
 use Rattle.std.specs.List.{count_by}
 use Rattle.span_token.specs.Documents.{characters}
 use Rattle.span_token.specs.Extents.{Extent}

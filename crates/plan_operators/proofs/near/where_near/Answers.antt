@@ -1,4 +1,4 @@
-use Rattle.std.proofs.Common.{◌≡◌, ◌≤◌, ◌+◌, ◌-◌, ℕ, true, subst, arith, rules, w64, SFits, inl, inr}
+use Rattle.std.proofs.Common.{◌≡◌, ℕ, true, subst, arith, rules, w64, SFits, inl, inr}
 use Rattle.std.proofs.lemmas.Int.{to_z-of_z}
 use Rattle.span_token.specs.Contexts.{how_many}
 use Rattle.span_token.specs.Documents.{characters}

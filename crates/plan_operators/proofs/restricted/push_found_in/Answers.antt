@@ -1,11 +1,11 @@
-use Rattle.std.proofs.Common.{◌≡◌, ◌∙◌, ◌-◌, ◌++◌, List, Option, Some, map, length, sym, ap, arith}
+use Rattle.std.proofs.Common.{◌≡◌, ◌∙◌, ◌-◌, ◌++◌, List, Some, map, sym, ap, arith}
 use Rattle.std.proofs.lemmas.Option.{get_or_from_slice_get}
 use Rattle.span_token.specs.Documents.{characters}
 use Rattle.span_token.specs.ExtentLaws.{same_extent}
 use Rattle.span_token.specs.Extents.{Extent}
-use Rattle.span_token.specs.SourceTokens.{nth_token, run_extent}
+use Rattle.span_token.specs.SourceTokens.{run_extent}
 use Rattle.span_token.specs.Tokens.{tokens_of}
-use Rattle.row_values.specs.Datums.{Datum, span}
+use Rattle.row_values.specs.Datums.{Datum}
 use Rattle.row_values.specs.Rows.{RowList, span_in}
 use Rattle.aql_typed.specs.Trees.{Extraction}
 use Rattle.aql_typed.specs.Meaning.{group_value, found_in}

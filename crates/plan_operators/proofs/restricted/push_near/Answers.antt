@@ -1,4 +1,4 @@
-use Rattle.std.proofs.Common.{◌≡◌, ◌∙◌, ◌<◌, ◌≤◌, ◌++◌, ℕ, List, Some, IsUtf8, option_map, length, refl, sym, ap, subst, arith}
+use Rattle.std.proofs.Common.{◌∙◌, ◌≤◌, ◌++◌, ℕ, List, IsUtf8, option_map, length, refl, sym, ap, subst, arith}
 use Rattle.std.specs.List.{filter}
 use Rattle.span_token.specs.Contexts.{AreWithin}
 use Rattle.span_token.specs.Documents.{characters}

@@ -1,8 +1,8 @@
-use Rattle.std.proofs.Common.{◌≡◌, ◌∙◌, ◌+◌, ◌<◌, ◌≤◌, ◌++◌, ◌∷◌, [], max, ℕ, List, Vec, Global, length, take, sym, ap, subst, arith}
+use Rattle.std.proofs.Common.{◌≡◌, ◌∙◌, ◌+◌, ◌≤◌, ◌++◌, ◌∷◌, [], max, List, Vec, Global, take, sym, ap, subst, arith}
 use Rattle.std.proofs.lemmas.List.{take_all, take_more}
 use Rattle.plan_operators.specs.declared.stretches.Stretch.{Stretch}
 use Rattle.plan_operators.specs.Neighbourhoods.{DoRise, IsInSome, stretch_at}
-use Rattle.plan_operators.proofs.StretchLemmas.{AreMerged, merged-grown, merged-pushed, merged-rise, merged-same}
+use Rattle.plan_operators.proofs.StretchLemmas.{merged-grown, merged-pushed, merged-rise, merged-same}
 use Rattle.plan_operators.proofs.stretches.merged.Goals as goal
 use Rattle.plan_operators.proofs.stretches.merged.Goals.{then-stretch-saturating_add, else-stretch-saturating_add+in_ok-push}
 

@@ -1,9 +1,7 @@
-use Rattle.std.proofs.Common.{◌≡◌, ◌∙◌, ◌+◌, List, Some, None, Vec, Global, option_map, take, sym, ap, subst}
+use Rattle.std.proofs.Common.{◌∙◌, ◌+◌, Vec, Global, option_map, take, sym, ap, subst}
 use Rattle.std.specs.List.{All}
 use Rattle.std.proofs.lemmas.List.{take_all}
 use Rattle.span_token.specs.Extents.{extent_of}
-use Rattle.row_values.specs.Datums.{Datum}
-use Rattle.row_values.specs.Rows.{span_in}
 use Rattle.plan_operators.specs.declared.stretches.Stretch.{Stretch}
 use Rattle.plan_operators.specs.Neighbourhoods.{AreAround}
 use Rattle.plan_operators.proofs.StretchLemmas.{around-next, around-spanless}
