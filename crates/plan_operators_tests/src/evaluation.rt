@@ -326,15 +326,26 @@ fn pairs_are_kept_where_another_node_reads_them(rt: HostRuntime) -> Result<(), F
     Ok(())
 }
 
-/// Joins whose left side has no row, of matches of a pattern that isn't there.
+/// Joins whose left side has no row, of matches of a pattern that isn't there; the right side of two of them,
+/// node 3, has some.
 fn empty_left(alloc: Global) -> Result<Plan, Fail> {
     let mut nodes = Nodes::new(alloc);
     put_words(alloc, &mut nodes, NONE)?;
+    let groups = numbers(alloc, &[0])?;
+    put(
+        &mut nodes,
+        Node::Regex {
+            input: 0,
+            column: 0,
+            pattern: SMALL,
+            groups,
+        },
+    )?;
     put(
         &mut nodes,
         Node::Cross {
             left: 2,
-            right: 0,
+            right: 3,
             conditional: true,
         },
     )?;
@@ -342,10 +353,10 @@ fn empty_left(alloc: Global) -> Result<Plan, Fail> {
         &mut nodes,
         Node::SpanJoin {
             left: 2,
-            right: 0,
+            right: 3,
             kind: JoinKind::Overlaps,
             lc: 0,
-            rc: 0,
+            rc: 1,
             conditional: true,
         },
     )?;
@@ -359,14 +370,16 @@ fn empty_left(alloc: Global) -> Result<Plan, Fail> {
             local: Local::Dict { dict: ANY_CASE },
         },
     )?;
-    showing(alloc, nodes, tables_of(alloc)?, &[3, 4, 5])
+    showing(alloc, nodes, tables_of(alloc)?, &[4, 5, 6])
 }
 
 #[test]
-fn joins_without_a_left_row_have_none(rt: HostRuntime) -> Result<(), Fail> {
+fn joins_without_a_left_row_have_none_and_leave_their_right_side(
+    rt: HostRuntime,
+) -> Result<(), Fail> {
     let alloc = rt.alloc();
     let plan = empty_left(alloc)?;
-    let got = evaluated(alloc, &plan, &[3, 4, 5])?;
-    assert_eq!(rt; got.as_str(), "3 2:\n4 2:\n5 3:\n");
+    let got = evaluated(alloc, &plan, &[2, 3, 4, 5, 6])?;
+    assert_eq!(rt; got.as_str(), "2 -\n3 -\n4 3:\n5 3:\n6 3:\n");
     Ok(())
 }
