@@ -18,6 +18,8 @@ pub mod Parting
 pub mod MadePlans
 -- conditions in plans whose nodes get other numbers
 pub mod Keeping
+-- and joins
+pub mod Asking
 -- plans without nodes that nobody reads
 pub mod Dropping
 -- selections and extractions, one node after another

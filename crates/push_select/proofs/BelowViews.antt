@@ -13,7 +13,7 @@ use Rattle.push_select.specs.declared.below.Below.{Below}
 use Rattle.push_select.specs.declared.below.Below.TheVariants as below
 use Rattle.push_select.specs.Joins.{column_of}
 use Rattle.push_select.specs.Places.{IsBelow}
-use Rattle.push_select.specs.Pushed.{StandAbove, ShowsColumns}
+use Rattle.push_select.specs.Pushed.{ShowsColumns}
 
 -- nothing is told of a projection of other items
 pub below-items : (node : Node) (input : ℕ) (items : List Term) → node ≡ Project input items → ((shown : List ℕ) → items ≡ map column shown → ⊥) → IsBelow node below.Other

@@ -1,5 +1,5 @@
 -- The join that a condition of the code stands for, and what it means.
-use Rattle.std.proofs.Common.{◌≡◌, ◌∙◌, ℕ, ◌+◌, ◌-◌, ◌<◌, ◌≤◌, Bool, true, false, ◌&&◌, List, [], ◌∷◌, map, length, take, get_or, refl, sym, ap, ap₂, subst, arith, Option, Some, None}
+use Rattle.std.proofs.Common.{◌≡◌, ◌∙◌, ℕ, ◌+◌, ◌-◌, ◌<◌, ◌≤◌, Bool, true, false, List, [], ◌∷◌, map, length, take, get_or, refl, sym, ap, ap₂, subst, arith, Option, Some, None}
 use Rattle.std.specs.Prelude.{nat_lt}
 use Rattle.std.specs.List.{All}
 use Rattle.std.specs.Option.{IfNone}
@@ -30,7 +30,7 @@ use Rattle.algebra.specs.Operators.{does_join}
 use Rattle.algebra.specs.Predicates.{of_columns}
 use Rattle.push_select.specs.declared.join.Choice.{Choice}
 use Rattle.push_select.specs.declared.join.Join.{Join}
-use Rattle.push_select.specs.Joins.{kinds_of, column_of, both, two_columns, join_by_sides, join_between, join_with, join_by, join_of, rank_of, IsOfOtherRank}
+use Rattle.push_select.specs.Joins.{kinds_of, column_of, both, two_columns, join_by_sides, join_with, join_by, join_of, rank_of, IsOfOtherRank}
 use Rattle.push_select.proofs.ExprViews.{call_view}
 
 none_some : {X : Type 0} (x : X) → None ≡ Some x → ⊥

@@ -20,3 +20,5 @@ pub mod Standing
 pub mod Going
 -- products of three nodes
 pub mod Reordering
+-- joins that look near their left rows
+pub mod Searching

@@ -1,5 +1,5 @@
 -- Selections over nodes that combine two others, side by side.
-use Rattle.std.proofs.Common.{◌≡◌, ◌∙◌, ℕ, ◌+◌, ◌<◌, not, List, [], ◌∷◌, map, length, get_or, refl, sym, ap, ap₂, subst, arith}
+use Rattle.std.proofs.Common.{◌≡◌, ◌∙◌, ℕ, ◌+◌, ◌<◌, not, List, map, length, get_or, sym, ap, ap₂, subst, arith}
 use Rattle.std.specs.List.{All}
 use Rattle.std.proofs.lemmas.List.Elements.{All-filter}
 use Rattle.aql_base.specs.Bags.{SameBag}
@@ -16,7 +16,7 @@ use Rattle.aql_typed.specs.Meaning.{Rows, selected}
 use Rattle.algebra.specs.declared.node.Node.{Node}
 use Rattle.algebra.specs.declared.node.Node.TheVariants.{Select}
 use Rattle.algebra.specs.declared.shape.Shape.{Shape}
-use Rattle.algebra.specs.Growth.{Grows, Has, Stands, IsAt}
+use Rattle.algebra.specs.Growth.{Has, Stands, IsAt}
 use Rattle.algebra.specs.GrowthLaws.{grows-trans, grows-length, shape-kept, val-kept}
 use Rattle.algebra.specs.Nodes.{IsNode, IsPlan}
 use Rattle.algebra.specs.Operators.{does_join}
@@ -65,8 +65,8 @@ module _ (old : List Node) (pair : Pair) (both : IsNode (shapes_of old) (cross_o
     }
 
     pub pair-narrows : (new : List Node) (right : ℕ) (narrowed : NarrowedPair) → Narrows mid new pair.right right sides.right → narrowed.pair.left ≡ left → narrowed.pair.right ≡ right
-        → narrowed.pair.conditional ≡ pair.conditional → map term_of narrowed.joint.items ≡ map term_of sides.joint.items → NarrowsPair old new pair conds narrowed
-    pair-narrows new right narrowed others left_is right_is conditional_is joint_is =
+        → map term_of narrowed.joint.items ≡ map term_of sides.joint.items → NarrowsPair old new pair conds narrowed
+    pair-narrows new right narrowed others left_is right_is joint_is =
         let on_left : Gives new left (width_at old pair.left) (λ lists doc. selected lists doc (left_conditions (width_at old pair.left) are.parts) (val lists doc old pair.left)) =
         gives-is new left (width_at old pair.left) _ _ (λ lists doc. ap (λ (cs : List Term). selected lists doc cs (val lists doc old pair.left)) are.left)
         (gives-grown mid new left (width_at old pair.left) _ others.grows fewer.gives) in
@@ -81,7 +81,6 @@ module _ (old : List Node) (pair : Pair) (both : IsNode (shapes_of old) (cross_o
           grows = grows-trans old mid new fewer.grows others.grows;
           left = subst (λ (n : ℕ). Gives new n (width_at old pair.left) (λ lists doc. selected lists doc (left_conditions (width_at old pair.left) are.parts) (val lists doc old pair.left))) (sym left_is) on_left;
           right = subst (λ (n : ℕ). Gives new n (width_at old pair.right) (λ lists doc. selected lists doc (right_conditions (width_at old pair.left) are.parts) (val lists doc old pair.right))) (sym right_is) on_right;
-          conditional = conditional_is;
           joint = joint_is ∙ are.joint;
           apart = are.apart;
         }

@@ -25,7 +25,7 @@ use Rattle.push_select.specs.declared.below.Pair.{Pair}
 use Rattle.push_select.specs.declared.join.Choice.{Choice}
 use Rattle.push_select.specs.Joins.{IsChoice}
 use Rattle.push_select.specs.Places.{Combination, all_pairs, joined_by, cross_of, join_of_pair, joint_width, IsPlain, Gives, Narrows, Combines}
-use Rattle.push_select.specs.Pushed.{width_at, ReadsBoth}
+use Rattle.push_select.specs.Pushed.{width_at}
 use Rattle.push_select.proofs.JoiningRows.{selected-none, selected-joined_out, terms_split, terms_left}
 use Rattle.push_select.proofs.JoinViews.{JoinForm, is_join, join-left, join-right}
 use Rattle.push_select.proofs.Parting.{all-left, all-right}

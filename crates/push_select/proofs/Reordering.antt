@@ -2,7 +2,7 @@
 use Rattle.std.proofs.Common.{◌≡◌, ◌∙◌, ℕ, ◌+◌, ◌-◌, ◌<◌, ◌≤◌, Bool, true, false, true≢false, not, cond, List, [], ◌∷◌, map, length, get_or, refl, sym, ap, ap₂, subst, arith}
 use Rattle.std.specs.List.{All, filter}
 use Rattle.std.proofs.lemmas.List.{length-map, get_or-map}
-use Rattle.std.proofs.lemmas.List.Elements.{All-nil, All-head, All-tail, All-map, All-filter, filter_passes}
+use Rattle.std.proofs.lemmas.List.Elements.{All-head, All-tail, All-map, All-filter, filter_passes}
 use Rattle.aql_base.specs.Bags.{SameBag}
 use Rattle.aql_base.specs.BagLaws.{SameBag-refl, SameBag-sym, SameBag-trans, SameBag-is, SameBag-filter}
 use Rattle.span_token.specs.Documents.{Doc as Document}
@@ -10,19 +10,17 @@ use Rattle.row_values.specs.Rows.{product}
 use Rattle.row_values.specs.RowBags.{SameBag-product}
 use Rattle.scalar_ops.specs.Expressions.{Term, column, number, string, call, none, more, columns_of, ReadsBelow, ReadsFrom, does_read_below, does_read_from, renamed}
 use Rattle.scalar_ops.specs.ReadingLaws.{columns-renamed, does_read_below-is, does_read_from-is}
-use Rattle.scalar_ops.specs.SideLaws.{left_conditions, later_conditions, right_conditions, joint_conditions}
+use Rattle.scalar_ops.specs.SideLaws.{left_conditions, later_conditions, joint_conditions}
 use Rattle.scalar_ops.specs.Tables.{Lists}
 use Rattle.scalar_ops.specs.Values.{holding}
 use Rattle.aql_typed.specs.Meaning.{Rows, selected}
 use Rattle.algebra.specs.declared.node.Node.{Node}
-use Rattle.algebra.specs.declared.node.Node.TheVariants.{Cross}
 use Rattle.algebra.specs.declared.shape.Shape.{Shape}
-use Rattle.algebra.specs.FoldLaws.{length-each}
-use Rattle.algebra.specs.Growth.{Grows, IsAt}
+use Rattle.algebra.specs.Growth.{IsAt}
 use Rattle.algebra.specs.GrowthLaws.{grows-trans, grows-length, shape-kept, val-kept}
 use Rattle.algebra.specs.Nodes.{IsNode}
 use Rattle.algebra.specs.SelectionLaws.{selected-product}
-use Rattle.algebra.specs.Shapes.{IsOpen, columns, shape_by, no_shape, shapes_of}
+use Rattle.algebra.specs.Shapes.{IsOpen, columns, no_shape, shapes_of}
 use Rattle.algebra.specs.Values.{val}
 use Rattle.algebra.specs.WidthLaws.{val-wide}
 use Rattle.push_select.specs.declared.below.Pair.{Pair}
@@ -134,7 +132,7 @@ module _ (old : List Node) (pair inner : Pair) (at : IsAt old pair.left (cross_o
   u = width_at old pair.right
 
   abbrev behind : Pair
-  behind = record { left = inner.right; right = pair.right; conditional = pair.conditional }
+  behind = record { left = inner.right; right = pair.right }
 
   left_width : width_at old pair.left ≡ w + v
   left_width = ap (λ (s : Shape). s.width) at.stands.has.shaped
@@ -163,7 +161,7 @@ module _ (old : List Node) (pair inner : Pair) (at : IsAt old pair.left (cross_o
 
   module _ (mid : List Node) (r : ℕ) (near : Combines old mid behind r all_pairs (later_of w cs)) where
     abbrev front : Pair
-    front = record { left = inner.left; right = r; conditional = pair.conditional }
+    front = record { left = inner.left; right = r }
 
     first_there : inner.left < length old
     first_there = node_there old inner.left at.valid.left_below

@@ -1,7 +1,7 @@
 -- Where conditions stand in plans that grow.
-use Rattle.std.proofs.Common.{◌≡◌, ◌∙◌, ℕ, ◌<◌, ◌≤◌, Bool, true, false, not, List, [], ◌∷◌, ◌++◌, map, length, get_or, refl, sym, ap, ap₂, subst, arith, Option, Some, None, inl, inr, true≢false}
-use Rattle.std.specs.Prelude.{slice_get, nat_lt}
-use Rattle.std.specs.List.{All, filter}
+use Rattle.std.proofs.Common.{◌≡◌, ◌∙◌, ℕ, ◌<◌, Bool, true, false, not, List, [], ◌∷◌, ◌++◌, map, length, get_or, refl, sym, ap, ap₂, subst, arith, Option, Some, None, inl, inr, true≢false}
+use Rattle.std.specs.Prelude.{slice_get}
+use Rattle.std.specs.List.{All}
 use Rattle.std.proofs.lemmas.Bool.{lt-ltb, le-ltb}
 use Rattle.std.proofs.lemmas.List.{length-append, get_or_append_left, get_or_default}
 use Rattle.std.proofs.lemmas.List.Elements.{All-nil, All-map, All-filter, All-push, filter_passes}
@@ -15,8 +15,9 @@ use Rattle.scalar_ops.specs.SideLaws.{later_conditions, joint_conditions}
 use Rattle.scalar_ops.specs.Views.{term_of}
 use Rattle.algebra.specs.declared.node.JoinKind.{JoinKind}
 use Rattle.algebra.specs.declared.node.JoinKind.TheVariants as kind
+use Rattle.algebra.specs.declared.node.Local.{Local}
 use Rattle.algebra.specs.declared.node.Node.{Node}
-use Rattle.algebra.specs.declared.node.Node.TheVariants.{Doc, Select, Project, Cross, SpanJoin, Union}
+use Rattle.algebra.specs.declared.node.Node.TheVariants.{Doc, Select, Project, Cross, SpanJoin, Restricted, Union}
 use Rattle.algebra.specs.declared.shape.Shape.{Shape}
 use Rattle.algebra.specs.FoldLaws.{length-each}
 use Rattle.algebra.specs.Growth.{Grows}
@@ -30,7 +31,7 @@ use Rattle.push_select.specs.declared.join.Join.{Join}
 use Rattle.push_select.specs.Conditions.{IsApart}
 use Rattle.push_select.specs.Joins.{join_by_sides, join_between, join_of}
 use Rattle.push_select.specs.Places.{cross_of, join_of_pair, IsPushed}
-use Rattle.push_select.specs.Pushed.{width_at, IsOfSpans, AreOfBothSides, IsSpanPredicate, ReadsBoth, ReadsBothFreely, IsAnd, ShowsColumns, StandAbove, MayStand}
+use Rattle.push_select.specs.Pushed.{width_at, IsOfSpans, AreOfBothSides, IsSpanPredicate, ReadsBoth, ReadsBothFreely, IsAnd, ShowsColumns, StandAbove, MayStand, IsUnrestricted}
 
 node_before : (nodes : List Node) (n : ℕ) → n < length (shapes_of nodes) → n < length nodes
 node_before nodes n below = omega (arith, below, length-each no_shape shape_by nodes)
@@ -74,13 +75,14 @@ may_more old new plan grows (Project i items) valid may =
 may_more old new plan grows node valid may = tt
 
 pub pushed-none : IsPushed []
-pushed-none = record { plan = tt; pushed = λ k d below. absurd (omega (arith, below)) }
+pushed-none = record { plan = tt; pushed = λ k d below. absurd (omega (arith, below)); unrestricted = λ k d below. absurd (omega (arith, below)) }
 
--- one node more, whose conditions may stand
-pub pushed-add : (old new : List Node) (node : Node) → new ≡ old ++ node ∷ [] → IsNode (shapes_of old) node → IsPushed old → MayStand old node → IsPushed new
-pushed-add old new node is valid so_far may = subst IsPushed (sym is) (record {
+-- one node more, whose conditions may stand, and which asks for both of its inputs where it is a join
+pub pushed-add : (old new : List Node) (node : Node) → new ≡ old ++ node ∷ [] → IsNode (shapes_of old) node → IsPushed old → MayStand old node → IsUnrestricted node → IsPushed new
+pushed-add old new node is valid so_far may asks = subst IsPushed (sym is) (record {
   plan = plan-push old node so_far.plan valid;
   pushed = All-push (MayStand (old ++ node ∷ [])) old node each (may_more old (old ++ node ∷ []) so_far.plan grows node valid may);
+  unrestricted = All-push IsUnrestricted old node so_far.unrestricted asks;
 })
   where
     grows : Grows old (old ++ node ∷ [])
@@ -91,6 +93,14 @@ pushed-add old new node is valid so_far may = subst IsPushed (sym is) (record {
         let x = get_or old k d in
         may_more old (old ++ node ∷ []) so_far.plan grows x
         (is-at old k x so_far.plan below (get_or_default old k d x below)).valid (so_far.pushed k d below)
+
+-- a node that is no join looks near no rows, and asks for its inputs
+pub other-asks : (node : Node) → ((l r : ℕ) (c : Bool) → node ≡ Cross l r c → ⊥) → ((l r : ℕ) (k : JoinKind) (lc rc : ℕ) (c : Bool) → node ≡ SpanJoin l r k lc rc c → ⊥)
+    → ((o s : ℕ) (k : JoinKind) (lc : ℕ) (part : Local) → node ≡ Restricted o s k lc part → ⊥) → IsUnrestricted node
+other-asks (Cross l r c) cross join restricted = absurd (cross l r c refl)
+other-asks (SpanJoin l r k lc rc c) cross join restricted = absurd (join l r k lc rc c refl)
+other-asks (Restricted o s k lc part) cross join restricted = absurd (restricted o s k lc part refl)
+other-asks node cross join restricted = tt
 
 -- any node but a selection and a projection may stand anywhere
 pub other-stands : (nodes : List Node) (node : Node) → ((i : ℕ) (conds : List Term) → node ≡ Select i conds → ⊥) → ((i : ℕ) (items : List Term) → node ≡ Project i items → ⊥) → MayStand nodes node

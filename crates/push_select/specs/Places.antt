@@ -1,5 +1,5 @@
 -- What nodes that take the place of others have.
-use Rattle.std.specs.Prelude.{ℕ, ◌≡◌, ◌+◌, List, Some, map, All, slice_index_or}
+use Rattle.std.specs.Prelude.{ℕ, ◌≡◌, ◌+◌, false, List, Some, map, All, slice_index_or}
 use Rattle.span_token.specs.Documents.{Doc as Document}
 use Rattle.row_values.specs.Datums.{Datum}
 use Rattle.row_values.specs.Rows.{product}
@@ -10,12 +10,13 @@ use Rattle.scalar_ops.specs.Tables.{Lists}
 use Rattle.scalar_ops.specs.Values.{holding}
 use Rattle.scalar_ops.specs.Views.{term_of}
 use Rattle.aql_typed.specs.Meaning.{Rows, selected}
+use Rattle.algebra.specs.declared.node.Local.{Local}
 use Rattle.algebra.specs.declared.node.Node.{Node}
 use Rattle.algebra.specs.declared.node.Node.TheVariants.{Cross, SpanJoin, Union, Project}
 use Rattle.algebra.specs.declared.shape.Shape.{Shape}
 use Rattle.algebra.specs.Growth.{Grows, Has}
 use Rattle.algebra.specs.Nodes.{IsPlan}
-use Rattle.algebra.specs.Operators.{does_join}
+use Rattle.algebra.specs.Operators.{does_join, sought_by, with_found}
 use Rattle.algebra.specs.Shapes.{IsOpen, columns, no_shape, shapes_of}
 use Rattle.algebra.specs.Values.{val}
 use Rattle.push_select.specs.declared.below.Below.{Below}
@@ -24,19 +25,20 @@ use Rattle.push_select.specs.declared.below.Pair.{Pair}
 use Rattle.push_select.specs.declared.join.Join.{Join}
 use Rattle.push_select.specs.declared.selection.NarrowedPair.{NarrowedPair}
 use Rattle.push_select.specs.Conditions.{IsApart}
-use Rattle.push_select.specs.Pushed.{width_at, StandAbove, ShowsColumns, ArePushed}
+use Rattle.push_select.specs.Pushed.{width_at, StandAbove, ShowsColumns, ArePushed, AreUnrestricted}
 
--- nodes of a plan whose conditions stand where they may
+-- nodes of a plan whose conditions stand where they may, and whose joins ask for both of their inputs
 pub record IsPushed (nodes : List Node) : Type 0 where
   pub plan : IsPlan nodes
   pub pushed : ArePushed nodes
+  pub unrestricted : AreUnrestricted nodes
 
 -- the nodes that combine two others
 abbrev pub cross_of : Pair → Node
-cross_of pair = Cross pair.left pair.right pair.conditional
+cross_of pair = Cross pair.left pair.right false
 
 abbrev pub join_of_pair : Pair → Join → Node
-join_of_pair pair join = SpanJoin pair.left pair.right join.kind join.lc join.rc pair.conditional
+join_of_pair pair join = SpanJoin pair.left pair.right join.kind join.lc join.rc false
 
 -- what is told of a node is so: what it combines, or of which node it shows which columns; and conditions may stand above
 -- any other
@@ -86,7 +88,6 @@ pub record NarrowsPair (old new : List Node) (pair : Pair) (conds : List Term) (
   pub grows : Grows old new
   pub left : Gives new narrowed.pair.left (width_at old pair.left) (λ lists doc. selected lists doc (left_conditions (width_at old pair.left) parts) (val lists doc old pair.left))
   pub right : Gives new narrowed.pair.right (width_at old pair.right) (λ lists doc. selected lists doc (right_conditions (width_at old pair.left) parts) (val lists doc old pair.right))
-  pub conditional : narrowed.pair.conditional ≡ pair.conditional
   pub joint : map term_of narrowed.joint.items ≡ joint_conditions (width_at old pair.left) parts
   pub apart : All IsApart parts
 
@@ -94,3 +95,8 @@ pub record NarrowsPair (old new : List Node) (pair : Pair) (conds : List Term) (
 pub record Combines (old new : List Node) (pair : Pair) (n : ℕ) (rows : Combination) (conds : List Term) : Type 0 where
   pub grows : Grows old new
   pub has : Has new n (columns (joint_width old pair)) (λ lists doc. selected lists doc conds (rows doc (val lists doc old pair.left) (val lists doc old pair.right)))
+
+-- node n of the new plan has what is sought in the document, which is the row of node `source` of the old one
+pub record Searches (old new : List Node) (source n : ℕ) (sought : Local) : Type 0 where
+  pub grows : Grows old new
+  pub has : Has new n (columns 2) (λ lists doc. with_found lists doc (sought_by sought) (val lists doc old source))

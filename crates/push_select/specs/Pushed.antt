@@ -1,10 +1,11 @@
--- The form that pushing gives to a plan: which conditions stand right above a product or a join.
-use Rattle.std.specs.Prelude.{ℕ, ◌≡◌, ◌<◌, ◌≤◌, ◌⊎◌, List, map, All, Option, Some, None, slice_get, slice_index_or}
+-- The form that pushing gives to a plan: which conditions stand right above a product or a join, and that joins ask for both
+-- of their inputs.
+use Rattle.std.specs.Prelude.{ℕ, ◌≡◌, ◌<◌, ◌≤◌, ◌⊎◌, false, List, map, All, Option, Some, slice_get, slice_index_or}
 use Rattle.scalar_ops.specs.declared.op.Op.{Op}
 use Rattle.scalar_ops.specs.declared.op.Op.TheVariants as op
 use Rattle.scalar_ops.specs.Expressions.{Term, column, number, string, call, ReadsBelow, ReadsFrom}
 use Rattle.algebra.specs.declared.node.Node.{Node}
-use Rattle.algebra.specs.declared.node.Node.TheVariants.{Select, Project, Cross, SpanJoin, Union}
+use Rattle.algebra.specs.declared.node.Node.TheVariants.{Select, Project, Cross, SpanJoin, Restricted, Union}
 use Rattle.algebra.specs.Predicates.{of_columns}
 use Rattle.algebra.specs.Shapes.{no_shape, shapes_of}
 
@@ -79,3 +80,14 @@ MayStand nodes node = Unit {0}
 -- every selection and every projection of a plan may stand where it does
 abbrev pub ArePushed : List Node → Type 0
 ArePushed nodes = All (MayStand nodes) nodes
+
+-- a join asks for both of its inputs, and none looks near its left rows
+abbrev pub IsUnrestricted : Node → Type 0
+IsUnrestricted (Cross left right conditional) = conditional ≡ false
+IsUnrestricted (SpanJoin left right join lc rc conditional) = conditional ≡ false
+IsUnrestricted (Restricted outer source join lc sought) = ⊥
+IsUnrestricted node = Unit {0}
+
+-- so does every join of a plan
+abbrev pub AreUnrestricted : List Node → Type 0
+AreUnrestricted nodes = All IsUnrestricted nodes

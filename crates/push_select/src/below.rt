@@ -4,6 +4,7 @@ ghost use Rattle.std.specs.Prelude.{◌≡◌, IfOk, IfSome, IfNone, ℕ, List, 
 ghost use Rattle.scalar_ops.specs.Expressions.{column};
 ghost use Rattle.scalar_ops.specs.Views.{term_of};
 ghost use Rattle.push_select.specs.Places.{IsBelow};
+ghost use Rattle.push_select.specs.Pushed.{IsUnrestricted};
 
 use crate::join::{Join, column_of};
 use algebra::Node;
@@ -11,13 +12,11 @@ use scalar_ops::Expr;
 use span_token::OutOfMemory;
 use std::alloc::Global;
 
-/// The numbers of two nodes that are combined, and whether the right one is asked for only where the left
-/// one has a row.
+/// The numbers of two nodes that are combined.
 #[derive(Clone, Copy, Debug, PartialEq, Eq)]
 pub(crate) struct Pair {
     pub left: u32,
     pub right: u32,
-    pub conditional: bool,
 }
 
 /// What a node combines, or of which node it shows columns.
@@ -37,17 +36,13 @@ pub(crate) enum Below {
 
 /// What this node combines or shows.
 pub(crate) fn below_of(alloc: Global, node: &Node) -> Result<Below, OutOfMemory>
+    requires { IsUnrestricted node.now }
     ensures { IfOk result (IsBelow node.now) }
 {
     match node {
-        Node::Cross {
-            left,
-            right,
-            conditional,
-        } => Ok(Below::Product(Pair {
+        Node::Cross { left, right, .. } => Ok(Below::Product(Pair {
             left: *left,
             right: *right,
-            conditional: *conditional,
         })),
         Node::SpanJoin {
             left,
@@ -55,12 +50,11 @@ pub(crate) fn below_of(alloc: Global, node: &Node) -> Result<Below, OutOfMemory>
             kind,
             lc,
             rc,
-            conditional,
+            ..
         } => Ok(Below::Joined(
             Pair {
                 left: *left,
                 right: *right,
-                conditional: *conditional,
             },
             Join {
                 kind: *kind,

@@ -80,17 +80,14 @@ fn turned(
 {
     let width = nodes.shape(inner.left).width;
     let turns = turns_of(alloc, conds.as_slice(), width)?;
-    let conditional = pair.conditional;
     let behind = Pair {
         left: inner.right,
         right: pair.right,
-        conditional,
     };
     let right = paired(alloc, nodes, behind, turns.later)?;
     let front = Pair {
         left: inner.left,
         right,
-        conditional,
     };
     let n = paired(alloc, nodes, front, turns.others)?;
     Ok(n)
@@ -160,7 +157,7 @@ pub(crate) fn joined(
         kind: join.kind,
         lc: join.lc,
         rc: join.rc,
-        conditional: pair.conditional,
+        conditional: false,
     })?;
     let n = filtered(nodes, both, conds)?;
     Ok(n)
@@ -180,7 +177,7 @@ fn crossed(nodes: &mut Nodes, pair: Pair, conds: Vec<Expr>) -> Result<u32, OutOf
     let both = nodes.add(Node::Cross {
         left: pair.left,
         right: pair.right,
-        conditional: pair.conditional,
+        conditional: false,
     })?;
     let n = filtered(nodes, both, conds)?;
     Ok(n)

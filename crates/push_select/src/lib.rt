@@ -3,8 +3,8 @@
 //! `push` puts a plan together anew, so that each output shows the rows that it showed, as a bag, on every
 //! document: a condition of a selection goes down through projections of plain columns and unions, above a
 //! product or a join to the side that it reads alone, and a predicate of a span of each side makes the product
-//! a join (`specs/Pushed.antt`). Stands on
-//! `algebra` for plans, for what a rewrite owes, and for the laws of selections and joins.
+//! a join. Every join of the answer asks for both of its inputs (`specs/Pushed.antt`). Stands on `algebra` for
+//! plans, for what a rewrite owes, and for the laws of selections and joins.
 #![tactic(auto)]
 
 mod below;
@@ -18,5 +18,6 @@ mod reading;
 mod selection;
 mod sides;
 mod turning;
+mod unrestricting;
 
 pub use pushing::push;

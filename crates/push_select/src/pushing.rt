@@ -1,9 +1,10 @@
 ghost use Rattle.std.specs.Prelude.{IfOk};
 ghost use Rattle.algebra.specs.Plans.{KeepsOutputs};
-ghost use Rattle.push_select.specs.Pushed.{ArePushed};
+ghost use Rattle.push_select.specs.Pushed.{ArePushed, AreUnrestricted};
 
 use crate::projecting::projected;
 use crate::selection::selected;
+use crate::unrestricting::unrestricted;
 use algebra::{Node, Nodes, Plan, Rewrite, rewritten};
 use span_token::OutOfMemory;
 use std::alloc::Global;
@@ -16,20 +17,26 @@ use std::alloc::Global;
 /// it reads alone; one that reads no column goes to the left. An `And` is taken apart. A condition that is
 /// `Follows`, `FollowsTok`, `Overlaps` or `Contains` of two plain columns, one of each side, makes the
 /// product a join of its kind: the first that is a distance, else the first overlap, else the first
-/// containment. The others stay in a selection above it. No condition goes down past another node, and of projections of plain
-/// columns one above another one is left.
+/// containment. The others stay in a selection above it. No condition goes down past another node, and of
+/// projections of plain columns one above another one is left.
 ///
-/// Meaning: `ArePushed`, `specs/Pushed.antt`.
+/// Every join of the answer asks for both of its inputs: a conditional one is put as one that isn't, and one
+/// that looks near its left rows as the join of these with all that is found. What that saves is for a rewrite
+/// that comes behind.
+///
+/// Meaning: `ArePushed` and `AreUnrestricted`, `specs/Pushed.antt`.
 pub fn push(alloc: Global, plan: Plan) -> Result<Plan, OutOfMemory>
     ensures keeps { IfOk result (λ new. KeepsOutputs plan new) }
     ensures pushed { IfOk result (λ new. ArePushed new.nodes) }
+    ensures unrestricted { IfOk result (λ new. AreUnrestricted new.nodes) }
 {
     let mut rule = Pushing;
     let new = rewritten(alloc, plan, &mut rule)?;
     Ok(new)
 }
 
-/// Puts each selection as `selected` does, each projection as `projected` does, and every other node as it is.
+/// Puts each selection as `selected` does, each projection as `projected` does, each join as one that asks for
+/// both of its inputs, and every other node as it is.
 #[derive(Drop)]
 struct Pushing;
 
@@ -46,6 +53,42 @@ impl Rewrite for Pushing {
             }
             Node::Project { input, items } => {
                 let n = projected(alloc, nodes, input, items)?;
+                Ok(n)
+            }
+            Node::Cross { left, right, .. } => {
+                let n = nodes.add(Node::Cross {
+                    left,
+                    right,
+                    conditional: false,
+                })?;
+                Ok(n)
+            }
+            Node::SpanJoin {
+                left,
+                right,
+                kind,
+                lc,
+                rc,
+                ..
+            } => {
+                let n = nodes.add(Node::SpanJoin {
+                    left,
+                    right,
+                    kind,
+                    lc,
+                    rc,
+                    conditional: false,
+                })?;
+                Ok(n)
+            }
+            Node::Restricted {
+                outer,
+                source,
+                kind,
+                lc,
+                local,
+            } => {
+                let n = unrestricted(alloc, nodes, outer, source, kind, lc, local)?;
                 Ok(n)
             }
             other => {

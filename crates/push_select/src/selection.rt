@@ -173,13 +173,8 @@ fn pair_narrowed(
     let parts = by_side(alloc, conds, width)?;
     let left = narrowed(alloc, nodes, pair.left, parts.left)?;
     let right = narrowed(alloc, nodes, pair.right, parts.right)?;
-    let conditional = pair.conditional;
     Ok(NarrowedPair {
-        pair: Pair {
-            left,
-            right,
-            conditional,
-        },
+        pair: Pair { left, right },
         joint: parts.joint,
     })
 }

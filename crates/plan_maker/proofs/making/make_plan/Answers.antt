@@ -1,4 +1,6 @@
 use Rattle.algebra.specs.Items.{output_nodes}
+use Rattle.push_select.specs.Pushed.{AreUnrestricted}
+use Rattle.plan_maker.proofs.Asking.{unrestricted-again, ask-both}
 use Rattle.plan_maker.proofs.Dropping.{conditional-again, restricted-again}
 use Rattle.plan_maker.proofs.Keeping.{pushed-again}
 use Rattle.plan_maker.proofs.MadePlans.{made, lowered-shows}
@@ -22,28 +24,33 @@ returns-clause-shows c =
 
 pub returns-clause-normal : goal.returns-clause-normal
 returns-clause-normal c =
+    let whole = c.in_ok-whole.whole in
     let before = c.in_ok-restricted.restricted in
     let shown = output_nodes before in
     let plan = c.in_ok-plan.plan in
     let distinct = c.in_ok-whole.ensures.distinct c.in_ok-shared.ensures.distinct in
     let merged = c.in_ok-whole.ensures.merged c.in_ok-shared.ensures.merged in
+    let unrestricted : AreUnrestricted whole.nodes =
+    unrestricted-again _ _ c.in_ok-whole.ensures.renumbered
+    (unrestricted-again _ _ c.in_ok-shared.ensures.renumbered (unrestricted-again _ _ c.in_ok-read.ensures.renumbered c.in_ok-pushed.ensures.unrestricted)) in
     record {
+      distinct = c.in_ok-plan.ensures.distinct (c.in_ok-restricted.ensures.distinct (ask-both whole.nodes unrestricted) distinct);
+      merged = c.in_ok-plan.ensures.merged (c.in_ok-restricted.ensures.merged (ask-both whole.nodes unrestricted) merged);
       conditional = conditional-again before.nodes shown plan.nodes (output_nodes plan) c.in_ok-plan.ensures.dropped c.in_ok-restricted.ensures.conditional;
       restricted = restricted-again before.nodes shown plan.nodes (output_nodes plan) c.in_ok-plan.ensures.dropped c.in_ok-restricted.ensures.restricted;
       read = c.in_ok-plan.ensures.read;
-      before = c.in_ok-whole.whole;
+      before = whole;
       made = record {
         promised = record {
           distinct = distinct;
           merged = merged;
           pushed = pushed-again _ _ c.in_ok-whole.ensures.renumbered (pushed-again _ _ c.in_ok-shared.ensures.renumbered (pushed-again _ _ c.in_ok-read.ensures.renumbered c.in_ok-pushed.ensures.pushed));
+          unrestricted = unrestricted;
           read = c.in_ok-whole.ensures.read;
         };
         between = before;
         numbers = c.in_ok-restricted.ensures.rebuilt.0;
         restricted = c.in_ok-restricted.ensures.rebuilt.1;
         dropped = c.in_ok-plan.ensures.dropped;
-        distinct = λ unrestricted. c.in_ok-plan.ensures.distinct (c.in_ok-restricted.ensures.distinct unrestricted distinct);
-        merged = λ unrestricted. c.in_ok-plan.ensures.merged (c.in_ok-restricted.ensures.merged unrestricted merged);
       };
     }

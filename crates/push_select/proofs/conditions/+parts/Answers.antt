@@ -1,4 +1,4 @@
-use Rattle.std.proofs.Common.{rules, ◌≡◌, ◌∙◌, ◌&&◌, Bool, List, map, length, ap, sym, subst, arith}
+use Rattle.std.proofs.Common.{rules, ◌≡◌, ◌∙◌, ◌&&◌, Bool, List, map, ap, sym, subst, arith}
 use Rattle.std.specs.List.{All}
 use Rattle.scalar_ops.specs.declared.expr.Expr.{Expr}
 use Rattle.scalar_ops.specs.declared.expr.Expr.TheVariants as expr

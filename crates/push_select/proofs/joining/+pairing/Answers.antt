@@ -1,4 +1,4 @@
-use Rattle.std.proofs.Common.{◌≡◌, ℕ, ◌<◌, List, map, sym, subst, arith}
+use Rattle.std.proofs.Common.{◌<◌, List, map, sym, subst, arith}
 use Rattle.std.specs.List.{All}
 use Rattle.scalar_ops.specs.declared.expr.Expr.{Expr}
 use Rattle.scalar_ops.specs.Expressions.{Term, ReadsBelow}
@@ -6,10 +6,10 @@ use Rattle.scalar_ops.specs.Views.{term_of}
 use Rattle.algebra.specs.declared.node.Node.{Node}
 use Rattle.algebra.specs.Growth.{IsAt}
 use Rattle.push_select.specs.Conditions.{IsApart, AreTurns}
-use Rattle.push_select.specs.Places.{all_pairs, cross_of, joint_width, IsBelow, Combines}
+use Rattle.push_select.specs.Places.{all_pairs, IsBelow, Combines}
 use Rattle.push_select.specs.Pushed.{width_at, ReadsBoth}
 use Rattle.push_select.proofs.Placing.{node_there}
-use Rattle.push_select.proofs.Reordering.{turns_at, later_of, others_of, behind-valid, behind-reads, behind-joint, behind-apart, front-valid, front-reads, front-joint, front-apart, turned-combines}
+use Rattle.push_select.proofs.Reordering.{turns_at, later_of, behind-valid, behind-reads, behind-joint, behind-apart, front-valid, front-reads, front-joint, front-apart, turned-combines}
 use Rattle.push_select.proofs.joining.+pairing.Goals as goal
 
 -- ---- by what the left node is
@@ -64,8 +64,8 @@ turned-paired-requires-2 t c =
     let turns = turns_at c.args.nodes.now c.args.inner.left c.shape-width.result (map term_of c.as_slice.result.now) c.in_ok-turns.turns c.shape-width.ensures c.in_ok-turns.ensures in
     let are : AreTurns (width_at c.args.nodes.now c.args.inner.left) (map term_of c.args.conds.items) c.in_ok-turns.turns =
     subst (λ (es : List Expr). AreTurns (width_at c.args.nodes.now c.args.inner.left) (map term_of es) c.in_ok-turns.turns) c.as_slice.ensures.value turns in
-    let near : Combines c.args.nodes.now c.paired.new.nodes (record { left = c.args.inner.right; right = c.args.pair.right; conditional = c.args.pair.conditional }) c.in_ok-right.right all_pairs (later_of (width_at c.args.nodes.now c.args.inner.left) (map term_of c.args.conds.items)) =
-    subst (λ (cs : List Term). Combines c.args.nodes.now c.paired.new.nodes (record { left = c.args.inner.right; right = c.args.pair.right; conditional = c.args.pair.conditional }) c.in_ok-right.right all_pairs cs) are.later c.in_ok-right.ensures.combines in (
+    let near : Combines c.args.nodes.now c.paired.new.nodes (record { left = c.args.inner.right; right = c.args.pair.right }) c.in_ok-right.right all_pairs (later_of (width_at c.args.nodes.now c.args.inner.left) (map term_of c.args.conds.items)) =
+    subst (λ (cs : List Term). Combines c.args.nodes.now c.paired.new.nodes (record { left = c.args.inner.right; right = c.args.pair.right }) c.in_ok-right.right all_pairs cs) are.later c.in_ok-right.ensures.combines in (
       omega (arith, lower),
       (
         front-valid c.args.nodes.now c.args.pair c.args.inner c.requires.at c.requires.both (map term_of c.args.conds.items) c.requires.reads c.requires.joint c.requires.apart c.paired.new.nodes c.in_ok-right.right near,
@@ -84,7 +84,7 @@ turned-returns-clause-combines t c =
     let turns = turns_at c.args.nodes.now c.args.inner.left c.shape-width.result (map term_of c.as_slice.result.now) c.in_ok-turns.turns c.shape-width.ensures c.in_ok-turns.ensures in
     let are : AreTurns (width_at c.args.nodes.now c.args.inner.left) (map term_of c.args.conds.items) c.in_ok-turns.turns =
     subst (λ (es : List Expr). AreTurns (width_at c.args.nodes.now c.args.inner.left) (map term_of es) c.in_ok-turns.turns) c.as_slice.ensures.value turns in
-    let near : Combines c.args.nodes.now c.paired.new.nodes (record { left = c.args.inner.right; right = c.args.pair.right; conditional = c.args.pair.conditional }) c.in_ok-right.right all_pairs (later_of (width_at c.args.nodes.now c.args.inner.left) (map term_of c.args.conds.items)) =
-    subst (λ (cs : List Term). Combines c.args.nodes.now c.paired.new.nodes (record { left = c.args.inner.right; right = c.args.pair.right; conditional = c.args.pair.conditional }) c.in_ok-right.right all_pairs cs) are.later c.in_ok-right.ensures.combines in
+    let near : Combines c.args.nodes.now c.paired.new.nodes (record { left = c.args.inner.right; right = c.args.pair.right }) c.in_ok-right.right all_pairs (later_of (width_at c.args.nodes.now c.args.inner.left) (map term_of c.args.conds.items)) =
+    subst (λ (cs : List Term). Combines c.args.nodes.now c.paired.new.nodes (record { left = c.args.inner.right; right = c.args.pair.right }) c.in_ok-right.right all_pairs cs) are.later c.in_ok-right.ensures.combines in
     turned-combines c.args.nodes.now c.args.pair c.args.inner c.requires.at c.requires.both (map term_of c.args.conds.items) c.requires.reads c.requires.joint c.requires.apart c.paired.new.nodes c.in_ok-right.right near c.paired-2.new.nodes c.in_ok-n.n
-    (subst (λ (cs : List Term). Combines c.paired.new.nodes c.paired-2.new.nodes (record { left = c.args.inner.left; right = c.in_ok-right.right; conditional = c.args.pair.conditional }) c.in_ok-n.n all_pairs cs) are.others c.in_ok-n.ensures.combines)
+    (subst (λ (cs : List Term). Combines c.paired.new.nodes c.paired-2.new.nodes (record { left = c.args.inner.left; right = c.in_ok-right.right }) c.in_ok-n.n all_pairs cs) are.others c.in_ok-n.ensures.combines)

@@ -1,4 +1,4 @@
-use Rattle.std.proofs.Common.{map}
+use Rattle.std.proofs.Common.{map, refl}
 use Rattle.scalar_ops.specs.Views.{term_of}
 use Rattle.push_select.specs.Places.{all_pairs, cross_of}
 use Rattle.push_select.proofs.Placing.{node_there, above-valid, above-combines}
@@ -16,7 +16,7 @@ filtered-requires-clause-above c =
     c.requires.joint c.requires.apart c.requires.no_join)
 
 pub filtered-requires-clause-pushed : goal.filtered-requires-clause-pushed
-filtered-requires-clause-pushed c = pushed-add c.args.nodes.now c.add.new.self (cross_of c.args.pair) c.in_ok-both.ensures.ok.1 c.requires.both c.requires.pushed tt
+filtered-requires-clause-pushed c = pushed-add c.args.nodes.now c.add.new.self (cross_of c.args.pair) c.in_ok-both.ensures.ok.1 c.requires.both c.requires.pushed tt refl
 
 pub returns-clause-combines : goal.returns-clause-combines
 returns-clause-combines c =

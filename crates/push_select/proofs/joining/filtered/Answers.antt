@@ -1,4 +1,4 @@
-use Rattle.std.proofs.Common.{rules, ◌≡◌, List, [], length, map, sym, subst}
+use Rattle.std.proofs.Common.{rules, ◌≡◌, List, length, map, sym, subst}
 use Rattle.std.specs.Prelude.{slice_get}
 use Rattle.scalar_ops.specs.Expressions.{Term}
 use Rattle.scalar_ops.specs.Views.{term_of}
@@ -20,3 +20,4 @@ returns-clause-pushed c =
     pushed-add c.args.nodes.now c.add.new.self (Select c.args.input c.from-conds.result) c.in_ok-n.ensures.ok.1
     (subst (λ (cs : List Term). IsNode (shapes_of c.args.nodes.now) (Select c.args.input cs)) (sym c.from-conds.ensures) c.requires.valid) c.requires.pushed
     (subst (λ (cs : List Term). StandAbove c.args.nodes.now cs (slice_get c.args.nodes.now c.args.input)) (sym c.from-conds.ensures) c.requires.above)
+    tt

@@ -42,9 +42,11 @@ returns-in_ok-n-in-Columns-clause-pushed c =
     c.requires.pushed
     (subst (MayStand c.args.nodes.now) is
     (may-at c.args.nodes.now c.requires.pushed.pushed c.args.input c.get.result.now (node_there c.args.nodes.now c.args.input c.requires.valid.left_below) c.get.ensures.node))
+    tt
 
 pub returns-in_ok-n-in_default-clause-pushed : goal.returns-in_ok-n-in_default-clause-pushed
 returns-in_ok-n-in_default-clause-pushed c =
     pushed-add c.args.nodes.now c.add-in_default.new.self (Project c.args.input c.args.items) c.in_ok-n-in_default.ensures.ok.1 c.requires.valid c.requires.pushed
     (shows-there c.args.nodes.now c.args.input c.get.result.now (node_there c.args.nodes.now c.args.input c.requires.valid.left_below) c.get.ensures.node
     (shows-none c.get.result.now c.in_ok-below.below c.in_ok-below.ensures c.in_default.not-Columns))
+    tt

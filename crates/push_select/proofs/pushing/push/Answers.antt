@@ -6,3 +6,6 @@ rewritten-requires c = record { knows = pushed-none }
 
 pub returns-clause-pushed : goal.returns-clause-pushed
 returns-clause-pushed c = c.in_ok-new.ensures.knows.pushed
+
+pub returns-clause-unrestricted : goal.returns-clause-unrestricted
+returns-clause-unrestricted c = c.in_ok-new.ensures.knows.unrestricted

@@ -1,4 +1,4 @@
-use Rattle.std.proofs.Common.{rules, ◌≡◌, ◌∙◌, ℕ, ◌<◌, List, length, map, refl, sym, ap, subst, arith}
+use Rattle.std.proofs.Common.{rules, ◌≡◌, ◌∙◌, ◌<◌, List, length, map, refl, sym, ap, subst, arith}
 use Rattle.scalar_ops.specs.Expressions.{Term, column}
 use Rattle.scalar_ops.specs.Views.{term_of}
 use Rattle.algebra.specs.declared.node.Node.{Node}
@@ -60,6 +60,7 @@ selected-returns-in_ok-n-in-Other-clause-pushed t c =
     pushed-add c.args.nodes.now c.add.new.self (Select c.args.input c.args.conds) c.in_ok-n-in-Other.ensures.ok.1 c.requires.valid c.requires.pushed
     (above-there c.args.nodes.now c.args.input c.get.result.now c.args.conds (node_there c.args.nodes.now c.args.input c.requires.valid.left_below) c.get.ensures.node
     ((subst (IsBelow c.get.result.now) c.in-Other.is c.in_ok-below.ensures).0 c.args.nodes.now c.args.conds))
+    tt
 
 -- ---- over a union
 
@@ -98,7 +99,7 @@ both_selected-returns-clause-pushed t c =
     (union-valid c.args.nodes.now c.args.input c.args.left c.args.right c.requires.at c.args.conds c.requires.valid c.from-copies.result
     (c.from-copies.ensures ∙ (c.in_ok-copies.ensures ∙ c.as_slice.ensures)) c.selected.new.nodes c.in_ok-left.left c.in_ok-left.ensures.stands
     c.selected-2.new.nodes c.in_ok-right.right c.in_ok-right.ensures.stands)
-    c.in_ok-right.ensures.pushed tt
+    c.in_ok-right.ensures.pushed tt tt
 
 -- ---- over a projection of plain columns
 
@@ -231,7 +232,7 @@ pub pair_narrowed-returns-clause-narrows : goal.pair_narrowed-returns-clause-nar
 pair_narrowed-returns-clause-narrows t c =
     pair-narrows c.args.nodes.now c.args.pair c.requires.both (map term_of c.args.conds.now) c.requires.reads c.in_ok-parts.parts
     (sides_at c.args.nodes.now c.args.pair.left c.shape-width.result (map term_of c.args.conds.now) c.in_ok-parts.parts c.shape-width.ensures c.in_ok-parts.ensures)
-    c.narrowed.new.nodes c.in_ok-left.left c.in_ok-left.ensures.narrows c.narrowed-2.new.nodes c.in_ok-right.right _ c.in_ok-right.ensures.narrows refl refl refl refl
+    c.narrowed.new.nodes c.in_ok-left.left c.in_ok-left.ensures.narrows c.narrowed-2.new.nodes c.in_ok-right.right _ c.in_ok-right.ensures.narrows refl refl refl
 
 -- ---- one node
 
