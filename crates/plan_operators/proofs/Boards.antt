@@ -16,6 +16,7 @@ use Rattle.scalar_ops.specs.Expressions.{Term}
 use Rattle.aql_typed.specs.Meaning.{selected}
 use Rattle.scalar_ops.specs.Tables.{Lists}
 use Rattle.std.specs.List.{All}
+use Rattle.std.specs.Option.{IfSome, IfNone}
 use Rattle.algebra.specs.declared.node.Node.{Node}
 use Rattle.algebra.specs.declared.node.Node.TheVariants.{Cross, Select}
 use Rattle.algebra.specs.declared.shape.Shape.{Shape}
@@ -29,7 +30,7 @@ use Rattle.algebra.specs.OperatorLaws.{op-SameBag}
 use Rattle.algebra.specs.Operators.{op}
 use Rattle.algebra.specs.Shapes.{no_shape, shapes_of, shape_by}
 use Rattle.algebra.specs.Values.{all_values, val}
-use Rattle.plan_operators.specs.Boards.{IsOf, Holds, IsInput, IsOnBoard, read_until, IsKeptFor, IsBoard, no_rows, rows_there}
+use Rattle.plan_operators.specs.Boards.{IsOf, Holds, IsInput, IsOnBoard, IsTaken, IsFound, IsThere, read_until, IsKeptFor, IsBoard, no_rows, rows_there, rows_found, input_on}
 use Rattle.plan_operators.specs.Given.{MayRead}
 
 module _ (lists : Lists) (doc : Doc) (nodes : List Node) where
@@ -62,6 +63,48 @@ module _ (lists : Lists) (doc : Doc) (nodes : List Node) where
         present = subst IsSome (sym e) on.present;
         has = subst (λ (o : Option RowList). IsInput lists doc nodes (Some i) (rows_there o)) (sym e) on.has;
       }
+
+  -- an input whose rows were given up or stand on the board
+  pub found_at : (board : List (Option RowList)) (o : Option ℕ) (given : Option RowList) → IsFound lists doc nodes board o given → IfNone given (IsAmong (length board) o × IsThere board o)
+  found_at board o None found = (found.among, found.present)
+  found_at board o (Some list) found = tt
+
+  pub found_is : (board : List (Option RowList)) (o : Option ℕ) (given : Option RowList) → IsFound lists doc nodes board o given → IsInput lists doc nodes o (rows_found board o given)
+  found_is board o None found = found.has
+  found_is board o (Some list) found = found
+
+  -- the two inputs of a node, of which each is given up or not
+  module _ (old mid new : List (Option RowList)) (left right : Option ℕ) (to_mid : length mid ≡ length old) (to_new : length new ≡ length mid)
+      (left_others : (m : ℕ) → (left ≡ Some m → ⊥) → slice_index_or mid m None ≡ slice_index_or old m None)
+      (right_others : (m : ℕ) → (right ≡ Some m → ⊥) → slice_index_or new m None ≡ slice_index_or mid m None)
+      (on_left : IsOnBoard lists doc nodes old left) (on_right : IsOnBoard lists doc nodes old right) where
+    -- the right one is still there when the left one was given up
+    right_there : (given : Option RowList) → IfSome given (λ rows. IsTaken left right rows old) → IfNone given ((m : ℕ) → slice_index_or mid m None ≡ slice_index_or old m None)
+        → IsOnBoard lists doc nodes mid right
+    right_there None taken same = still_there old mid right to_mid (λ m is. same m) on_right
+    right_there (Some list) taken same = still_there old mid right to_mid (λ m is. left_others m (λ left_is. taken.other (is ∙ sym left_is))) on_right
+
+    right_found_by : (given : Option RowList) → IfSome given (λ rows. IsTaken right left rows mid) → IfNone given ((m : ℕ) → slice_index_or new m None ≡ slice_index_or mid m None)
+        → IsOnBoard lists doc nodes mid right → IsFound lists doc nodes new right given
+    right_found_by None taken same on = still_there mid new right to_new (λ m is. same m) on
+    right_found_by (Some list) taken same on = subst (IsInput lists doc nodes right) (sym taken.rows_are) on.has
+
+    left_found_by : (given : Option RowList) → IfSome given (λ rows. IsTaken right left rows mid) → IfNone given ((m : ℕ) → slice_index_or new m None ≡ slice_index_or mid m None)
+        → IsOnBoard lists doc nodes mid left → IsOnBoard lists doc nodes new left
+    left_found_by None taken same on = still_there mid new left to_new (λ m is. same m) on
+    left_found_by (Some list) taken same on = still_there mid new left to_new (λ m is. right_others m (λ right_is. taken.other (is ∙ sym right_is))) on
+
+    module _ (of_left of_right : Option RowList) (left_taken : IfSome of_left (λ rows. IsTaken left right rows old)) (left_same : IfNone of_left ((m : ℕ) → slice_index_or mid m None ≡ slice_index_or old m None))
+        (right_taken : IfSome of_right (λ rows. IsTaken right left rows mid)) (right_same : IfNone of_right ((m : ℕ) → slice_index_or new m None ≡ slice_index_or mid m None)) where
+      pub right_found : IsFound lists doc nodes new right of_right
+      right_found = right_found_by of_right right_taken right_same (right_there of_left left_taken left_same)
+
+      by : (given : Option RowList) → IfSome given (λ rows. IsTaken left right rows old) → IfNone given ((m : ℕ) → slice_index_or mid m None ≡ slice_index_or old m None) → IsFound lists doc nodes new left given
+      by None taken same = left_found_by of_right right_taken right_same (still_there old mid left to_mid (λ m is. same m) on_left)
+      by (Some list) taken same = subst (IsInput lists doc nodes left) (sym taken.rows_are) on_left.has
+
+      pub left_found : IsFound lists doc nodes new left of_left
+      left_found = by of_left left_taken left_same
 
   -- the board after one more node
   pub board_next : (untils : List ℕ) (old new : List (Option RowList)) (o : Option RowList) → length new ≡ length old → IsBoard lists doc nodes untils old

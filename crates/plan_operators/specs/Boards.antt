@@ -77,10 +77,20 @@ pub record IsOnBoard (lists : Lists) (doc : Doc) (nodes : List Node) (board : Li
   pub present : IsThere board input
   pub has : IsInput lists doc nodes input (input_on board input)
 
--- rows that were taken off a board: those of the left input, which the right one isn't
-pub record IsTaken (left right : Option ℕ) (rows : RowList) (board : List (Option RowList)) : Type 0 where
-  pub rows_are : rows ≡ input_on board left
-  pub other : right ≡ left → ⊥
+-- rows that were taken off a board: those of an input, which the other one isn't
+pub record IsTaken (input another : Option ℕ) (rows : RowList) (board : List (Option RowList)) : Type 0 where
+  pub rows_are : rows ≡ input_on board input
+  pub other : another ≡ input → ⊥
+
+-- the rows of an input: those that were given up, and else those that it has on a board
+abbrev pub rows_found : List (Option RowList) → Option ℕ → Option RowList → RowList
+rows_found board input None = input_on board input
+rows_found board input (Some list) = list
+
+-- what was given up of an input is what it has, and where nothing was it is on the board
+abbrev pub IsFound : Lists → Doc → List Node → List (Option RowList) → Option ℕ → Option RowList → Type 0
+IsFound lists doc nodes board input None = IsOnBoard lists doc nodes board input
+IsFound lists doc nodes board input (Some list) = IsInput lists doc nodes input list
 
 -- a product; a selection
 abbrev pub is_product : Node → Bool
