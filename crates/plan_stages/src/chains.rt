@@ -3,12 +3,13 @@
 use span_token::OutOfMemory;
 use std::alloc::Global;
 
-/// About how many nodes of a lowered plan two views of one link make.
-const NODES_OF_A_LINK: u32 = 14;
+/// The nodes of a lowered plan that two views make, one of each chain: on each side a `Select` and a `Regex`,
+/// a `Project` on both, and a `Union`.
+const NODES_OF_A_LINK: u32 = 10;
 
-/// A program whose lowered plan has about so many nodes: two chains of views, where each link adds the
-/// numbers of the document to those of the link before it that are long enough. Both chains are equal, and so
-/// are the searches of all links.
+/// A program whose lowered plan has about so many nodes: two equal chains of views, each of which has the rows
+/// of the one before it that are long enough, and the numbers in all of its rows. Within a chain no two nodes
+/// are equal.
 pub(crate) fn chained(alloc: Global, nodes: u32) -> Result<String, OutOfMemory> {
     let links = nodes / NODES_OF_A_LINK;
     let mut text = String::new(alloc);
@@ -31,6 +32,6 @@ fn link(alloc: Global, chain: &str, i: u32) -> Result<String, OutOfMemory> {
     let next = u64::from(i) + 1;
     Ok(format!(in alloc;
         "create view {chain}{next} as (select N.n as n from {chain}{i} N where GreaterThan(GetLength(N.n), {i}))
-  union all (extract regex /[0-9]+/ on D.text as n from Document D);\n"
+  union all (extract regex /[0-9]+/ on N.n as n from {chain}{i} N);\n"
     )?)
 }
