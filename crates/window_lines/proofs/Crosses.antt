@@ -16,9 +16,9 @@ use Rattle.window_lines.specs.contracts.lines.Writing as Writing
 use Rattle.window_lines.specs.contracts.short.Hand as Hand
 use Rattle.window_lines.specs.contracts.short.Short as Short
 
--- what they share may be shared
-pub Writing-sync : (a l d : NamedLft) → IsSync (Writing.the_row a l d)
-Writing-sync a l d = search (Plan-sync, layout.the_sync, document.the_sync, vec.the_sync, crosses, sendable) depth 60 fits 20000
+-- what they share may be shared, with a pool that may be
+pub Writing-sync : (a l d : NamedLft) (P : RattleType) → IsSync P → IsSync (Writing.the_row a l d P)
+Writing-sync a l d P shared = search (Plan-sync, layout.the_sync, document.the_sync, vec.the_sync, crosses, sendable) depth 60 fits 20000
 
 pub one_captured_sync : (ν : Sym) (A : RattleType) → IsSync A → IsSync (TupleAt ν (A ∷ []))
 one_captured_sync ν A a = search sendable depth 20
@@ -27,9 +27,9 @@ Schedule-sync : (p : NamedLft) → IsSync (Schedule.the_row p)
 Schedule-sync p = search (Plan-sync, vec.the_sync, crosses, sendable) depth 60 fits 20000
 
 -- what threads share that evaluate short documents
-pub Short-sync : (a l p : NamedLft) → IsSync (Short.the_row a l p)
-Short-sync a l p = search (Schedule-sync, layout.the_sync, vec.the_sync, crosses, sendable) depth 60 fits 20000
+pub Short-sync : (a l p : NamedLft) (P : RattleType) → IsSync P → IsSync (Short.the_row a l p P)
+Short-sync a l p P shared = search (Schedule-sync, layout.the_sync, vec.the_sync, crosses, sendable) depth 60 fits 20000
 
--- a hand may be sent: its tools
-pub Hand-send : (p : NamedLft) → IsSend (Hand.the_row p)
-Hand-send p = search (tools, vec.the_send, crosses, sendable) depth 60 fits 20000
+-- a hand may be sent: its tools, and its part of a pool that may be
+pub Hand-send : (p : NamedLft) (P : RattleType) → IsSend P → IsSend (Hand.the_row p P)
+Hand-send p P sent = search (tools, vec.the_send, crosses, sendable) depth 60 fits 20000

@@ -8,6 +8,7 @@
 
 mod ahead;
 mod answer;
+mod answers;
 mod documents;
 mod lines;
 mod short;

@@ -1,8 +1,13 @@
 use Rattle.std.proofs.Common.{◌≡◌, ◌*◌, ◌++◌, map, take}
 use Rattle.std.specs.List.{flat_map}
 use Rattle.corpus_json.specs.Inputs.{doc_of}
-use Rattle.window_lines.specs.Lines.{line_by}
+use Rattle.run_pool.specs.Entries.{entry_of, with_entries}
+use Rattle.run_pool.specs.Lines.{line_from}
 use Rattle.window_lines.proofs.short.append_written.Given as goal
 
 abbrev pub invariant-loop-k : goal.invariant-loop-k
-invariant-loop-k l = l.pending.items ≡ l.initial.pending.items ++ flat_map (line_by l.short.schedule.now) (map doc_of (take (l.k * l.short.size) l.short.inputs.now))
+invariant-loop-k g l = record {
+  alike : g.P.Pool.means l.pool ≡ g.P.Pool.means l.initial.pool;
+  bytes : l.pending.items ≡ l.initial.pending.items ++ flat_map (line_from (g.P.Pool.means l.initial.pool) l.schedule) (map doc_of (take (l.k * l.size) l.inputs));
+  handed : g.P.Pool.told l.pool ≡ with_entries (g.P.Pool.told l.initial.pool) (map (entry_of (g.P.Pool.means l.initial.pool) l.schedule) (map doc_of (take (l.k * l.size) l.inputs)));
+}

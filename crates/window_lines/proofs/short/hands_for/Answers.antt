@@ -3,7 +3,7 @@ use Rattle.std.proofs.lemmas.List.Elements.{All-push}
 use Rattle.window_lines.proofs.short.hands_for.Goals as goal
 
 pub loop-preserved : goal.loop-preserved
-loop-preserved c = (
+loop-preserved g c = (
   search rules,
   rw c.in_ok-push.ensures.items (All-push (λ hand. hand.tools ≡ c.args.tables.now) c.loop.hands.items _ c.loop.invariant.1 c.in_ok-hand_for.ensures),
 )

@@ -3,4 +3,4 @@ use Rattle.window_lines.specs.Hands.{HaveTools}
 use Rattle.window_lines.proofs.short.hands_for.Given as goal
 
 abbrev pub invariant-loop : goal.invariant-loop
-invariant-loop l = (vec_len l.hands ≡ l.counter) × HaveTools l.tables l.hands.items
+invariant-loop g l = (vec_len l.hands ≡ l.counter) × HaveTools l.tables l.hands.items
