@@ -22,7 +22,8 @@ use Rattle.algebra.specs.Plans.{Parts}
 use Rattle.algebra.specs.Values.{val}
 use Rattle.demo_corpus.specs.Totals.{Answer, Tally, size_at, total_of, tally_of}
 use Rattle.demo_corpus.specs.Summaries.{summary_of}
-use Rattle.window_lines.specs.LineLaws.{AreSameBags, lines_alike}
+use Rattle.run_pool.specs.LineLaws.{lines_alike}
+use Rattle.run_pool.specs.Lines.{AreSameBags}
 use Rattle.plan_maker.specs.Lowered.{ShowsOutput}
 use Rattle.plan_maker.specs.Shown.{ShowsProgram}
 use Rattle.aqlx_top.specs.Modes.{summary_on}

@@ -7,6 +7,7 @@ ghost use Rattle.aqlx_top.specs.Planned.{line_by, names_in};
 
 use corpus_json::{DocumentReader, Layout, NotDocument};
 use plan_operators::Schedule;
+use run_pool::Workers;
 use scalar_ops::Tools;
 use span_token::{Failure, OutOfMemory};
 use std::alloc::Global;
@@ -50,12 +51,14 @@ pub(crate) fn answer(
 {
     match room.reader.read(line) {
         Ok(Some(input)) => {
+            let mut pool = Workers;
             append_answer(
                 alloc,
                 schedule,
                 with_tokens,
                 layout,
                 tools,
+                &mut pool,
                 input,
                 &mut room.line,
                 pending,

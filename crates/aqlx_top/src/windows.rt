@@ -24,12 +24,13 @@ use aql_io::{Failed, Sink, Source};
 use corpus_json::{DocumentReader, Input, Layout, LineBuffer, Step};
 use plan_operators::Schedule;
 use row_values::Output;
+use run_pool::Workers;
 use span_token::OutOfMemory;
 use std::alloc::Global;
 use std::collections::VecDeque;
 use std::thread::Threads;
 use window_lines::{Hands, Parsed, append_short, append_window, read_ahead, read_line};
-use worker_pool::Crew;
+use worker_pool::{Crew, Open};
 
 /// The most documents of a window.
 const MOST_DOCUMENTS: u32 = 1_024;
@@ -53,7 +54,7 @@ const ROOM: usize = 2_097_152;
 pub(crate) struct Windowed<'p> {
     pub plan: &'p Plan,
     pub schedule: Schedule<'p>,
-    pub hands: Hands<'p>,
+    pub hands: Hands<'p, Workers>,
     pub crew: Crew<'p>,
     pub with_tokens: bool,
     pub layout: Layout<'p>,
@@ -144,7 +145,7 @@ fn begin_windows<'p>(
     Ok(Windowed {
         plan,
         schedule,
-        hands: Hands::new(alloc, plan, workers)?,
+        hands: Hands::new(alloc, plan, workers, &Workers)?,
         crew: Crew::new(alloc, plan, workers)?,
         with_tokens,
         layout: Layout::new(alloc, outputs)?,
@@ -387,6 +388,7 @@ fn append_lines<R: Threads + Sync>(
     ensures fits { OnOk result ((plan : Parts) → Fits plan work.old → Fits plan work.new) }
     ensures same { OnOk result ((work.new.reader ≡ work.old.reader) × (work.new.number ≡ work.old.number) × (work.new.most ≡ work.old.most)) }
 {
+    let mut pool = Workers;
     if is_of_short(work) {
         append_short(
             rt,
@@ -395,6 +397,7 @@ fn append_lines<R: Threads + Sync>(
             work.with_tokens,
             &work.layout,
             &mut work.hands,
+            &mut pool,
             &work.window,
             &mut work.pending,
         )
@@ -407,6 +410,8 @@ fn append_lines<R: Threads + Sync>(
             &work.layout,
             &mut work.crew,
             work.workers,
+            &Open,
+            &mut pool,
             &work.window,
             &mut work.pending,
         )
