@@ -101,6 +101,8 @@ fn append_documents<'d, R: Threads + Sync, G: Gate, P: Pool>(
     ensures means { P.means pool.new ≡ P.means pool.old }
     ensures same { crew.new ≡ crew.old }
 {
+    // the outputs have the columns of their nodes
+    let _outputs = plan.outputs();
     let found = evaluate(rt, alloc, plan, docs, crew, gate)?.into_rows();
     let answers = answers_of(alloc, plan, layout, pool, docs, found.docs.as_slice())?;
     let answers = answers.as_slice();
