@@ -86,10 +86,7 @@ fn kept<'d>(
 }
 
 /// Rows that can be shared.
-fn shared<'d>(
-    alloc: Global,
-    rows: Vec<Rows<'d>>,
-) -> Result<Vec<Arc<Rows<'d>, Global>>, OutOfMemory>
+fn shared<'d>(alloc: Global, rows: Vec<Rows<'d>>) -> Result<Vec<Arc<Rows<'d>, Global>>, OutOfMemory>
     ensures { IfOk result (λ shared. map arc_value shared.items ≡ rows.entry.items) }
 {
     let mut shared = Vec::with_capacity(alloc, rows.len())?;
