@@ -36,6 +36,8 @@ pub mod Programs
 pub mod Prefixes
 pub mod Progress
 pub mod Turns
+-- what a run handed to its pool
+pub mod Handing
 pub mod Windows
 -- what the stages of a call come to
 pub mod Stages
