@@ -30,7 +30,8 @@ HERE = pathlib.Path(__file__).resolve().parent
 PLAN_STAGES = os.environ.get("PLAN_STAGES") or str(HERE.parent / "crates/plan_stages/out/plan_stages")
 ROUNDS = int(os.environ.get("ROUNDS") or 5)
 STAGES = ["lowered", "pushed", "shared", "normal"]
-PROGRAMS = HERE / "programs-stages"
+PROGRAMS = HERE / "programs"
+TIMED = ["rare", "follows", "contains", "overlaps"]
 SYLLABLES = ["ba", "cor", "dem", "fu", "gil", "ha", "jo", "kem", "lun", "mi", "nor", "pe", "qua", "ri", "sol", "tav", "vex", "zu"]
 DICTIONARIES = 10
 ENTRIES = 1000
@@ -168,7 +169,7 @@ def sales(number):
 def write(folder, corpus):
     """Writes the programs, and documents of 1,000 and of 5,000 sales."""
     folder.mkdir(parents=True, exist_ok=True)
-    for program in PROGRAMS.glob("*.aql"):
+    for program in (PROGRAMS / f"{name}.aql" for name in TIMED):
         shutil.copy(program, folder)
     (folder / "dictionaries.aql").write_text(dictionaries(corpus), encoding="utf-8")
     for number in (1000, 5000):

@@ -3,13 +3,14 @@
 //!
 //! usage: extract PROGRAM [ENTRIES]      ENTRIES: a file with the entries of the dictionary, one a line
 mod programs {
+    pub mod joins;
     pub mod logs;
     pub mod names;
     pub mod orders;
     pub mod patterns;
     pub mod tokens;
 }
-use programs::{logs, names, orders, patterns, tokens};
+use programs::{joins, logs, names, orders, patterns, tokens};
 
 fn main() -> std::io::Result<()> {
     let words: Vec<String> = std::env::args().skip(1).collect();
@@ -24,6 +25,9 @@ fn main() -> std::io::Result<()> {
         ["logs"] => logs::run(),
         ["names"] => names::run(),
         ["orders"] => orders::run(),
+        ["follows"] => joins::follows(),
+        ["contains"] => joins::contains(),
+        ["overlaps"] => joins::overlaps(),
         _ => {
             eprintln!("usage: extract PROGRAM [ENTRIES]");
             std::process::exit(2);
