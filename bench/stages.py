@@ -54,7 +54,7 @@ def answer(stage, case):
 
 
 def compared(case):
-    """None where all stages write the same for a case, or else the stages that write other bytes than the first."""
+    """The stages that write other bytes for a case than the first, with what that one writes; `wanted` where that isn't what the case wants."""
     first = answer(STAGES[0], case)
     wanted = case / "stdout"
     apart = ["wanted"] if wanted.is_file() and wanted.read_bytes() != first[0] else []
@@ -80,19 +80,19 @@ def compare(folder, jobs):
 # ---------------------------------------------------------------- time
 
 def run(words, corpus, output):
-    """The user seconds of a command from `corpus` to `output`, and its peak memory in MB."""
+    """The user seconds of a command from `corpus` to `output`."""
     with open(corpus, "rb") as given, open(output, "wb") as taken:
         process = subprocess.Popen(words, stdin=given, stdout=taken)
         _, status, used = os.wait4(process.pid, 0)
         process.returncode = os.waitstatus_to_exitcode(status)
     if process.returncode != 0:
         stop(f"{' '.join(words)} < {corpus} ended with status {process.returncode}")
-    return used.ru_utime, used.ru_maxrss / 1024
+    return used.ru_utime
 
 
 def measure(program, corpus, stages):
     """Prints the line of each stage; whether all write the same."""
-    sums, best, peak = {}, {}, {}
+    sums, best = {}, {}
     with tempfile.TemporaryDirectory() as folder:
         output = pathlib.Path(folder) / "output"
         for stage in stages:
@@ -101,15 +101,14 @@ def measure(program, corpus, stages):
                 sums[stage] = hashlib.file_digest(written, "sha256").hexdigest()
     for _ in range(ROUNDS):
         for stage in stages:
-            seconds, memory = run([PLAN_STAGES, stage, program], corpus, os.devnull)
+            seconds = run([PLAN_STAGES, stage, program], corpus, os.devnull)
             best[stage] = min(best.get(stage, seconds), seconds)
-            peak[stage] = max(peak.get(stage, 0), memory)
     print(f"{program} over {corpus}, {os.path.getsize(corpus) / 1e6:.1f} MB; best of {ROUNDS}, load {os.getloadavg()[0]:.1f} on {os.cpu_count()} processors")
-    print("stage | user s | MB/s | MB of memory | times the first | output")
+    print("stage | user s | MB/s | times the first | output")
     for stage in stages:
         seconds = max(best[stage], 0.001)
         speed = os.path.getsize(corpus) / 1e6 / seconds
-        print(f"{stage} | {seconds:.3f} | {speed:.1f} | {peak[stage]:.0f} | {best[stages[0]] / seconds:.2f} | {sums[stage][:12]}", flush=True)
+        print(f"{stage} | {seconds:.3f} | {speed:.1f} | {best[stages[0]] / seconds:.2f} | {sums[stage][:12]}", flush=True)
     return len(set(sums.values())) == 1
 
 
