@@ -7,7 +7,6 @@ ghost use Rattle.aqlx_top.specs.Progress.{Stands, Finished, IsGoing, IsRunTo};
 ghost use Rattle.aqlx_top.specs.Planned.{line_by, names_in};
 ghost use Rattle.aqlx_top.specs.Turns.{Turned, Begins, IsKept};
 
-use crate::answer::{Room, answer};
 use crate::asks::asks_for_tokens;
 use crate::put::{put, put_and_flush};
 use crate::{CorpusFault, Status};
@@ -19,6 +18,7 @@ use row_values::Output;
 use scalar_ops::Tools;
 use span_token::OutOfMemory;
 use std::alloc::Global;
+use window_lines::{Room, answer_line};
 
 /// How many bytes of output are held before they are written.
 pub(crate) const PIECE: usize = 65_536;
@@ -133,7 +133,7 @@ fn take_turn<S: Source>(
             work.number += 1;
             // no more bytes were taken than a corpus has, which bounds the number of lines
             let _taken = work.reader.taken();
-            if answer(
+            if answer_line(
                 alloc,
                 &work.schedule,
                 work.with_tokens,

@@ -1,18 +1,79 @@
 //! The line of one document, by one thread.
 
-ghost use Rattle.std.specs.Prelude.{◌≡◌, ◌≤◌, ◌++◌, All, IfOk, OnOk, IsSome, None, ◌<◌, length, map, slice_index_or};
+ghost use Rattle.std.specs.Prelude.{◌≡◌, ◌≤◌, ◌++◌, ◌∷◌, [], not, All, IfOk, OnOk, IsSome, None, ◌<◌, length, map, slice_index_or};
+ghost use Rattle.corpus_json.specs.Documents.{is_bad_line};
 ghost use Rattle.corpus_json.specs.Inputs.{doc_of, doc_of_ref};
 ghost use Rattle.plan_operators.specs.Boards.{Holds, rows_there};
+ghost use Rattle.window_lines.specs.Answered.{answer_to};
 ghost use Rattle.window_lines.specs.Lines.{line_by, names_in};
 
 use algebra::{Plan, PlanOut};
-use corpus_json::{Input, InputRef, Layout, append_document};
+use corpus_json::{DocumentReader, Input, InputRef, Layout, NotDocument, append_document};
 use plan_operators::{Schedule, evaluate, rows_shown};
 use row_values::Rows;
 use scalar_ops::Tools;
-use span_token::{Document, OutOfMemory};
+use span_token::{Document, Failure, OutOfMemory};
 use std::alloc::Global;
 use std::mem;
+
+/// Memory that is used again for each line of the corpus.
+#[derive(Drop)]
+pub struct Room {
+    reader: DocumentReader,
+    line: Vec<u8>,
+}
+
+impl Room {
+    /// No room yet: it grows with what it is used for.
+    pub fn new(alloc: Global) -> Room {
+        Room {
+            reader: DocumentReader::new(alloc),
+            line: Vec::new(alloc),
+        }
+    }
+}
+
+/// Puts what is written for a line of the corpus, without its LF, behind what is pending: an output line for a
+/// document, and nothing for a blank line. False where the line is neither, and nothing is put.
+///
+/// `schedule` is the plan's, `layout` has its outputs, and `tools` are made of its tables. `with_tokens` says
+/// whether the document keeps its tokens, and changes no byte.
+pub fn answer_line(
+    alloc: Global,
+    schedule: &Schedule<'_>,
+    with_tokens: bool,
+    layout: &Layout<'_>,
+    tools: &mut Tools<'_>,
+    room: &mut Room,
+    line: &[u8],
+    pending: &mut Vec<u8>,
+) -> Result<bool, OutOfMemory>
+    requires layout { layout.now ≡ names_in schedule.now }
+    requires tables { tools.old ≡ schedule.now.lists }
+    requires short { length line.now ≤ 16777216 }
+    ensures good { IfOk result (λ good. is_bad_line line.now ≡ not good) }
+    ensures bytes { IfOk result (λ good. pending.new.items ≡ pending.old.items ++ answer_to (line_by schedule.now) (line.now ∷ [])) }
+    ensures same { tools.new ≡ tools.old }
+{
+    match room.reader.read(line) {
+        Ok(Some(input)) => {
+            append_answer(
+                alloc,
+                schedule,
+                with_tokens,
+                layout,
+                tools,
+                input,
+                &mut room.line,
+                pending,
+            )?;
+            Ok(true)
+        }
+        Ok(None) => Ok(true),
+        Err(Failure::Fault(NotDocument)) => Ok(false),
+        Err(Failure::OutOfMemory) => Err(OutOfMemory),
+    }
+}
 
 /// Puts the line of a document behind what is pending; `line` is room for it.
 ///

@@ -14,17 +14,17 @@ returns-in_err-next_line-clause-turned g c = λ left faults before now s.
     (law.part_of_taken (line_by c.args.work.now.schedule) left (g.S.Source.left c.args.corpus.now) (g.S.Source.left c.next_line.new.source) faults (g.S.Source.faults c.args.corpus.now) (g.S.Source.faults c.next_line.new.source) before now c.args.work.now.reader.ready c.args.work.now.reader.taken c.args.work.now.reader.last c.args.work.now.pending.items c.args.work.now.number
     s going c.in_err-next_line.ensures.err)
 
-pub answer-requires-clause-short : goal.answer-requires-clause-short
-answer-requires-clause-short g c =
+pub answer_line-requires-clause-short : goal.answer_line-requires-clause-short
+answer_line-requires-clause-short g c =
     let next = rw c.in-Line.is at c.in_ok-next_line.ensures.answer in
     rw c.deref.ensures.value
     (law.line_is_short (g.S.Source.left c.args.corpus.now) (g.S.Source.left c.next_line.new.source) (g.S.Source.faults c.args.corpus.now) (g.S.Source.faults c.next_line.new.source)
     c.args.work.now.reader.ready c.args.work.now.reader.taken c.args.work.now.reader.last c.next_line.new.self c.next_line.new.line.items c.requires.going next)
 
-pub returns-in_err-answer-in-Line-clause-turned :
-    goal.returns-in_err-answer-in-Line-clause-turned
-returns-in_err-answer-in-Line-clause-turned g c = λ left faults before now s.
-    let p = err_from_is_err_and c.from_residual-in_err-answer-in-Line.result c.from_residual-in_err-answer-in-Line.ensures.1 in
+pub returns-in_err-answer_line-in-Line-clause-turned :
+    goal.returns-in_err-answer_line-in-Line-clause-turned
+returns-in_err-answer_line-in-Line-clause-turned g c = λ left faults before now s.
+    let p = err_from_is_err_and c.from_residual-in_err-answer_line-in-Line.result c.from_residual-in_err-answer_line-in-Line.ensures.1 in
     let next = rw c.in-Line.is at c.in_ok-next_line.ensures.answer in
     rw p.1
     (law.part_of_next (line_by c.args.work.now.schedule) left (g.S.Source.left c.args.corpus.now) (g.S.Source.left c.next_line.new.source) faults (g.S.Source.faults c.args.corpus.now) (g.S.Source.faults c.next_line.new.source) before now c.args.work.now.reader c.next_line.new.self c.args.work.now.pending.items c.next_line.new.line.items c.args.work.now.number s next)
@@ -32,21 +32,21 @@ returns-in_err-answer-in-Line-clause-turned g c = λ left faults before now s.
 pub returns-then-branch-clause-turned : goal.returns-then-branch-clause-turned
 returns-then-branch-clause-turned g c = λ left faults before now s.
     let next = rw c.in-Line.is at c.in_ok-next_line.ensures.answer in
-    let good = ap is_bad_line (sym c.deref.ensures.value) ∙ c.in_ok-answer-in-Line.ensures.good ∙ ap not c.if-branch.true in
+    let good = ap is_bad_line (sym c.deref.ensures.value) ∙ c.in_ok-answer_line-in-Line.ensures.good ∙ ap not c.if-branch.true in
     let piece = line_by c.args.work.now.schedule in
-    rw c.in_ok-answer-in-Line.ensures.bytes
+    rw c.in_ok-answer_line-in-Line.ensures.bytes
     (law.next_line_good (line_by c.args.work.now.schedule) left (g.S.Source.left c.args.corpus.now) (g.S.Source.left c.next_line.new.source) faults (g.S.Source.faults c.args.corpus.now) (g.S.Source.faults c.next_line.new.source) before now c.args.work.now.reader c.next_line.new.self c.args.work.now.pending.items (written_for piece (c.deref.result.now ∷ [])) c.next_line.new.line.items c.args.work.now.number (c.args.work.now.number + 1)
     s next c.taken-taken.ensures.below good (ap (λ (each : List ℕ). written_for piece (each ∷ [])) c.deref.ensures.value) refl)
 
 pub returns-else-branch-clause-turned : goal.returns-else-branch-clause-turned
 returns-else-branch-clause-turned g c = λ left faults before now s.
     let next = rw c.in-Line.is at c.in_ok-next_line.ensures.answer in
-    let bad = c.in_ok-answer-in-Line.ensures.good ∙ ap not c.if-branch.false in
+    let bad = c.in_ok-answer_line-in-Line.ensures.good ∙ ap not c.if-branch.false in
     let line = c.next_line.new.line.items in
     let same = ap is_bad_line (sym c.deref.ensures.value) in
     let short = law.line_is_short (g.S.Source.left c.args.corpus.now) (g.S.Source.left c.next_line.new.source) (g.S.Source.faults c.args.corpus.now) (g.S.Source.faults c.next_line.new.source)
     c.args.work.now.reader.ready c.args.work.now.reader.taken c.args.work.now.reader.last c.next_line.new.self c.next_line.new.line.items c.requires.going next in
-    rw (law.pending_for_bad (line_by c.args.work.now.schedule) c.args.work.now.pending.items c.answer.new.pending.items c.deref.result.now bad c.in_ok-answer-in-Line.ensures.bytes)
+    rw (law.pending_for_bad (line_by c.args.work.now.schedule) c.args.work.now.pending.items c.answer_line.new.pending.items c.deref.result.now bad c.in_ok-answer_line-in-Line.ensures.bytes)
     (law.ended_bad (line_by c.args.work.now.schedule) left (g.S.Source.left c.args.corpus.now) (g.S.Source.left c.next_line.new.source) faults (g.S.Source.faults c.args.corpus.now) (g.S.Source.faults c.next_line.new.source) before now c.args.work.now.reader c.next_line.new.self c.args.work.now.pending.items c.next_line.new.line.items c.args.work.now.number (c.args.work.now.number + 1)
     s next (same ∙ bad) (law.short_is line short) refl)
 
