@@ -17,6 +17,7 @@ mod pushing;
 mod reading;
 mod selection;
 mod sides;
+mod swapping;
 mod turning;
 mod unrestricting;
 
