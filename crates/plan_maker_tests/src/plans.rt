@@ -168,12 +168,12 @@ out S 6
          output view F;",
         "0 Doc
 1 Regex 0
-2 Regex 0
-3 Select 1
-4 Project 3
-5 Select 2
+2 Select 1
+3 Project 2
+4 Regex 0
+5 Select 4
 6 Project 5
-7 Union 4 6
+7 Union 3 6
 8 Project 7
 out F 8
 ",
@@ -211,13 +211,13 @@ out T 9
 2 Project 1
 3 Regex 0
 4 Project 3
-5 Consolidate 2
-6 Project 5
-7 Cross 2 4
-8 Select 7
+5 Cross 2 4
+6 Select 5
+7 Project 6
+8 Consolidate 2
 9 Project 8
-out S 9
-out W 6
+out S 7
+out W 9
 ",
     ),
     (
@@ -255,14 +255,14 @@ out C 5
          create view T as select a.x, b.y, c.z from A a, B b, C c where FollowsTok(c.z, a.x, 0, 2);
          output view T;",
         "0 Doc
-1 TokenRegex 0
+1 Regex 0
 2 Project 1
-3 Regex 0
+3 TokenRegex 0
 4 Project 3
 5 Regex 0
 6 Project 5
-7 SpanJoin 2 6
-8 Cross 4 7
+7 SpanJoin 4 6
+8 Cross 2 7
 9 Project 8
 out T 9
 ",

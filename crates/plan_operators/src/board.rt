@@ -1,10 +1,9 @@
-ghost use Rattle.std.specs.Prelude.{◌≡◌, ◌↔◌, ℕ, ◌+◌, ◌<◌, ◌≤◌, ◌⊎◌, ◌^◌, IfOk, IfSome, IfNone, OnOk, IsTrue, IsFalse, IsSome, All, List, Some, None, true, length, map, slice_index_or, vec_len};
+ghost use Rattle.std.specs.Prelude.{◌≡◌, ◌↔◌, ℕ, ◌+◌, ◌<◌, ◌≤◌, ◌⊎◌, ◌^◌, IfOk, IfSome, IfNone, OnOk, IsTrue, IsFalse, IsSome, All, List, Some, None, true, length, slice_index_or, vec_len};
 ghost use Rattle.algebra.specs.declared.node.Node as declared_node;
 ghost use Rattle.algebra.specs.Inputs.{left_input, right_input, IsAmong};
-ghost use Rattle.algebra.specs.Needed.{IsNeeded};
 ghost use Rattle.plan_operators.specs.Given.{input_rows};
 ghost use Rattle.plan_operators.specs.Boards.{IsOf, Holds, IsBoard, HasAsked, HasNeeded, IsClosedFrom, IsEmptyInput, IsEmptyOn, IsNarrowed, IsOnBoard, IsTaken, IsThere, is_product, is_selection, read_until, input_on, rows_found};
-ghost use Rattle.plan_operators.specs.Guards.{AreAsked, IsIdle};
+ghost use Rattle.plan_operators.specs.Guards.{AreAsked, IsIdle, IsLeftOut};
 
 use crate::guards::Asked;
 use crate::select::selected_pairs;
@@ -17,10 +16,12 @@ use std::alloc::Global;
 
 /// The rows of the nodes that the outputs of a plan need on a document, by the nodes' numbers.
 ///
-/// A node is evaluated once, in the order of the numbers, where an output shows it or a node that is evaluated
-/// reads it, but the right side of a conditional join, what nobody else reads of it, only where the left one has
-/// a row. Rows are given up to the last node that reads them, so that what only passes through isn't copied; what
-/// is given up and what nobody needs has no rows here. `tools` are made of the plan's tables.
+/// Nodes are evaluated in the order of their numbers, each at most once, where an output shows it or a node
+/// that is evaluated reads it. What is only asked for by right sides of conditional joins with one left side is
+/// left out where that one stands before it, and has no row or was left out too: it isn't known before whether
+/// a later node has a row. Rows are given up to the last node that reads them, so that what only passes
+/// through isn't copied; what is given up and what is left out has no rows here. `tools` are made of the plan's
+/// tables.
 ///
 /// Meaning: `val`, `specs/Values.antt` of `algebra`.
 pub fn evaluate<'d>(
@@ -103,7 +104,7 @@ fn push_next<'d>(
     let _number = nodes.len();
     let n = board.len() as u32;
     let _node = nodes.get(n);
-    if is_idle(asked[n as usize], board.as_slice()) {
+    if is_idle(asked[n as usize], untils, board.as_slice()) {
         board.push(None)?;
     } else if is_narrowed(nodes, n, untils) && has_both(nodes, n, board.as_slice()) {
         let rows = rows_of_narrowed(alloc, tools, doc, nodes, n, board.as_slice())?;
@@ -116,14 +117,24 @@ fn push_next<'d>(
     Ok(())
 }
 
-/// Whether a node is asked for behind another one alone, which has no row.
-fn is_idle(asked: Asked, board: &[Option<Rows<'_>>]) -> bool
-    ensures { IsTrue result → IsIdle asked board.now }
+/// Whether a node is asked for behind another one alone, which has no row, or was left out.
+fn is_idle(asked: Asked, untils: &[u64], board: &[Option<Rows<'_>>]) -> bool
+    requires long { length board.now ≤ length untils.now }
+    ensures { IsTrue result → IsIdle asked untils.now board.now }
 {
     match asked {
-        Asked::Behind(g) => is_empty(board, g),
+        Asked::Behind(g) => is_empty(board, g) || is_left_out(board, g, untils),
         Asked::Never | Asked::Always => false,
     }
+}
+
+/// Whether node `n` has no rows on the board, on which it stands, though nodes behind the next one read it.
+fn is_left_out(board: &[Option<Rows<'_>>], n: u32, untils: &[u64]) -> bool
+    requires long { length board.now ≤ length untils.now }
+    ensures { IsTrue result → IsLeftOut board.now untils.now n }
+{
+    let place = n as usize;
+    place < board.len() && board[place].is_none() && untils[place] > board.len() as u64
 }
 
 /// Whether node `n` has its rows on the board, and they are none.

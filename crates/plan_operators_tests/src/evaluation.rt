@@ -383,3 +383,51 @@ fn joins_without_a_left_row_have_none_and_leave_their_right_side(
     assert_eq!(rt; got.as_str(), "2 -\n3 -\n4 3:\n5 3:\n6 3:\n");
     Ok(())
 }
+
+/// A join whose left side, node 2, has no row; its right side is a join too, node 5, of node 3 with node 4.
+fn empty_far_left(alloc: Global, shown: &[u32]) -> Result<Plan, Fail> {
+    let mut nodes = Nodes::new(alloc);
+    put_words(alloc, &mut nodes, NONE)?;
+    for pattern in [SMALL, GREAT] {
+        let groups = numbers(alloc, &[0])?;
+        put(
+            &mut nodes,
+            Node::Regex {
+                input: 0,
+                column: 0,
+                pattern,
+                groups,
+            },
+        )?;
+    }
+    for (left, right) in [(3, 4), (2, 5)] {
+        put(
+            &mut nodes,
+            Node::Cross {
+                left,
+                right,
+                conditional: true,
+            },
+        )?;
+    }
+    showing(alloc, nodes, tables_of(alloc)?, shown)
+}
+
+#[test]
+fn what_waits_for_a_node_that_is_left_out_is_left_out_too(rt: HostRuntime) -> Result<(), Fail> {
+    let alloc = rt.alloc();
+    let found = "2:[0-24 0-3][0-24 8-10]";
+    let table: [(&[u32], String); 2] = [
+        (&[6], String::from_str(alloc, "2 -\n3 -\n4 -\n5 -\n6 5:\n")?),
+        (
+            &[4, 6],
+            format!(in alloc; "2 -\n3 -\n4 {found}\n5 -\n6 5:\n")?,
+        ),
+    ];
+    for (shown, want) in &table {
+        let plan = empty_far_left(alloc, shown)?;
+        let got = evaluated(alloc, &plan, &[2, 3, 4, 5, 6])?;
+        assert_eq!(rt; got.as_str(), want.as_str(), "{shown:?}");
+    }
+    Ok(())
+}
