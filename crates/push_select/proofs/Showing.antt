@@ -1,5 +1,5 @@
 -- A left node that shows columns of other rows: they are shown of what these rows combine to with the right node.
-use Rattle.std.proofs.Common.{◌≡◌, ◌∙◌, ℕ, ◌+◌, ◌-◌, ◌<◌, ◌≤◌, ◌⊎◌, inl, inr, List, ◌++◌, map, length, get_or, refl, sym, ap, ap₂, subst, arith}
+use Rattle.std.proofs.Common.{◌≡◌, ◌∙◌, ℕ, ◌+◌, ◌-◌, ◌<◌, ◌≤◌, inl, inr, List, ◌++◌, map, length, get_or, refl, sym, ap, ap₂, subst, arith}
 use Rattle.std.specs.List.{All, range_with_len}
 use Rattle.std.proofs.lemmas.Bool.{cases_lt}
 use Rattle.std.proofs.lemmas.List.{length-append, length-map, map-append, get_or_append_left, get_or-append_right}
@@ -10,7 +10,7 @@ use Rattle.aql_base.specs.BagLaws.{SameBag-refl, SameBag-sym, SameBag-trans, Sam
 use Rattle.span_token.specs.Documents.{Doc as Document}
 use Rattle.row_values.specs.Rows.{product}
 use Rattle.row_values.specs.RowBags.{SameBag-product, width-product}
-use Rattle.scalar_ops.specs.Expressions.{Term, column, columns_of, ReadsBelow, ReadsFrom, renamed}
+use Rattle.scalar_ops.specs.Expressions.{Term, column, columns_of, ReadsBelow, renamed}
 use Rattle.scalar_ops.specs.ReadingLaws.{columns-renamed}
 use Rattle.scalar_ops.specs.Tables.{Lists}
 use Rattle.scalar_ops.specs.Values.{holding}
@@ -29,11 +29,11 @@ use Rattle.algebra.specs.Values.{val}
 use Rattle.algebra.specs.WidthLaws.{AreWide, val-wide}
 use Rattle.push_select.specs.declared.below.Pair.{Pair}
 use Rattle.push_select.specs.Conditions.{IsApart}
-use Rattle.push_select.specs.Places.{all_pairs, cross_of, columns_swapped, joint_width, Combines, CombinesThree}
+use Rattle.push_select.specs.Places.{all_pairs, cross_of, columns_swapped, joint_width, Combines}
 use Rattle.push_select.specs.Pushed.{width_at, ReadsBoth}
 use Rattle.push_select.proofs.Going.{name_in, column_below, all_below}
 use Rattle.push_select.proofs.Reordering.{apart_renamed, unmapped, inner_width}
-use Rattle.push_select.proofs.ShownRows.{columns_under, range_read, swapped_read, swapped_long, product-shown, product-swapped}
+use Rattle.push_select.proofs.ShownRows.{range_read, swapped_read, swapped_long, product-shown, product-swapped}
 
 -- what reads both sides does so by numbers that leave each column on its side
 both_renamed : (f : ℕ → ℕ) (w v n : ℕ) → ((i : ℕ) → i < w → f i < v) → ((i : ℕ) → w ≤ i → i < n → v ≤ f i) → (t : Term) → ReadsBelow n t → ReadsBoth w t → ReadsBoth v (renamed f t)

@@ -1,7 +1,7 @@
 -- Products of which one side shows columns of other rows, and products whose sides are swapped.
 use Rattle.std.proofs.Common.{◌≡◌, ◌∙◌, ℕ, zero, suc, ◌+◌, ◌<◌, ◌≤◌, List, [], ◌∷◌, ◌++◌, map, length, refl, sym, ap, ap₂, subst, arith, flat_map}
 use Rattle.std.specs.List.{All, range_with_len}
-use Rattle.std.proofs.lemmas.List.{append-nil, append_assoc, length-append, length-map, map-append, get_or_at}
+use Rattle.std.proofs.lemmas.List.{append-nil, append_assoc, length-append, map-append, get_or_at}
 use Rattle.std.proofs.lemmas.List.FromFn.{length-range_with_len}
 use Rattle.std.proofs.lemmas.List.Elements.{All-nil, All-cons, All-head, All-tail, All-append}
 use Rattle.aql_base.specs.Bags.{SameBag}
@@ -10,7 +10,7 @@ use Rattle.span_token.specs.Documents.{Doc as Document}
 use Rattle.row_values.specs.Datums.{Datum, null}
 use Rattle.row_values.specs.Rows.{product, value_in}
 use Rattle.row_values.specs.RowBags.{value_in-left, product-nil, product-cons}
-use Rattle.scalar_ops.specs.Expressions.{Term, column, ReadsBelow}
+use Rattle.scalar_ops.specs.Expressions.{column, ReadsBelow}
 use Rattle.scalar_ops.specs.Tables.{Lists}
 use Rattle.aql_typed.specs.Trees.{plain}
 use Rattle.aql_typed.specs.Meaning.{Rows, row_of, projected}
