@@ -9,7 +9,7 @@ use std::test::Fail;
 
 /// Each row: a text, and what it comes to. Of several faults the first is told: tokens come before the number
 /// of statements and how deep they nest, these before statements that have no tree, those before unknown names,
-/// names before cycles, and cycles before types.
+/// names before cycles, and cycles before types. A plan without an output has no node.
 static TOLD: [(&str, &str); 9] = [
     (
         "create view P as extract regex /[0-9]+/ on D.text as num from Document D; output view P;",
@@ -22,7 +22,7 @@ static TOLD: [(&str, &str); 9] = [
          output view C;",
         "0 Doc\n1 Regex 0\n2 Project 1\n3 Regex 0\n4 Project 3\n5 SpanJoin 2 4\n6 Project 5\nout C 6\n",
     ),
-    ("", "0 Doc\n"),
+    ("", ""),
     (
         "create view A as select D.txt from Document D; output view B; view ?",
         "token 67",
@@ -88,7 +88,7 @@ fn a_text_has_its_plan_or_its_first_fault(rt: HostRuntime) -> Result<(), Fail> {
 
 /// Each row: a text, how often it stands, and what it comes to that often.
 static SIZES: [(&str, usize, &str); 6] = [
-    (" ", 1_048_576, "0 Doc\n"),
+    (" ", 1_048_576, ""),
     (" ", 1_048_577, "bytes 1048577"),
     (";", 2_000, "syntax 0"),
     (";", 2_001, "statements 2001"),
