@@ -22,11 +22,14 @@ use Rattle.algebra.specs.Plans.{Parts}
 use Rattle.algebra.specs.Values.{val}
 use Rattle.demo_corpus.specs.Totals.{Answer, Tally, size_at, total_of, tally_of}
 use Rattle.demo_corpus.specs.Summaries.{summary_of}
-use Rattle.window_lines.specs.LineLaws.{AreSameBags, lines_alike}
+use Rattle.run_pool.specs.Answers.{IsSound}
+use Rattle.run_pool.specs.LineLaws.{lines_alike}
+use Rattle.run_pool.specs.Lines.{Meaning, AreSameBags}
 use Rattle.plan_maker.specs.Lowered.{ShowsOutput}
 use Rattle.plan_maker.specs.Shown.{ShowsProgram}
 use Rattle.aqlx_top.specs.Modes.{summary_on}
 use Rattle.aqlx_top.specs.Planned.{names_in, rows_by, line_by, summary_by}
+use Rattle.aqlx_top.specs.PoolRuns.{summary_from}
 use Rattle.aqlx_top.specs.Plans.{IsPlanOf}
 use Rattle.aqlx_top.specs.Run.{Typed, Program, program_of, line_of, outputs_of, rows_for}
 
@@ -101,3 +104,7 @@ plan_means text plan planned doc =
 pub plan_counts : (text : List ℕ) (plan : Parts) (planned : IsPlanOf text plan) (docs : List Doc) → summary_by plan docs ≡ summary_on planned.program docs
 plan_counts text plan planned docs =
     made_counts planned.holds.typed plan planned.shows docs ∙ ap (λ (program : Program). summary_on program docs) (sym planned.holds.program_is)
+
+-- a sound pool's summaries are those of the plan
+pub sound_counts : (means : Meaning) → IsSound means → (plan : Parts) (docs : List Doc) → summary_from means plan docs ≡ summary_by plan docs
+sound_counts means sound plan docs = ap (summary_of (names_in plan)) (tallies_alike (means plan) (rows_by plan) (sound plan) (length plan.outputs) docs)

@@ -7,8 +7,6 @@ pub mod Ahead
 -- threads that write lines by themselves
 pub mod Hands
 -- Laws
--- lines of lists of rows that are the same bags
-pub mod LineLaws
 -- lines that are read before they are given
 pub mod AheadLaws
 -- what the outputs of a plan show, by the rows that its nodes have

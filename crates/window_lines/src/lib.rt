@@ -8,6 +8,7 @@
 
 mod ahead;
 mod answer;
+mod answers;
 mod documents;
 mod lines;
 mod short;
@@ -15,6 +16,6 @@ mod stretch;
 mod window;
 
 pub use ahead::{Parsed, read_ahead, read_line};
-pub use answer::{all_shown, append_answer, document_of, lent};
+pub use answer::{all_lent, all_shown, append_answer, document_of, lent};
 pub use short::{Hands, append_short};
 pub use window::append_window;

@@ -13,6 +13,7 @@ use crate::stretch::{stretch, stretch_count, stretch_size};
 use algebra::Plan;
 use corpus_json::{Input, Layout};
 use plan_operators::Schedule;
+use run_pool::Workers;
 use scalar_ops::{Tables, Tools};
 use span_token::OutOfMemory;
 use std::alloc::Global;
@@ -204,6 +205,7 @@ impl<'a, 'l, 'p> Short<'a, 'l, 'p> {
             self.with_tokens,
             self.layout,
             &mut hand.tools,
+            &mut Workers,
             lent(input),
             &mut hand.line,
             &mut hand.lines,
