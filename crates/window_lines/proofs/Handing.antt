@@ -1,5 +1,5 @@
 -- What was handed to a pool, document by document: the first ones of a list.
-use Rattle.std.proofs.Common.{◌≡◌, ◌++◌, ◌+◌, ◌<◌, ℕ, List, [], ◌∷◌, Option, Result, Ok, Err, OnOk, IfOk, map, take, drop, length, get_or, refl, sym, ap, ◌∙◌, subst}
+use Rattle.std.proofs.Common.{◌≡◌, ◌++◌, ◌+◌, ◌<◌, ℕ, List, [], ◌∷◌, Option, Result, Ok, Err, OnOk, IfOk, map, take, drop, length, get_or, sym, ap, ◌∙◌, subst}
 use Rattle.std.proofs.lemmas.List.{map-append, take-append-drop, take_more, append_assoc}
 use Rattle.run_pool.specs.Entries.{Entry, AreHanded, AreHandedInPart, with_entries}
 use Rattle.run_pool.specs.PoolLaws.{part_all, part_none, part_then, with-with}

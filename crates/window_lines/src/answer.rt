@@ -155,7 +155,10 @@ pub(crate) fn append_line(
 }
 
 /// Lists of rows, borrowed.
-pub fn all_lent<'r, 'd>(alloc: Global, rows: &'r [Rows<'d>]) -> Result<Vec<&'r Rows<'d>>, OutOfMemory>
+pub fn all_lent<'r, 'd>(
+    alloc: Global,
+    rows: &'r [Rows<'d>],
+) -> Result<Vec<&'r Rows<'d>>, OutOfMemory>
     ensures { IfOk result (λ lent. map (λ list. list.now) lent.items ≡ rows.now) }
 {
     let mut lent = Vec::with_capacity(alloc, rows.len())?;

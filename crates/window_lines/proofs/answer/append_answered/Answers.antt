@@ -1,5 +1,4 @@
-use Rattle.std.proofs.Common.{◌≡◌, ◌∙◌, List, map, sym, ap, subst}
-use Rattle.row_values.specs.Rows.{RowList}
+use Rattle.std.proofs.Common.{◌≡◌, ◌∙◌, map, sym, ap, subst}
 use Rattle.corpus_json.specs.Outputs.{output_line, rows_of}
 use Rattle.run_pool.specs.Answers.{IsAnswer}
 use Rattle.run_pool.specs.Lines.{line_from}

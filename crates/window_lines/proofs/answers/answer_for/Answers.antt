@@ -1,4 +1,4 @@
-use Rattle.std.proofs.Common.{◌≡◌, ◌∙◌, ap, map, subst}
+use Rattle.std.proofs.Common.{◌∙◌, ap, map, subst}
 use Rattle.std.specs.Arc.{arc_value}
 use Rattle.run_pool.specs.Answers.{IsAnswer}
 use Rattle.window_lines.proofs.Handing.{ok-as}
