@@ -55,7 +55,12 @@ pub(crate) fn demonstrate<O: Sink, P: Pool>(
 }
 
 /// The summary of a plan on the first `count` generated documents, which are handed to a pool.
-fn summary<P: Pool>(alloc: Global, plan: &Plan, count: u32, pool: &mut P) -> Result<String, OutOfMemory>
+fn summary<P: Pool>(
+    alloc: Global,
+    plan: &Plan,
+    count: u32,
+    pool: &mut P,
+) -> Result<String, OutOfMemory>
     ensures text { IfOk result (λ text. string_bytes text ≡ summary_from (P.means pool.old) plan.now (first_documents count)) }
     ensures handed { MatchResult result
         (λ _. IsHandedAll (pool_between P.means P.told pool.old pool.new) plan.now (first_documents count))
