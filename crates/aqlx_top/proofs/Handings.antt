@@ -21,7 +21,7 @@ use Rattle.aqlx_top.specs.declared.status.Status.{Status}
 use Rattle.aqlx_top.specs.declared.status.Status.TheVariants.{Done, Program, Usage, Corpus, ReadFault, WriteFault}
 use Rattle.aqlx_top.specs.declared.status.CorpusFault.TheVariants.{BadLine, LineLong, CorpusLarge}
 use Rattle.aqlx_top.specs.Devices.{SourceEnds, SinkEnds, source_ends, IsFlushed, SinkNeverFailed}
-use Rattle.aqlx_top.specs.DocumentLaws.{documents-append, documents_from_bad}
+use Rattle.window_lines.specs.DocumentLaws.{documents-append, documents_from_bad}
 use Rattle.aqlx_top.specs.Endings.{InPart, Came, written_for}
 use Rattle.aqlx_top.specs.Handing.{PoolEnds, pool_ends, IsHandedAll, CameBy, InPartBy}
 use Rattle.aqlx_top.specs.PoolTurns.{StandsBy, FinishedBy, IsRunBy}

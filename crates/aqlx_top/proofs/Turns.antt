@@ -23,7 +23,7 @@ use Rattle.aqlx_top.specs.Devices.{SourceEnds, SinkEnds, source_ends, IsFlushed,
 use Rattle.aqlx_top.specs.Endings.{InPart, Came, written_for}
 use Rattle.aqlx_top.specs.Progress.{Stands, Finished, IsRunTo, IsReadTo}
 use Rattle.aqlx_top.specs.Taken.{How, at_end, failed, at_limit, left_off, is_at_end, IsTaken, HasNoBadLine}
-use Rattle.aqlx_top.specs.DocumentLaws.{pieces-append, documents_from_bad}
+use Rattle.window_lines.specs.DocumentLaws.{pieces-append, documents_from_bad}
 use Rattle.aqlx_top.proofs.Readings.{IsLeftOff, lines_so_far, line_read, end_read, failed_read, limit_read, long_read}
 use Rattle.aqlx_top.proofs.Sinks.{appends_more, appends_nothing}
 
@@ -431,7 +431,7 @@ begins piece left held faults =
     }
 
 -- each line that was looked at has a byte at least
-joined_long : (lines : List (List ℕ)) → length lines ≤ length (joined lines)
+pub joined_long : (lines : List (List ℕ)) → length lines ≤ length (joined lines)
 joined_long [] = omega arith
 joined_long (line ∷ lines) =
     let more = joined_long lines in

@@ -1,24 +1,34 @@
 -- What a run in windows means, while documents are behind what is pending.
-use Rattle.std.proofs.Common.{◌≡◌, ℕ, List, [], ◌++◌, map, ap, sym, subst, ◌∙◌, append_assoc, append-nil, Option, Result, Ok}
+use Rattle.std.proofs.Common.{◌≡◌, ◌≢◌, ◌+◌, ◌<◌, ◌≤◌, ℕ, List, [], ◌∷◌, ◌++◌, All, true, false, not, map, length, take, drop, ap, ap₂, sym, subst, refl, ◌∙◌, append_assoc, append-nil, take-append-drop, length-append, arith, Option, Some, None, IfOk, IfSome, Result, Ok, Err, inl, inr}
+use Rattle.std.specs.Prelude.{◌⊎◌}
 use Rattle.std.specs.List.{flat_map}
 use Rattle.std.proofs.lemmas.Grind.{flat_map-append}
+use Rattle.std.proofs.Math.Seq.{take-nil}
+use Rattle.std.proofs.lemmas.List.Elements.{All-append}
 use Rattle.span_token.specs.Documents.{Doc}
 use Rattle.corpus_json.specs.declared.input.Input.{Input}
+use Rattle.corpus_json.specs.Documents.{documents, is_bad_line}
 use Rattle.corpus_json.specs.Inputs.{doc_of}
-use Rattle.corpus_json.specs.Reading.{Reading}
+use Rattle.corpus_json.specs.Limits.{line_limit, corpus_limit}
+use Rattle.corpus_json.specs.Lines.{joined, lines_of, HasNoLf}
+use Rattle.corpus_json.specs.Reading.{Reading, NextLine, past}
+use Rattle.corpus_json.specs.declared.step.Step.{Step}
+use Rattle.corpus_json.specs.declared.step.Step.TheVariants.{Line, End}
 use Rattle.aqlx_top.specs.declared.status.Status.{Status}
 use Rattle.aqlx_top.specs.Devices.{SourceEnds, source_ends}
-use Rattle.aqlx_top.specs.Progress.{Stands, Finished}
+use Rattle.aqlx_top.specs.Progress.{Stands, Finished, IsReadTo}
 use Rattle.algebra.specs.Plans.{Parts}
-use Rattle.aqlx_top.specs.Endings.{InPart}
+use Rattle.aqlx_top.specs.Endings.{InPart, written_for}
 use Rattle.aqlx_top.specs.Planned.{line_by}
 use Rattle.aqlx_top.specs.Turns.{Turned}
-use Rattle.aqlx_top.specs.Windows.{meant_by, Fits}
+use Rattle.aqlx_top.specs.Windows.{meant_by, Fits, HasAnswered, HasTaken, IsGiven, IsPut}
 use Rattle.aqlx_top.specs.declared.run.Turn.{Turn}
 use Rattle.aqlx_top.specs.declared.run.Turn.TheVariants.{Next, Ended}
 use Rattle.aqlx_top.specs.declared.windows.Windowed.{Windowed}
 use Rattle.aqlx_top.proofs.Sinks.{appends_nothing}
-use Rattle.aqlx_top.proofs.Turns.{finished_in_part, part_of}
+use Rattle.aqlx_top.proofs.Turns.{finished_in_part, part_of, joined_long, next_line_good, number_within, ended_bad, short_is, line_is_short, part_of_next, pending_for_bad}
+use Rattle.window_lines.specs.Answered.{AreAnswered}
+use Rattle.window_lines.specs.DocumentLaws.{pieces-append}
 use Rattle.span_token.specs.declared.refusal.OutOfMemory.{OutOfMemory}
 
 -- more documents in the window
@@ -71,3 +81,139 @@ turned_with piece corpus before now reading next pending after number following 
 -- what is kept fits its own plan
 pub fits_own : (plan : Parts) (work : Windowed) → Fits plan work → Fits work.plan.now work
 fits_own plan work fits = subst (λ (p : Parts). Fits p work) (sym fits.plan_is) fits
+
+-- no bytes are no lines
+no_lines : (bytes : List ℕ) (lines : List (List ℕ)) → bytes ≡ [] → bytes ≡ joined lines → lines ≡ []
+no_lines bytes [] none whole = refl
+no_lines bytes (line ∷ lines) none whole =
+    let long = joined_long (line ∷ lines) in
+    let same : length (joined (line ∷ lines)) ≡ 0 = ap length (sym whole ∙ none) in
+    absurd (omega (arith, long, same))
+
+-- lines that were ready are looked at where they stand
+read_past : (left : Option (List ℕ)) (given : List ℕ) (lines more : List (List ℕ)) (ready : List ℕ) (taken n : ℕ) (last : Option Step)
+    → IsReadTo left given lines (record { ready = ready; taken = taken; last = last }) → (last ≡ None) ⊎ (ready ≡ []) → take n ready ≡ joined more → All HasNoLf more
+    → IsReadTo left given (lines ++ more) (past n (record { ready = ready; taken = taken; last = last }))
+read_past left given lines more ready taken n None read going whole no_lf = (
+  read.0
+  ∙ ap (λ (b : List ℕ). joined lines ++ b) (sym (take-append-drop n ready) ∙ ap (λ (b : List ℕ). b ++ drop n ready) whole)
+  ∙ sym (append_assoc (joined lines) (joined more) (drop n ready))
+  ∙ ap (λ (b : List ℕ). b ++ drop n ready) (sym (flat_map-append (λ (line : List ℕ). line ++ 10 ∷ []) lines more)),
+  All-append HasNoLf lines more read.1 no_lf,
+)
+read_past left given lines more ready taken n (Some last) read (inl going) whole no_lf = absurd (let e : Some last ≡ None = going in cc)
+read_past left given lines more ready taken n (Some last) read (inr none) whole no_lf =
+    let nothing : take n ready ≡ [] = ap (take n) none ∙ take-nil n in
+    let empty = no_lines (take n ready) more nothing whole in
+    (read.0, read.1 ∙ sym (append-nil lines) ∙ ap (λ (ls : List (List ℕ)). lines ++ ls) (sym empty), read.2, read.3)
+
+-- lines that were ready are answered, and what is written for them is pending
+stands_past : (piece : Doc → List ℕ) (corpus : SourceEnds) (before now : Option (List ℕ)) (reading : Reading) (pending : List ℕ) (number n count : ℕ) (text : List ℕ)
+    → Stands piece corpus before now reading pending number → (reading.last ≡ None) ⊎ (reading.ready ≡ []) → AreAnswered piece (take n reading.ready) count text
+    → Stands piece corpus before now (past n reading) (pending ++ text) (number + count)
+stands_past piece corpus before now reading pending number n count text s going a =
+    record {
+      given = s.given;
+      lines = s.lines ++ a.lines;
+      sent = s.sent;
+      taken = s.taken;
+      unfailed = s.unfailed;
+      counted = s.counted;
+      within = s.within;
+      read = read_past corpus.left_after s.given s.lines a.lines reading.ready reading.taken n reading.last s.read going a.whole a.no_lf;
+      good = All-append (λ (each : List ℕ). is_bad_line each ≡ false) s.lines a.lines s.good a.good;
+      gained = s.gained;
+      wrote =
+          sym (append_assoc s.sent pending text)
+          ∙ ap₂ (λ (bs cs : List ℕ). bs ++ cs) s.wrote a.written
+          ∙ sym (pieces-append piece s.lines a.lines s.good);
+      numbered = ap₂ (λ (i j : ℕ). i + j) s.numbered a.counted ∙ sym (length-append s.lines a.lines);
+    }
+
+-- a reading that gave a line goes on, or has nothing ready
+line_kind : (left_now left_next : Option (List ℕ)) (faults_now faults_next : ℕ) (ready : List ℕ) (taken : ℕ) (last : Option Step) (now : Reading) (line : List ℕ)
+    → IfSome last (λ step. step ≡ End) → NextLine left_now left_next faults_now faults_next (record { ready = ready; taken = taken; last = last }) now line Line
+    → (now.last ≡ None) ⊎ (now.ready ≡ [])
+line_kind left_now left_next faults_now faults_next ready taken None now line going next =
+    elim next.answer.1 [
+      | inl ends ↦ inl ends.going
+      | inr ends ↦ inr (ap (λ (r : Reading). r.ready) ends.ended)
+    ]
+line_kind left_now left_next faults_now faults_next ready taken (Some last) now line going next =
+    let other : Line ≡ End = next.answer.0 ∙ going in absurd (cc)
+
+module _ (piece : Doc → List ℕ) (left_before left_now left_next : Option (List ℕ)) (faults_before faults_now faults_next : ℕ) (before now : Option (List ℕ))
+    (reading : Reading) (pending : List ℕ) (window : List Input) (number : ℕ) (mid after : Windowed) where
+  corpus : SourceEnds
+  corpus = source_ends left_before left_next faults_before faults_next
+
+  module _ (s : Stands piece (source_ends left_before left_now faults_before faults_now) before now reading (meant_by piece pending window) number)
+      (going : IfSome reading.last (λ step. step ≡ End)) (next : NextLine left_now left_next faults_now faults_next reading mid.reader mid.line.items Line)
+      (within : mid.reader.taken ≤ corpus_limit) (counts : mid.number ≡ number + 1) (same : mid.pending.items ≡ pending) (there : mid.window.items ≡ window) where
+    -- the line was looked at, and isn't bad
+    looked_at : is_bad_line mid.line.items ≡ false → Stands piece corpus before now mid.reader (meant_by piece pending window ++ written_for piece (mid.line.items ∷ [])) mid.number
+    looked_at good =
+        next_line_good piece left_before left_now left_next faults_before faults_now faults_next before now reading mid.reader (meant_by piece pending window) (written_for piece (mid.line.items ∷ [])) mid.line.items number mid.number
+        s next within good refl counts
+
+    -- what is meant where the line's document is in the window
+    put_behind : (good : _) → IsPut mid after good → meant_by piece after.pending.items after.window.items ≡ meant_by piece pending window ++ written_for piece (mid.line.items ∷ [])
+    put_behind good is =
+        ap (λ (bytes : List ℕ). meant_by piece bytes after.window.items) (is.pending ∙ same)
+        ∙ meant_more piece pending window after.window.items (documents (mid.line.items ∷ [])) (is.documents_are ∙ ap (λ (docs : List Input). map doc_of docs ++ documents (mid.line.items ∷ [])) there)
+
+    taken_turned : (turn : Turn) → HasTaken mid after turn → Turned piece corpus before now after.reader (meant_by piece after.pending.items after.window.items) after.number (Ok turn)
+    taken_turned Next is = rw (is.reader, is.number) (stands_with piece corpus before now mid.reader _ _ mid.number (sym (put_behind true is)) (looked_at is.good_is))
+    taken_turned (Ended status) is =
+        let line = mid.line.items in
+        let bad : is_bad_line line ≡ true = is.0.good_is in
+        let kept : meant_by piece after.pending.items after.window.items ≡ meant_by piece pending window = pending_for_bad piece (meant_by piece pending window) (meant_by piece after.pending.items after.window.items) line bad (put_behind false is.0) in
+        let short = line_is_short left_now left_next faults_now faults_next reading.ready reading.taken reading.last mid.reader line going next in
+        rw is.1
+        (finished_with piece corpus before now (meant_by piece pending window) (meant_by piece after.pending.items after.window.items) _ (sym kept)
+        (ended_bad piece left_before left_now left_next faults_before faults_now faults_next before now reading mid.reader (meant_by piece pending window) line number mid.number s next bad (short_is line short) counts))
+
+    answered_turned : HasAnswered piece mid after → Stands piece corpus before now after.reader (meant_by piece after.pending.items after.window.items) after.number
+    answered_turned is =
+        let put = is.put in
+        let alone : meant_by piece pending window ≡ pending = meant_alone piece pending window (sym there ∙ is.empty_before) in
+        let first : Stands piece corpus before now mid.reader (mid.pending.items ++ written_for piece (mid.line.items ∷ [])) mid.number =
+        stands_with piece corpus before now mid.reader _ _ mid.number (ap (λ (b : List ℕ). b ++ written_for piece (mid.line.items ∷ [])) (alone ∙ sym same)) (looked_at put.good) in
+        let all = stands_past piece corpus before now mid.reader _ mid.number is.taken.bytes is.taken.lines put.text first (line_kind left_now left_next faults_now faults_next reading.ready reading.taken reading.last mid.reader mid.line.items going next) put.answered in
+        let few = number_within piece left_before left_next faults_before faults_next before now (past is.taken.bytes mid.reader) _ (mid.number + is.taken.lines) all in
+        let counted = is.counted (omega (arith, few)) in
+        rw (is.rest, counted)
+        (stands_with piece corpus before now (past is.taken.bytes mid.reader) _ _ (mid.number + is.taken.lines) (sym put.put ∙ sym (meant_alone piece after.pending.items after.window.items is.empty)) all)
+
+    -- what a line that was given comes to
+    pub given_turned : (turn : Turn) → IsGiven piece mid after turn → Turned piece corpus before now after.reader (meant_by piece after.pending.items after.window.items) after.number (Ok turn)
+    given_turned turn (inl is) = taken_turned turn is
+    given_turned turn (inr is) = rw is.0 (answered_turned is.1)
+
+    -- and where memory is wanting for it
+    pub given_result : (result : Result Turn OutOfMemory) → IfOk result (IsGiven piece mid after) → Turned piece corpus before now after.reader (meant_by piece after.pending.items after.window.items) after.number result
+    given_result (Ok turn) is = given_turned turn is
+    given_result (Err none) is =
+        part_of_next piece left_before left_now left_next faults_before faults_now faults_next before now reading mid.reader (meant_by piece pending window) mid.line.items number s next
+
+-- the reader goes on behind it
+pub given_going : (piece : Doc → List ℕ) (mid after : Windowed) (turn : Turn) → IsGiven piece mid after turn → turn ≡ Next → IfSome mid.reader.last (λ step. step ≡ End) → IfSome after.reader.last (λ step. step ≡ End)
+given_going piece mid after Next (inl is) next going = rw is.reader going
+given_going piece mid after (Ended status) (inl is) next going = let e : Ended status ≡ Next = next in absurd (cc)
+given_going piece mid after turn (inr is) next going = rw is.1.rest going
+
+-- and the number of lines rises
+pub given_rises : (piece : Doc → List ℕ) (mid after : Windowed) (turn : Turn) (number : ℕ) → IsGiven piece mid after turn → turn ≡ Next → mid.number ≡ number + 1 → number < after.number
+given_rises piece mid after Next number (inl is) next counts = let same = is.number in omega (arith, same, counts)
+given_rises piece mid after (Ended status) number (inl is) next counts = let e : Ended status ≡ Next = next in absurd (cc)
+given_rises piece mid after turn number (inr is) next counts = let risen = is.1.risen in omega (arith, risen, counts)
+
+pub going_result : (piece : Doc → List ℕ) (mid after : Windowed) (result : Result Turn OutOfMemory) → IfOk result (IsGiven piece mid after) → IfSome mid.reader.last (λ step. step ≡ End)
+    → IfOk result (λ came. came ≡ Next → IfSome after.reader.last (λ step. step ≡ End))
+going_result piece mid after (Ok turn) is going = λ next. given_going piece mid after turn is next going
+going_result piece mid after (Err none) is going = tt
+
+pub rises_result : (piece : Doc → List ℕ) (mid after : Windowed) (result : Result Turn OutOfMemory) (number : ℕ) → IfOk result (IsGiven piece mid after) → mid.number ≡ number + 1
+    → IfOk result (λ came. came ≡ Next → number < after.number)
+rises_result piece mid after (Ok turn) number is counts = λ next. given_rises piece mid after turn number is next counts
+rises_result piece mid after (Err none) number is counts = tt

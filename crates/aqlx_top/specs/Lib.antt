@@ -25,7 +25,6 @@ pub mod PoolRuns
 -- what the top call promises
 pub mod Outcome
 -- Laws of what is written for lines, and of a corpus in pieces
-pub mod DocumentLaws
 pub mod Pieces
 -- Words of private clauses
 -- orders as the code has them

@@ -1,11 +1,19 @@
 -- A run in windows of documents. Only private clauses cite this.
-use Rattle.std.specs.Prelude.{◌≡◌, ℕ, ◌<◌, ◌≤◌, ◌*◌, ◌^◌, List, ◌++◌, length, map}
+use Rattle.std.specs.Prelude.{◌≡◌, ◌⊎◌, ℕ, ◌+◌, ◌<◌, ◌≤◌, ◌*◌, ◌^◌, Bool, true, false, not, List, [], ◌∷◌, ◌++◌, length, map}
 use Rattle.std.specs.List.{flat_map}
 use Rattle.span_token.specs.Documents.{Doc}
 use Rattle.corpus_json.specs.declared.input.Input.{Input}
+use Rattle.corpus_json.specs.Documents.{documents, is_bad_line}
 use Rattle.corpus_json.specs.Inputs.{doc_of}
+use Rattle.corpus_json.specs.Reading.{past}
 use Rattle.algebra.specs.Plans.{Parts}
+use Rattle.window_lines.specs.declared.ready.Answered.{Answered}
+use Rattle.window_lines.specs.Answered.{IsAnswered}
 use Rattle.window_lines.specs.Lines.{AreShort}
+use Rattle.aqlx_top.specs.declared.run.Turn.{Turn}
+use Rattle.aqlx_top.specs.declared.run.Turn.TheVariants.{Next, Ended}
+use Rattle.aqlx_top.specs.declared.status.Status.TheVariants.{Corpus}
+use Rattle.aqlx_top.specs.declared.status.CorpusFault.TheVariants.{BadLine}
 use Rattle.aqlx_top.specs.declared.windows.Windowed.{Windowed}
 use Rattle.aqlx_top.specs.Planned.{names_in}
 
@@ -26,3 +34,39 @@ pub record Fits (plan : Parts) (work : Windowed) : Type 0 where
   pub few : work.most * length plan.nodes < 2 ^ 32
   pub within : length work.window.items ≤ work.most
   pub short : AreShort work.window.items
+
+-- the document of the line that was given is put behind those of the window, and the line is good, or bad
+pub record IsPut (before now : Windowed) (good : Bool) : Type 0 where
+  pub good_is : is_bad_line before.line.items ≡ not good
+  pub documents_are : map doc_of now.window.items ≡ map doc_of before.window.items ++ documents (before.line.items ∷ [])
+  pub pending : now.pending.items ≡ before.pending.items
+  pub reader : now.reader ≡ before.reader
+  pub number : now.number ≡ before.number
+
+-- the line that was given is put into the window, and a bad one ends the run
+abbrev pub HasTaken : Windowed → Windowed → Turn → Type 0
+HasTaken before now Next = IsPut before now true
+HasTaken before now (Ended status) = IsPut before now false × (status ≡ Corpus (BadLine before.number))
+
+-- what is written for the line that was given, and for those that were ready, is pending
+pub record HasAnswered (piece : Doc → List ℕ) (before now : Windowed) : Type 0 where
+  pub taken : Answered
+  pub put : IsAnswered piece before.line.items before.reader.ready taken before.pending.items now.pending.items
+  pub rest : now.reader ≡ past taken.bytes before.reader
+  pub risen : before.number ≤ now.number
+  pub counted : before.number + taken.lines < 2 ^ 64 → now.number ≡ before.number + taken.lines
+  pub empty_before : before.window.items ≡ []
+  pub empty : now.window.items ≡ []
+
+-- nothing is answered
+pub record IsAsBefore (before now : Windowed) : Type 0 where
+  pub line : now.line ≡ before.line
+  pub window : now.window ≡ before.window
+  pub pending : now.pending.items ≡ before.pending.items
+  pub reader : now.reader ≡ before.reader
+  pub number : now.number ≡ before.number
+  pub most : now.most ≡ before.most
+
+-- one or the other
+abbrev pub IsGiven : (Doc → List ℕ) → Windowed → Windowed → Turn → Type 0
+IsGiven piece before now turn = HasTaken before now turn ⊎ ((turn ≡ Next) × HasAnswered piece before now)

@@ -9,7 +9,6 @@
 //! `plan_operators` for the plans that are run.
 #![tactic(auto)]
 
-mod answer;
 mod asks;
 mod demonstration;
 mod limits;

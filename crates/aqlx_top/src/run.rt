@@ -10,7 +10,6 @@ ghost use Rattle.aqlx_top.specs.Turns.{Begins, IsKept};
 ghost use Rattle.algebra.specs.Plans.{Parts};
 ghost use Rattle.run_pool.specs.Entries.{Entry};
 
-use crate::answer::{Room, answer};
 use crate::asks::asks_for_tokens;
 use crate::put::{put, put_and_flush};
 use crate::{CorpusFault, Status};
@@ -23,6 +22,7 @@ use run_pool::Pool;
 use scalar_ops::Tools;
 use span_token::OutOfMemory;
 use std::alloc::Global;
+use window_lines::{Room, answer_line};
 
 /// How many bytes of output are held before they are written.
 pub(crate) const PIECE: usize = 65_536;
@@ -141,7 +141,7 @@ fn take_turn<S: Source, P: Pool>(
             work.number += 1;
             // no more bytes were taken than a corpus has, which bounds the number of lines
             let _taken = work.reader.taken();
-            if answer(
+            if answer_line(
                 alloc,
                 &work.schedule,
                 work.with_tokens,

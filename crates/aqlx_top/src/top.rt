@@ -38,9 +38,9 @@ use std::thread::Threads;
 /// count the rows that it answered. The program's pool is `Workers`; a sound pool's lines are those that the program
 /// means.
 ///
-/// With `--workers N`, N from 2 on, `run` evaluates documents in windows by N workers, each in a thread of
-/// its own but for the first one, and holds a window, of at most 1,024 documents, and its lines; no byte of what
-/// is written depends on N. All other calls start no thread.
+/// With `--workers N`, N from 2 on, `run` answers the lines that are ready by N workers, each in a thread of
+/// its own but for the first one, and holds what one read brought, or a window of large documents, and its
+/// lines; no byte of what is written depends on N. All other calls start no thread.
 ///
 /// Meaning: `Outcome`, `specs/Outcome.antt`; docs/FORMATS.md, "Exit status and standard error".
 pub fn aqlx<R: Threads + Sync, F: Files, S: Source, O: Sink, E: Sink, P: Pool>(

@@ -1,6 +1,7 @@
-//! A run by workers: documents are evaluated in windows, several together.
+//! A run by workers: each answers lines that are ready by itself, and a few large documents are evaluated in
+//! windows, by all workers together.
 
-ghost use Rattle.std.specs.Prelude.{◌≡◌, ◌≢◌, ◌<◌, ◌≤◌, ◌+◌, ◌*◌, ◌^◌, ◌++◌, ℕ, [], ◌∷◌, false, true, not, IfOk, OnOk, OnErr, Option, List, MatchResult, None, length, map, drop};
+ghost use Rattle.std.specs.Prelude.{◌≡◌, ◌≢◌, ◌<◌, ◌≤◌, ◌+◌, ◌*◌, ◌^◌, ◌++◌, ℕ, [], ◌∷◌, false, true, not, IfOk, OnOk, OnErr, Option, List, MatchResult, None, length, map};
 ghost use Rattle.algebra.specs.Plans.{Parts};
 ghost use Rattle.aql_io.specs.Causes.{Rose};
 ghost use Rattle.corpus_json.specs.Documents.{documents, is_bad_line};
@@ -11,8 +12,7 @@ ghost use Rattle.aqlx_top.specs.Endings.{InPart};
 ghost use Rattle.aqlx_top.specs.Progress.{Stands, IsGoing, IsRunTo};
 ghost use Rattle.aqlx_top.specs.Planned.{line_by, names_in};
 ghost use Rattle.aqlx_top.specs.Turns.{Turned};
-ghost use Rattle.aqlx_top.specs.Windows.{meant_by, Fits};
-ghost use Rattle.window_lines.specs.Ahead.{IsAhead, IsFirstRead, IsReadOf};
+ghost use Rattle.aqlx_top.specs.Windows.{meant_by, Fits, HasAnswered, HasTaken, IsAsBefore, IsGiven};
 ghost use Rattle.window_lines.specs.Lines.{AreShort};
 
 use crate::asks::asks_for_tokens;
@@ -21,32 +21,29 @@ use crate::run::{PIECE, Turn, finish};
 use crate::{CorpusFault, Status};
 use algebra::Plan;
 use aql_io::{Failed, Sink, Source};
-use corpus_json::{DocumentReader, Input, Layout, LineBuffer, Step};
+use corpus_json::{DocumentReader, Input, Layout, LineBuffer, NotDocument, Step};
+use memchr::memchr;
 use plan_operators::Schedule;
 use row_values::Output;
 use run_pool::Workers;
-use span_token::OutOfMemory;
+use span_token::{Failure, OutOfMemory};
 use std::alloc::Global;
-use std::collections::VecDeque;
 use std::thread::Threads;
-use window_lines::{Hands, Parsed, append_short, append_window, read_ahead, read_line};
+use window_lines::{Hands, append_ready, append_window};
 use worker_pool::Crew;
 
 /// The most documents of a window.
-const MOST_DOCUMENTS: u32 = 1_024;
+const MOST_DOCUMENTS: u32 = 64;
 
 /// How many bytes of lines make a window full.
-const MOST_BYTES: usize = 16_777_216;
+const MOST_BYTES: usize = 4_194_304;
 
-/// Documents of fewer bytes on average are evaluated by stretches, each by one thread alone.
-const SHORT: usize = 16_384;
-
-/// How many bytes that are ready pay for the threads that read their lines.
-const MANY_BYTES: usize = 131_072;
+/// Lines of so many bytes go into a window, where few are ready behind them.
+const LARGE: usize = 65_536;
 
 /// How many bytes one read of the corpus may bring: more than a pipe holds, so that a read that brings as many
 /// comes from a file, which is never waited for.
-const ROOM: usize = 2_097_152;
+const ROOM: usize = 8_388_608;
 
 /// What a run keeps from line to line: lines that are pending, and behind them a window of documents whose
 /// lines aren't made yet, which has at most `most` documents and so many bytes of lines.
@@ -89,13 +86,12 @@ pub(crate) fn run_in_windows<R: Threads + Sync, S: Source, O: Sink>(
         (O.held out.old) (O.held out.new)) }
 {
     let mut work = begin_windows(alloc, workers, plan, outputs)?;
-    let mut ahead = VecDeque::new(alloc);
     'lines: loop {
         match send_between(out, &mut work) {
             Ok(()) => {}
             Err(Failed) => return Ok(Status::WriteFault),
         }
-        match turn_in_window(rt, alloc, &mut work, &mut ahead, corpus)? {
+        match turn_in_window(rt, alloc, &mut work, corpus)? {
             Turn::Next => {}
             Turn::Ended(status) => return Ok(finish(out, &work.pending, status)),
         }
@@ -176,32 +172,28 @@ fn is_to_send(work: &Windowed<'_>) -> bool
     work.window.is_empty() && (work.pending.len() >= PIECE || !work.reader.has_line())
 }
 
-/// Looks at the next line, puts its document into the window, and evaluates the window where it is due: so
-/// it is empty at the end of the run.
+/// Looks at the next line and at those that are ready, and evaluates the window where it is due: so it is
+/// empty at the end of the run.
 fn turn_in_window<R: Threads + Sync, S: Source>(
     rt: &R,
     alloc: Global,
     work: &mut Windowed<'_>,
-    ahead: &mut VecDeque<Parsed>,
     corpus: &mut S,
 ) -> Result<Turn, OutOfMemory>
     requires fits { Fits work.old.plan.now work.old }
-    requires read { IsAhead work.old.reader ahead.old.items }
     requires below { length work.old.window.items < work.old.most }
     requires room { work.old.number < 2 ^ 63 }
     requires going { IsGoing work.old.reader }
     ensures turned { (plan : Parts) (left : Option (List ℕ)) (faults : ℕ) (before now : Option (List ℕ)) → work.old.plan.now ≡ plan →
         Stands (line_by plan) (source_ends left (S.left corpus.old) faults (S.faults corpus.old)) before now work.old.reader (meant_by (line_by plan) work.old.pending.items work.old.window.items) work.old.number →
         Turned (line_by plan) (source_ends left (S.left corpus.new) faults (S.faults corpus.new)) before now work.new.reader (meant_by (line_by plan) work.new.pending.items work.new.window.items) work.new.number result }
-    ensures counts { IfOk result (λ came. came ≡ Turn.Next → work.new.number ≡ work.old.number + 1) }
+    ensures counts { IfOk result (λ came. came ≡ Turn.Next → work.old.number < work.new.number) }
     ensures going { IfOk result (λ came. came ≡ Turn.Next → IsGoing work.new.reader) }
     ensures fits { IfOk result (λ _. (plan : Parts) → Fits plan work.old → Fits plan work.new) }
     ensures below { IfOk result (λ came. came ≡ Turn.Next → length work.new.window.items < work.new.most) }
     ensures ended { IfOk result (λ came. came ≢ Turn.Next → work.new.window.items ≡ []) }
-    ensures read { IfOk result (λ _. IsAhead work.new.reader ahead.new.items) }
 {
-    read_before(rt, alloc, work.workers, &work.reader, ahead)?;
-    let turn = take_line(alloc, work, ahead, corpus)?;
+    let turn = take_line(rt, alloc, work, corpus)?;
     if is_due(work, &turn) {
         evaluate_window(rt, alloc, work)?;
         Ok(turn)
@@ -210,61 +202,30 @@ fn turn_in_window<R: Threads + Sync, S: Source>(
     }
 }
 
-/// Has the lines that are ready read by the workers, where none of them was and there are many bytes.
-fn read_before<R: Threads + Sync>(
+/// Looks at the next line, and puts its document into the window, or answers it and those that are ready.
+fn take_line<R: Threads + Sync, S: Source>(
     rt: &R,
     alloc: Global,
-    workers: usize,
-    reader: &LineBuffer,
-    ahead: &mut VecDeque<Parsed>,
-) -> Result<(), OutOfMemory>
-    requires some { 0 < workers }
-    requires read { IsAhead reader.now ahead.old.items }
-    ensures read { OnOk result (IsAhead reader.now ahead.new.items) }
-{
-    if ahead.is_empty() && reader.ready().len() >= MANY_BYTES {
-        *ahead = read_ahead(rt, alloc, workers, reader.ready())?;
-    }
-    Ok(())
-}
-
-/// Looks at the next line, and puts the document that it is into the window.
-fn take_line<S: Source>(
-    alloc: Global,
     work: &mut Windowed<'_>,
-    ahead: &mut VecDeque<Parsed>,
     corpus: &mut S,
 ) -> Result<Turn, OutOfMemory>
-    requires read { IsAhead work.old.reader ahead.old.items }
-    requires short { AreShort work.old.window.items }
+    requires fits { Fits work.old.plan.now work.old }
     requires below { length work.old.window.items < work.old.most }
     requires room { work.old.number < 2 ^ 63 }
     requires going { IsGoing work.old.reader }
-    ensures turned { (piece : Doc → List ℕ) (left : Option (List ℕ)) (faults : ℕ) (before now : Option (List ℕ)) →
-        Stands piece (source_ends left (S.left corpus.old) faults (S.faults corpus.old)) before now work.old.reader (meant_by piece work.old.pending.items work.old.window.items) work.old.number →
-        Turned piece (source_ends left (S.left corpus.new) faults (S.faults corpus.new)) before now work.new.reader (meant_by piece work.new.pending.items work.new.window.items) work.new.number result }
-    ensures counts { IfOk result (λ came. came ≡ Turn.Next → work.new.number ≡ work.old.number + 1) }
+    ensures turned { (plan : Parts) (left : Option (List ℕ)) (faults : ℕ) (before now : Option (List ℕ)) → work.old.plan.now ≡ plan →
+        Stands (line_by plan) (source_ends left (S.left corpus.old) faults (S.faults corpus.old)) before now work.old.reader (meant_by (line_by plan) work.old.pending.items work.old.window.items) work.old.number →
+        Turned (line_by plan) (source_ends left (S.left corpus.new) faults (S.faults corpus.new)) before now work.new.reader (meant_by (line_by plan) work.new.pending.items work.new.window.items) work.new.number result }
+    ensures counts { IfOk result (λ came. came ≡ Turn.Next → work.old.number < work.new.number) }
     ensures going { IfOk result (λ came. came ≡ Turn.Next → IsGoing work.new.reader) }
     ensures fits { IfOk result (λ _. (plan : Parts) → Fits plan work.old → Fits plan work.new) }
-    ensures read { IfOk result (λ _. IsAhead work.new.reader ahead.new.items) }
 {
     match work.reader.next_line(corpus, &mut work.line)? {
         Step::Line => {
             work.number += 1;
             // no more bytes were taken than a corpus has, which bounds the number of lines
             let _taken = work.reader.taken();
-            if take_document(
-                alloc,
-                &mut work.documents,
-                ahead,
-                &work.line,
-                &mut work.window,
-            )? {
-                work.bytes = work.bytes.saturating_add(work.line.len());
-                Ok(Turn::Next)
-            } else {
-                Ok(Turn::Ended(Status::Corpus(CorpusFault::BadLine(work.number))))
-            }
+            take_given(rt, alloc, work)
         }
         Step::End => Ok(Turn::Ended(Status::Done)),
         Step::Long => Ok(Turn::Ended(Status::Corpus(CorpusFault::LineLong(work.number + 1)))),
@@ -273,47 +234,140 @@ fn take_line<S: Source>(
     }
 }
 
+/// Puts the document of the line that was given into the window, or answers that line and those that are ready.
+fn take_given<R: Threads + Sync>(
+    rt: &R,
+    alloc: Global,
+    work: &mut Windowed<'_>,
+) -> Result<Turn, OutOfMemory>
+    requires fits { Fits work.old.plan.now work.old }
+    requires below { length work.old.window.items < work.old.most }
+    requires line { length work.old.line.items ≤ 16777216 }
+    ensures given { IfOk result (IsGiven (line_by work.old.plan.now) work.old work.new) }
+    ensures fits { IfOk result (λ _. (plan : Parts) → Fits plan work.old → Fits plan work.new) }
+{
+    if is_for_window(work) {
+        take_document(alloc, work)
+    } else {
+        answer_or_take(rt, alloc, work)
+    }
+}
+
+/// Answers the line that was given and those that are ready, or puts the document of that one into the window
+/// where it can't.
+fn answer_or_take<R: Threads + Sync>(
+    rt: &R,
+    alloc: Global,
+    work: &mut Windowed<'_>,
+) -> Result<Turn, OutOfMemory>
+    requires fits { Fits work.old.plan.now work.old }
+    requires below { length work.old.window.items < work.old.most }
+    requires line { length work.old.line.items ≤ 16777216 }
+    requires empty { work.old.window.items ≡ [] }
+    ensures given { IfOk result (IsGiven (line_by work.old.plan.now) work.old work.new) }
+    ensures fits { IfOk result (λ _. (plan : Parts) → Fits plan work.old → Fits plan work.new) }
+{
+    if answer_ready(rt, alloc, work)? {
+        Ok(Turn::Next)
+    } else {
+        take_document(alloc, work)
+    }
+}
+
+/// Whether the line that was given belongs into the window: where one is begun, or the line is large, and too
+/// few are ready behind it for each worker to have lines of its own.
+fn is_for_window(work: &Windowed<'_>) -> bool
+    ensures { result ≡ false → work.now.window.items ≡ [] }
+{
+    !work.window.is_empty()
+        || work.line.len() >= LARGE && !has_lines(work.reader.ready(), work.workers.saturating_mul(2))
+}
+
+/// Whether so many lines are there with their LF.
+fn has_lines(bytes: &[u8], number: usize) -> bool {
+    let mut at = 0;
+    for _ in 0..number {
+        match memchr(b'\n', &bytes[at..]) {
+            Some(n) => at += n + 1,
+            None => return false,
+        }
+    }
+    true
+}
+
+/// Answers the line that was given and those that are ready, as far as none is bad. False where that one is
+/// bad, or memory is wanting for it: then nothing is answered.
+fn answer_ready<R: Threads + Sync>(
+    rt: &R,
+    alloc: Global,
+    work: &mut Windowed<'_>,
+) -> Result<bool, OutOfMemory>
+    requires fits { Fits work.old.plan.now work.old }
+    requires empty { work.old.window.items ≡ [] }
+    ensures answered { IfOk result (λ answered. answered ≡ true → HasAnswered (line_by work.old.plan.now) work.old work.new) }
+    ensures none { IfOk result (λ answered. answered ≡ false → IsAsBefore work.old work.new) }
+    ensures fits { IfOk result (λ _. (plan : Parts) → Fits plan work.old → Fits plan work.new) }
+{
+    let told = append_ready(
+        rt,
+        alloc,
+        &work.schedule,
+        work.with_tokens,
+        &work.layout,
+        &mut work.hands,
+        &work.line,
+        work.reader.ready(),
+        &mut work.pending,
+    )?;
+    match told {
+        Some(taken) => {
+            work.reader.skip(taken.bytes);
+            work.number = work.number.saturating_add(taken.lines);
+            Ok(true)
+        }
+        None => Ok(false),
+    }
+}
+
+/// Puts the document of the line that was given behind those of the window; a blank line has none.
+fn take_document(alloc: Global, work: &mut Windowed<'_>) -> Result<Turn, OutOfMemory>
+    requires line { length work.old.line.items ≤ 16777216 }
+    requires short { AreShort work.old.window.items }
+    requires below { length work.old.window.items < work.old.most }
+    ensures taken { IfOk result (HasTaken work.old work.new) }
+    ensures fits { IfOk result (λ _. (plan : Parts) → Fits plan work.old → Fits plan work.new) }
+{
+    let good = put_document(alloc, &mut work.documents, &work.line, &mut work.window)?;
+    if good {
+        work.bytes = work.bytes.saturating_add(work.line.len());
+        Ok(Turn::Next)
+    } else {
+        Ok(Turn::Ended(Status::Corpus(CorpusFault::BadLine(work.number))))
+    }
+}
+
 /// Puts the document of a line behind the others; a blank line has none. False where the line is neither.
-fn take_document(
+fn put_document(
     alloc: Global,
     reader: &mut DocumentReader,
-    ahead: &mut VecDeque<Parsed>,
     line: &[u8],
     window: &mut Vec<Input>,
 ) -> Result<bool, OutOfMemory>
     requires line { length line.now ≤ 16777216 }
     requires short { AreShort window.old.items }
-    requires first { IsFirstRead line.now ahead.old.items }
     ensures good { IfOk result (λ good. is_bad_line line.now ≡ not good) }
     ensures documents { IfOk result (λ good. map doc_of window.new.items ≡ map doc_of window.old.items ++ documents (line.now ∷ [])) }
     ensures more { IfOk result (λ good. length window.new.items ≤ length window.old.items + 1) }
     ensures short { IfOk result (λ good. AreShort window.new.items) }
-    ensures rest { IfOk result (λ good. ahead.new.items ≡ drop 1 ahead.old.items) }
 {
-    match line_read(alloc, reader, ahead, line)? {
-        Parsed::Document(input) => {
-            window.push(input)?;
+    match reader.read(line) {
+        Ok(Some(input)) => {
+            window.push(Input::copied(alloc, input)?)?;
             Ok(true)
         }
-        Parsed::Blank => Ok(true),
-        Parsed::Bad => Ok(false),
-    }
-}
-
-/// What the line is: what it was read as before it was given, where it was.
-fn line_read(
-    alloc: Global,
-    reader: &mut DocumentReader,
-    ahead: &mut VecDeque<Parsed>,
-    line: &[u8],
-) -> Result<Parsed, OutOfMemory>
-    requires first { IsFirstRead line.now ahead.old.items }
-    ensures read { IfOk result (IsReadOf line.now) }
-    ensures rest { IfOk result (λ _. ahead.new.items ≡ drop 1 ahead.old.items) }
-{
-    match ahead.pop_front() {
-        Some(parsed) => Ok(parsed),
-        None => read_line(alloc, reader, line),
+        Ok(None) => Ok(true),
+        Err(Failure::Fault(NotDocument)) => Ok(false),
+        Err(Failure::OutOfMemory) => Err(OutOfMemory),
     }
 }
 
@@ -345,51 +399,19 @@ fn evaluate_window<R: Threads + Sync>(
     ensures fits { OnOk result ((plan : Parts) → Fits plan work.old → Fits plan work.new) }
     ensures same { OnOk result ((work.new.reader ≡ work.old.reader) × (work.new.number ≡ work.old.number) × (work.new.most ≡ work.old.most)) }
 {
-    append_lines(rt, alloc, work)?;
+    append_window(
+        rt,
+        alloc,
+        work.plan,
+        work.with_tokens,
+        &work.layout,
+        &mut work.crew,
+        work.workers,
+        &mut Workers,
+        &work.window,
+        &mut work.pending,
+    )?;
     work.window.clear();
     work.bytes = 0;
     Ok(())
-}
-
-/// Puts the lines of the window's documents behind what is pending.
-fn append_lines<R: Threads + Sync>(
-    rt: &R,
-    alloc: Global,
-    work: &mut Windowed<'_>,
-) -> Result<(), OutOfMemory>
-    requires fits { Fits work.old.plan.now work.old }
-    ensures meant { OnOk result (work.new.pending.items ≡ meant_by (line_by work.old.plan.now) work.old.pending.items work.old.window.items) }
-    ensures fits { OnOk result ((plan : Parts) → Fits plan work.old → Fits plan work.new) }
-    ensures same { OnOk result ((work.new.reader ≡ work.old.reader) × (work.new.number ≡ work.old.number) × (work.new.most ≡ work.old.most)) }
-{
-    if is_of_short(work) {
-        append_short(
-            rt,
-            alloc,
-            &work.schedule,
-            work.with_tokens,
-            &work.layout,
-            &mut work.hands,
-            &work.window,
-            &mut work.pending,
-        )
-    } else {
-        append_window(
-            rt,
-            alloc,
-            work.plan,
-            work.with_tokens,
-            &work.layout,
-            &mut work.crew,
-            work.workers,
-            &mut Workers,
-            &work.window,
-            &mut work.pending,
-        )
-    }
-}
-
-/// Whether the window's documents are short, on average.
-fn is_of_short(work: &Windowed<'_>) -> bool {
-    work.bytes < SHORT.saturating_mul(work.window.len())
 }

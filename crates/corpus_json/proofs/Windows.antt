@@ -7,7 +7,7 @@ use Rattle.corpus_json.specs.declared.step.Step.TheVariants.{Long}
 use Rattle.corpus_json.specs.Limits.{corpus_limit}
 use Rattle.corpus_json.specs.Moves.{MovesWhole, IsTooMany}
 use Rattle.corpus_json.specs.Pieces.{TakesLine, TakesTooMany, Fills}
-use Rattle.corpus_json.specs.Reading.{Reading, settled}
+use Rattle.corpus_json.specs.Reading.{Reading, settled, past}
 
 -- nothing is ready between equal ends
 pub slice_range-none : (bytes : List ℕ) (to : ℕ) → slice_range bytes to to ≡ []
@@ -20,6 +20,18 @@ slice_range-past bytes from to n within =
     ap (λ k. drop n (take k (drop from bytes))) size
     ∙ drop-take n (to - (from + n)) (drop from bytes)
     ∙ ap (take (to - (from + n))) (drop-drop n from bytes)
+
+-- the first bytes that are ready are left out
+pub skipped : (bytes : List ℕ) (from to taken n : ℕ) (last : Option Step) (before : Reading)
+    → record { ready = slice_range bytes from to; taken = taken; last = last } ≡ before
+    → from ≤ to
+    → n ≤ length before.ready
+    → record { ready = slice_range bytes (from + n) to; taken = taken; last = last } ≡ past n before
+skipped bytes from to taken n last before is in_order within =
+    let size : length (slice_range bytes from to) ≡ length before.ready = ap (λ (r : Reading). length r.ready) is in
+    let fits : from + n ≤ to = omega (arith, within, in_order, size, length-take (to - from) (drop from bytes)) in
+    ap (λ (r : List ℕ). let now : Reading = record { ready = r; taken = taken; last = last } in now) (sym (slice_range-past bytes from to n fits))
+    ∙ ap (past n) is
 
 -- a piece that an LF ends is taken out of what is ready
 pub takes-whole : (bytes : List ℕ) (from to taken n : ℕ) (last : Option Step) (before : Reading) (line_before line_now : List ℕ)

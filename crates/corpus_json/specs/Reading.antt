@@ -1,5 +1,5 @@
 -- What a reader of lines took and gave, and what each of its answers says.
-use Rattle.std.specs.Prelude.{◌≡◌, ◌≢◌, ℕ, ◌+◌, ◌<◌, ◌≤◌, List, [], ◌∷◌, ◌++◌, length, Option, None, Some, MatchOption, ◌⊎◌}
+use Rattle.std.specs.Prelude.{◌≡◌, ◌≢◌, ℕ, ◌+◌, ◌<◌, ◌≤◌, List, [], ◌∷◌, ◌++◌, length, drop, Option, None, Some, MatchOption, ◌⊎◌}
 use Rattle.std.specs.Io.KnownBytes.{Consumes, IsAtEnd}
 use Rattle.aql_io.specs.Causes.{Rose}
 use Rattle.corpus_json.specs.declared.step.Step.{Step}
@@ -16,6 +16,10 @@ pub record Reading : Type 0 where
 -- the reading stands still with this answer, and nothing is left to give
 abbrev pub settled : ℕ → Step → Reading
 settled taken step = record { ready = []; taken = taken; last = Some step }
+
+-- the reading with so many of the bytes that are ready left out
+abbrev pub past : ℕ → Reading → Reading
+past count reading = record { ready = drop count reading.ready; taken = reading.taken; last = reading.last }
 
 -- the bytes begin with the line and its LF, and go on with what the reading has ready
 pub record EndsAtLf (bytes line : List ℕ) (now : Reading) : Type 0 where

@@ -6,7 +6,7 @@ ghost use Rattle.corpus_json.specs.Limits.{line_limit, corpus_limit};
 ghost use Rattle.corpus_json.specs.Lines.{HasNoLf, FirstLfAt};
 ghost use Rattle.corpus_json.specs.Moves.{MovesPiece};
 ghost use Rattle.corpus_json.specs.Pieces.{TakesPiece, Fills, step_after};
-ghost use Rattle.corpus_json.specs.Reading.{NextLine, Took};
+ghost use Rattle.corpus_json.specs.Reading.{past, NextLine, Took};
 ghost use Rattle.corpus_json.specs.Window.{IsPastLastLf};
 
 use crate::Step;
@@ -98,6 +98,14 @@ impl LineBuffer {
         ensures { result.now ≡ self.now.ready }
     {
         &self.bytes[self.from..self.to]
+    }
+
+    /// Leaves out the first `count` bytes that are ready: they were looked at where they stand (`ready`).
+    pub fn skip(&mut self, count: usize)
+        requires within { count ≤ length self.old.ready }
+        ensures rest { self.new ≡ past count self.old }
+    {
+        self.from += count;
     }
 
     /// Whether the last read brought as many bytes as it could, so that more may be there already. A read

@@ -8,14 +8,16 @@ use Rattle.std.specs.Prelude.{[], ◌∷◌}
 use Rattle.std.proofs.Crossing.{crosses}
 use Rattle.std.proofs.vec.Vec.TheSendSync as vec
 use Rattle.span_token.proofs.document.Document.TheSendSync as document
+use Rattle.std.proofs.sync.atomic.AtomicUsize.TheSendSync as word
+use Rattle.corpus_json.proofs.read.DocumentReader.TheSendSync as reader
 use Rattle.corpus_json.proofs.write.layout.Layout.TheSendSync as layout
 use Rattle.scalar_ops.proofs.Crosses.{tools}
 use Rattle.plan_operators.specs.contracts.schedule.Schedule as Schedule
 use Rattle.worker_pool.proofs.Crosses.{Plan-sync}
 use Rattle.run_pool.specs.declared.pool.Pool.{Ghosts}
 use Rattle.window_lines.specs.contracts.lines.Writing as Writing
-use Rattle.window_lines.specs.contracts.short.Hand as Hand
-use Rattle.window_lines.specs.contracts.short.Short as Short
+use Rattle.window_lines.specs.contracts.hands.Hand as Hand
+use Rattle.window_lines.specs.contracts.ready.Ready as Ready
 
 -- what they share may be shared, with a pool that may be
 pub Writing-sync : (a l d : NamedLft) (P : RattleType) (ghosts : Ghosts P.Denot) → IsSync P → IsSync (Writing.the_row a l d P ghosts)
@@ -27,10 +29,10 @@ one_captured_sync ν A a = search sendable depth 20
 Schedule-sync : (p : NamedLft) → IsSync (Schedule.the_row p)
 Schedule-sync p = search (Plan-sync, vec.the_sync, crosses, sendable) depth 60 fits 20000
 
--- what threads share that evaluate short documents
-pub Short-sync : (a l p : NamedLft) → IsSync (Short.the_row a l p)
-Short-sync a l p = search (Schedule-sync, layout.the_sync, vec.the_sync, crosses, sendable) depth 60 fits 20000
+-- what threads share that answer lines
+pub Ready-sync : (a l p : NamedLft) → IsSync (Ready.the_row a l p)
+Ready-sync a l p = search (Schedule-sync, layout.the_sync, vec.the_sync, word.the_sync, crosses, sendable) depth 60 fits 20000
 
--- a hand may be sent: its tools
+-- a hand may be sent: its tools, and room
 pub Hand-send : (p : NamedLft) → IsSend (Hand.the_row p)
-Hand-send p = search (tools, vec.the_send, crosses, sendable) depth 60 fits 20000
+Hand-send p = search (tools, reader.the_send, vec.the_send, crosses, sendable) depth 60 fits 20000

@@ -1,13 +1,15 @@
--- Parts of bytes, whose lines were read: one line more.
-use Rattle.std.proofs.Common.{◌≡◌, ◌++◌, ◌+◌, ◌-◌, ◌≤◌, ℕ, List, [], ◌∷◌, length, take, drop, get_or, refl, sym, ap, ◌∙◌, subst, arith}
+-- Parts of bytes, whose lines were answered: one line more, and one part behind another.
+use Rattle.std.proofs.Common.{◌≡◌, ◌++◌, ◌+◌, ◌-◌, ◌≤◌, ◌<◌, ℕ, List, [], ◌∷◌, false, length, take, drop, get_or, refl, sym, ap, ◌∙◌, subst, arith}
 use Rattle.std.specs.List.{slice_range}
 use Rattle.std.proofs.Math.Seq.{take-add}
 use Rattle.std.proofs.lemmas.List.{take_more, drop-drop, get_or_at, length-take-le}
+use Rattle.span_token.specs.Documents.{Doc}
+use Rattle.corpus_json.specs.Documents.{is_bad_line}
 use Rattle.corpus_json.specs.Lines.{FirstLfAt}
-use Rattle.window_lines.specs.Ahead.{IsReadOf, IsPartOf, Reads}
-use Rattle.window_lines.specs.AheadLaws.{reads-append}
-use Rattle.window_lines.specs.declared.ahead.Parsed.{Parsed}
-use Rattle.window_lines.specs.declared.ahead.Part.{Part}
+use Rattle.window_lines.specs.Answered.{AreAnswered, answer_to}
+use Rattle.window_lines.specs.AnsweredLaws.{answered-line, answered-append}
+use Rattle.window_lines.specs.Hands.{IsPart}
+use Rattle.window_lines.specs.declared.hands.Part.{Part}
 
 -- a line with its LF
 line_taken : (bytes : List ℕ) (n : ℕ) → FirstLfAt bytes n → take (n + 1) bytes ≡ take n bytes ++ 10 ∷ []
@@ -25,22 +27,25 @@ stretch_on bytes from at n order lf =
     ∙ ap (λ l. slice_range bytes from at ++ take (n + 1) l) (drop-drop (at - from) from bytes ∙ ap (λ k. drop k bytes) there)
     ∙ ap (λ l. slice_range bytes from at ++ l) (line_taken (drop at bytes) n lf)
 
-pub reads_on : (bytes : List ℕ) (from at n : ℕ) (ps : List Parsed) (p : Parsed) → from ≤ at → FirstLfAt (drop at bytes) n → IsReadOf (take n (drop at bytes)) p
-    → Reads (slice_range bytes from at) ps [] → Reads (slice_range bytes from (at + n + 1)) (ps ++ p ∷ []) []
-reads_on bytes from at n ps p order lf read so_far =
-    subst (λ l. Reads l (ps ++ p ∷ []) []) (sym (stretch_on bytes from at n order lf))
-    (reads-append (slice_range bytes from at) (take n (drop at bytes) ++ 10 ∷ []) ps (p ∷ []) [] so_far (take n (drop at bytes), [], refl, lf.no_lf, read, refl))
+module _ (piece : Doc → List ℕ) (bytes : List ℕ) where
+  -- a line more
+  pub answered_on : (from at n count : ℕ) (text after : List ℕ) → from ≤ at → FirstLfAt (drop at bytes) n → is_bad_line (take n (drop at bytes)) ≡ false
+      → after ≡ text ++ answer_to piece (take n (drop at bytes) ∷ [])
+      → AreAnswered piece (slice_range bytes from at) count text → AreAnswered piece (slice_range bytes from (at + n + 1)) (count + 1) after
+  answered_on from at n count text after order lf good put so_far =
+      let line = take n (drop at bytes) in
+      subst (λ l. AreAnswered piece l (count + 1) after) (sym (stretch_on bytes from at n order lf))
+      (subst (λ t. AreAnswered piece (slice_range bytes from at ++ (line ++ 10 ∷ [])) (count + 1) t) (sym put)
+      (answered-append piece (slice_range bytes from at) (line ++ 10 ∷ []) count 1 text (answer_to piece (line ∷ [])) so_far
+      (answered-line piece line (answer_to piece (line ∷ [])) lf.no_lf good refl)))
 
--- stretches beside each other
-pub reads_beside : (bytes : List ℕ) (at to : ℕ) (ps qs : List Parsed) → at ≤ to → to ≤ length bytes → Reads (take at bytes) ps [] → Reads (slice_range bytes at to) qs []
-    → Reads (take to bytes) (ps ++ qs) []
-reads_beside bytes at to ps qs order within first next =
-    let on : to ≡ at + (to - at) = omega (arith, order) in
-    subst (λ l. Reads l (ps ++ qs) []) (sym (ap (λ k. take k bytes) on ∙ take-add at (to - at) bytes)) (reads-append (take at bytes) (slice_range bytes at to) ps qs [] first next)
-
--- a part behind what was read
-pub longer : (bytes : List ℕ) (at : ℕ) (part : Part) (lines : List Parsed) (to : ℕ) (all : List Parsed) → IsPartOf bytes part → part.from ≡ at → to ≡ part.to
-    → all ≡ lines ++ part.lines.items → Reads (take at bytes) lines [] → Reads (take to bytes) all []
-longer bytes at part lines to all is same ends on so_far =
-    subst (λ l. Reads (take to bytes) l []) (sym on) (subst (λ k. Reads (take k bytes) (lines ++ part.lines.items) []) (sym ends)
-    (reads_beside bytes at part.to lines part.lines.items (omega (arith, same, is.in_order)) is.within so_far (subst (λ k. Reads (slice_range bytes k part.to) part.lines.items []) same is.reads)))
+  -- a part behind what was answered
+  pub longer : (at to count : ℕ) (text more : List ℕ) (part : Part) → IsPart piece bytes part → part.from ≡ at → to ≡ part.to → more ≡ part.text.items
+      → AreAnswered piece (take at bytes) count text → AreAnswered piece (take to bytes) (count + part.count) (text ++ more)
+  longer at to count text more part is same ends written so_far =
+      let on : part.to ≡ at + (part.to - at) = omega (arith, same, is.few) in
+      let next : AreAnswered piece (slice_range bytes at part.to) part.count part.text.items = subst (λ k. AreAnswered piece (slice_range bytes k part.to) part.count part.text.items) same is.answered in
+      subst (λ k. AreAnswered piece (take k bytes) (count + part.count) (text ++ more)) (sym ends)
+      (subst (λ t. AreAnswered piece (take part.to bytes) (count + part.count) (text ++ t)) (sym written)
+      (subst (λ l. AreAnswered piece l (count + part.count) (text ++ part.text.items)) (sym (ap (λ k. take k bytes) on ∙ take-add at (part.to - at) bytes))
+      (answered-append piece (take at bytes) (slice_range bytes at part.to) count part.count text part.text.items so_far next)))

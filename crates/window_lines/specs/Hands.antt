@@ -1,18 +1,46 @@
--- Threads that write lines by themselves. Only private clauses cite this.
-use Rattle.std.specs.Prelude.{◌≡◌, ℕ, false, List, All, map}
-use Rattle.std.specs.Fork.{slice_chunk}
-use Rattle.std.specs.List.{flat_map}
+-- Threads that answer lines by themselves. Only private clauses cite this.
+use Rattle.std.specs.Prelude.{◌≡◌, ℕ, ◌+◌, ◌≤◌, true, false, List, [], ◌∷◌, ◌++◌, All, length, take}
+use Rattle.std.specs.List.{slice_range}
+use Rattle.span_token.specs.Documents.{Doc}
 use Rattle.scalar_ops.specs.Tables.{Lists}
-use Rattle.corpus_json.specs.declared.input.Input.{Input}
-use Rattle.corpus_json.specs.Inputs.{doc_of}
-use Rattle.algebra.specs.Plans.{Parts}
-use Rattle.window_lines.specs.declared.short.Hand.{Hand}
-use Rattle.window_lines.specs.Lines.{line_by}
+use Rattle.corpus_json.specs.Documents.{is_bad_line}
+use Rattle.window_lines.specs.declared.hands.Hand.{Hand}
+use Rattle.window_lines.specs.declared.hands.Part.{Part}
+use Rattle.window_lines.specs.declared.ready.Answered.{Answered}
+use Rattle.window_lines.specs.Answered.{answer_to, AreAnswered}
 
 -- each hand has the tools of the tables
 abbrev pub HaveTools : Lists → List Hand → Type 0
 HaveTools lists hands = All (λ hand. hand.tools ≡ lists) hands
 
--- unless memory was wanting, the hand wrote the lines of the stretch of this number
-abbrev pub HasWritten : Parts → List Input → ℕ → ℕ → Hand → Type 0
-HasWritten plan inputs size place hand = hand.failed ≡ false → hand.lines.items ≡ flat_map (line_by plan) (map doc_of (slice_chunk inputs size place))
+-- the part is what is written for the lines that stand there in the bytes
+pub record IsPart (piece : Doc → List ℕ) (bytes : List ℕ) (part : Part) : Type 0 where
+  pub within : part.to ≤ length bytes
+  pub few : part.from + part.count ≤ part.to
+  pub answered : AreAnswered piece (slice_range bytes part.from part.to) part.count part.text.items
+
+-- all of them are
+abbrev pub AreParts : (Doc → List ℕ) → List ℕ → List Part → Type 0
+AreParts piece bytes parts = All (IsPart piece bytes) parts
+
+-- the first line isn't bad, and this is written for it
+pub record IsHead (piece : Doc → List ℕ) (first text : List ℕ) : Type 0 where
+  pub good : is_bad_line first ≡ false
+  pub written : text ≡ answer_to piece (first ∷ [])
+
+-- what a hand says of the first line is so, and so are its parts
+pub record HasAnswered (piece : Doc → List ℕ) (first bytes : List ℕ) (hand : Hand) : Type 0 where
+  pub headed : hand.headed ≡ true → IsHead piece first hand.head.items
+  pub parts : AreParts piece bytes hand.parts.items
+
+-- of each of them
+abbrev pub HaveAnswered : (Doc → List ℕ) → List ℕ → List ℕ → List Hand → Type 0
+HaveAnswered piece first bytes hands = All (HasAnswered piece first bytes) hands
+
+-- what is written for lines that stand at the beginning of the bytes is put behind what was there
+pub record IsAnsweredBehind (piece : Doc → List ℕ) (bytes : List ℕ) (taken : Answered) (before after : List ℕ) : Type 0 where
+  pub within : taken.bytes ≤ length bytes
+  pub few : taken.lines ≤ taken.bytes
+  pub text : List ℕ
+  pub answered : AreAnswered piece (take taken.bytes bytes) taken.lines text
+  pub put : after ≡ before ++ text

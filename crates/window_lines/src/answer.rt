@@ -1,6 +1,7 @@
 //! The line of one document, by one thread.
 
-ghost use Rattle.std.specs.Prelude.{◌≡◌, ◌≤◌, ◌<◌, ◌++◌, ◌∷◌, [], All, IfOk, OnOk, IsSome, None, length, map, slice_index_or};
+ghost use Rattle.std.specs.Prelude.{◌≡◌, ◌≤◌, ◌++◌, ◌∷◌, [], not, All, IfOk, OnOk, IsSome, None, ◌<◌, length, map, slice_index_or};
+ghost use Rattle.corpus_json.specs.Documents.{documents, is_bad_line};
 ghost use Rattle.corpus_json.specs.Inputs.{doc_of, doc_of_ref};
 ghost use Rattle.corpus_json.specs.Outputs.{output_line, rows_of, width_of};
 ghost use Rattle.plan_operators.specs.Boards.{Holds, rows_there};
@@ -8,16 +9,81 @@ ghost use Rattle.row_values.specs.Rows.{RowsLieIn};
 ghost use Rattle.run_pool.specs.Answers.{IsAnswer};
 ghost use Rattle.run_pool.specs.Entries.{entry_of, AreHanded};
 ghost use Rattle.run_pool.specs.Lines.{line_from, names_in, rows_by};
+ghost use Rattle.window_lines.specs.Answered.{answer_to};
 
 use algebra::{Plan, PlanOut};
-use corpus_json::{Input, InputRef, Layout, append_document};
+use corpus_json::{DocumentReader, Input, InputRef, Layout, NotDocument, append_document};
 use plan_operators::{Schedule, evaluate, rows_shown};
 use row_values::Rows;
 use run_pool::{Answered, Pool};
 use scalar_ops::Tools;
-use span_token::{Document, OutOfMemory};
+use span_token::{Document, Failure, OutOfMemory};
 use std::alloc::Global;
 use std::mem;
+
+/// Memory that is used again for each line of the corpus.
+#[derive(Drop)]
+pub struct Room {
+    reader: DocumentReader,
+    line: Vec<u8>,
+}
+
+impl Room {
+    /// No room yet: it grows with what it is used for.
+    pub fn new(alloc: Global) -> Room {
+        Room {
+            reader: DocumentReader::new(alloc),
+            line: Vec::new(alloc),
+        }
+    }
+}
+
+/// Hands the document of a line of the corpus, without its LF, to a pool, and puts what is written for the line
+/// behind what is pending: the line that the pool answers, and nothing for a blank line. False where the line is
+/// neither, and nothing is put or handed over.
+///
+/// `schedule` is the plan's, `layout` has its outputs, and `tools` are made of its tables. `with_tokens` says
+/// whether the document keeps its tokens, and changes no byte.
+pub fn answer_line<P: Pool>(
+    alloc: Global,
+    schedule: &Schedule<'_>,
+    with_tokens: bool,
+    layout: &Layout<'_>,
+    tools: &mut Tools<'_>,
+    room: &mut Room,
+    pool: &mut P,
+    line: &[u8],
+    pending: &mut Vec<u8>,
+) -> Result<bool, OutOfMemory>
+    requires layout { layout.now ≡ names_in schedule.now }
+    requires tables { tools.old ≡ schedule.now.lists }
+    requires short { length line.now ≤ 16777216 }
+    ensures good { IfOk result (λ good. is_bad_line line.now ≡ not good) }
+    ensures bytes { IfOk result (λ good. pending.new.items ≡ pending.old.items ++ answer_to (line_from (P.means pool.old) schedule.now) (line.now ∷ [])) }
+    ensures handed { AreHanded (P.told pool.old) (P.told pool.new) (map (entry_of (P.means pool.old) schedule.now) (documents (line.now ∷ []))) result }
+    ensures means { P.means pool.new ≡ P.means pool.old }
+    ensures same { tools.new ≡ tools.old }
+{
+    match room.reader.read(line) {
+        Ok(Some(input)) => {
+            append_answer(
+                alloc,
+                schedule,
+                with_tokens,
+                layout,
+                tools,
+                pool,
+                input,
+                &mut room.line,
+                pending,
+            )?;
+            Ok(true)
+        }
+        Ok(None) => Ok(true),
+        Err(Failure::Fault(NotDocument)) => Ok(false),
+        Err(Failure::OutOfMemory) => Err(OutOfMemory),
+    }
+}
 
 /// Hands a document to a pool, with the rows that are found, and puts the line that the pool answers behind what
 /// is pending; `line` is room for it.

@@ -1,21 +1,22 @@
-//! The output lines of a window of documents, by several workers.
+//! The output lines of a corpus's documents, by several workers.
 //!
-//! A window is some documents of a corpus that are evaluated together. Its documents are made, and their
-//! lines written, in stretches of neighbours, each in a thread of its own where that pays; between the two
-//! `worker_pool` evaluates the plan on all of them. What is written is in the corpus's order, and no byte of
-//! it depends on the number of workers.
+//! Where many lines are ready, each worker answers pieces of them by itself: it reads a line, evaluates the
+//! plan on its document and writes the output line. Where a few large documents are, they make a window: its
+//! documents are made, and their lines written, in stretches of neighbours, each in a thread of its own where
+//! that pays, and between the two `worker_pool` evaluates the plan on all of them, node by node. What is
+//! written is in the corpus's order, and no byte of it depends on the number of workers.
 #![tactic(auto)]
 
-mod ahead;
 mod answer;
 mod answers;
 mod documents;
+mod hands;
 mod lines;
-mod short;
+mod ready;
 mod stretch;
 mod window;
 
-pub use ahead::{Parsed, read_ahead, read_line};
-pub use answer::{all_lent, all_shown, append_answer, document_of, lent};
-pub use short::{Hands, append_short};
+pub use answer::{Room, all_lent, all_shown, answer_line, append_answer, document_of, lent};
+pub use hands::Hands;
+pub use ready::{Answered, append_ready};
 pub use window::append_window;

@@ -16,44 +16,44 @@ returns-in_err-next_line-clause-turned g c = λ told left faults before now s.
     (by.part_of_taken_by (g.P.Pool.means c.args.pool.now) c.args.work.now.schedule told (g.P.Pool.told c.args.pool.now) (g.P.Pool.told c.args.pool.now) left (g.S.Source.left c.args.corpus.now) (g.S.Source.left c.next_line.new.source) faults (g.S.Source.faults c.args.corpus.now) (g.S.Source.faults c.next_line.new.source) before now c.args.work.now.reader.ready c.args.work.now.reader.taken c.args.work.now.reader.last c.args.work.now.pending.items c.args.work.now.number
     s going c.in_err-next_line.ensures.err refl)
 
-pub answer-requires-clause-short : goal.answer-requires-clause-short
-answer-requires-clause-short g c =
+pub answer_line-requires-clause-short : goal.answer_line-requires-clause-short
+answer_line-requires-clause-short g c =
     let next = rw c.in-Line.is at c.in_ok-next_line.ensures.answer in
     rw c.deref.ensures.value
     (law.line_is_short (g.S.Source.left c.args.corpus.now) (g.S.Source.left c.next_line.new.source) (g.S.Source.faults c.args.corpus.now) (g.S.Source.faults c.next_line.new.source)
     c.args.work.now.reader.ready c.args.work.now.reader.taken c.args.work.now.reader.last c.next_line.new.self c.next_line.new.line.items c.requires.going next)
 
-pub returns-in_err-answer-in-Line-clause-turned :
-    goal.returns-in_err-answer-in-Line-clause-turned
-returns-in_err-answer-in-Line-clause-turned g c = λ told left faults before now s.
-    let p = err_from_is_err_and c.from_residual-in_err-answer-in-Line.result c.from_residual-in_err-answer-in-Line.ensures.1 in
+pub returns-in_err-answer_line-in-Line-clause-turned :
+    goal.returns-in_err-answer_line-in-Line-clause-turned
+returns-in_err-answer_line-in-Line-clause-turned g c = λ told left faults before now s.
+    let p = err_from_is_err_and c.from_residual-in_err-answer_line-in-Line.result c.from_residual-in_err-answer_line-in-Line.ensures.1 in
     let next = rw c.in-Line.is at c.in_ok-next_line.ensures.answer in
     rw p.1
-    (by.wanting_by (g.P.Pool.means c.args.pool.now) c.args.work.now.schedule told (g.P.Pool.told c.args.pool.now) (g.P.Pool.told c.answer.new.pool) left (g.S.Source.left c.args.corpus.now) (g.S.Source.left c.next_line.new.source) faults (g.S.Source.faults c.args.corpus.now) (g.S.Source.faults c.next_line.new.source) before now c.args.work.now.reader c.next_line.new.self c.args.work.now.pending.items c.next_line.new.line.items c.args.work.now.number s next
-    (subst (λ (line : List ℕ). AreHandedInPart (g.P.Pool.told c.args.pool.now) (g.P.Pool.told c.answer.new.pool) (map (entry_of (g.P.Pool.means c.args.pool.now) c.args.work.now.schedule) (documents (line ∷ [])))) c.deref.ensures.value c.in_err-answer-in-Line.ensures.handed))
+    (by.wanting_by (g.P.Pool.means c.args.pool.now) c.args.work.now.schedule told (g.P.Pool.told c.args.pool.now) (g.P.Pool.told c.answer_line.new.pool) left (g.S.Source.left c.args.corpus.now) (g.S.Source.left c.next_line.new.source) faults (g.S.Source.faults c.args.corpus.now) (g.S.Source.faults c.next_line.new.source) before now c.args.work.now.reader c.next_line.new.self c.args.work.now.pending.items c.next_line.new.line.items c.args.work.now.number s next
+    (subst (λ (line : List ℕ). AreHandedInPart (g.P.Pool.told c.args.pool.now) (g.P.Pool.told c.answer_line.new.pool) (map (entry_of (g.P.Pool.means c.args.pool.now) c.args.work.now.schedule) (documents (line ∷ [])))) c.deref.ensures.value c.in_err-answer_line-in-Line.ensures.handed))
 
 pub returns-then-branch-clause-turned : goal.returns-then-branch-clause-turned
 returns-then-branch-clause-turned g c = λ told left faults before now s.
     let next = rw c.in-Line.is at c.in_ok-next_line.ensures.answer in
-    let good = ap is_bad_line (sym c.deref.ensures.value) ∙ c.in_ok-answer-in-Line.ensures.good ∙ ap not c.if-branch.true in
+    let good = ap is_bad_line (sym c.deref.ensures.value) ∙ c.in_ok-answer_line-in-Line.ensures.good ∙ ap not c.if-branch.true in
     let piece = line_from (g.P.Pool.means c.args.pool.now) c.args.work.now.schedule in
-    rw c.in_ok-answer-in-Line.ensures.bytes
-    (by.next_line_by (g.P.Pool.means c.args.pool.now) c.args.work.now.schedule told (g.P.Pool.told c.args.pool.now) (g.P.Pool.told c.answer.new.pool) left (g.S.Source.left c.args.corpus.now) (g.S.Source.left c.next_line.new.source) faults (g.S.Source.faults c.args.corpus.now) (g.S.Source.faults c.next_line.new.source) before now c.args.work.now.reader c.next_line.new.self c.args.work.now.pending.items (written_for piece (c.deref.result.now ∷ [])) c.next_line.new.line.items c.args.work.now.number (c.args.work.now.number + 1)
+    rw c.in_ok-answer_line-in-Line.ensures.bytes
+    (by.next_line_by (g.P.Pool.means c.args.pool.now) c.args.work.now.schedule told (g.P.Pool.told c.args.pool.now) (g.P.Pool.told c.answer_line.new.pool) left (g.S.Source.left c.args.corpus.now) (g.S.Source.left c.next_line.new.source) faults (g.S.Source.faults c.args.corpus.now) (g.S.Source.faults c.next_line.new.source) before now c.args.work.now.reader c.next_line.new.self c.args.work.now.pending.items (written_for piece (c.deref.result.now ∷ [])) c.next_line.new.line.items c.args.work.now.number (c.args.work.now.number + 1)
     s next c.taken-taken.ensures.below good (ap (λ (each : List ℕ). written_for piece (each ∷ [])) c.deref.ensures.value) refl
-    (subst (λ (line : List ℕ). g.P.Pool.told c.answer.new.pool ≡ with_entries (g.P.Pool.told c.args.pool.now) (map (entry_of (g.P.Pool.means c.args.pool.now) c.args.work.now.schedule) (documents (line ∷ [])))) c.deref.ensures.value c.in_ok-answer-in-Line.ensures.handed))
+    (subst (λ (line : List ℕ). g.P.Pool.told c.answer_line.new.pool ≡ with_entries (g.P.Pool.told c.args.pool.now) (map (entry_of (g.P.Pool.means c.args.pool.now) c.args.work.now.schedule) (documents (line ∷ [])))) c.deref.ensures.value c.in_ok-answer_line-in-Line.ensures.handed))
 
 pub returns-else-branch-clause-turned : goal.returns-else-branch-clause-turned
 returns-else-branch-clause-turned g c = λ told left faults before now s.
     let next = rw c.in-Line.is at c.in_ok-next_line.ensures.answer in
-    let bad = c.in_ok-answer-in-Line.ensures.good ∙ ap not c.if-branch.false in
+    let bad = c.in_ok-answer_line-in-Line.ensures.good ∙ ap not c.if-branch.false in
     let line = c.next_line.new.line.items in
     let same = ap is_bad_line (sym c.deref.ensures.value) in
     let short = law.line_is_short (g.S.Source.left c.args.corpus.now) (g.S.Source.left c.next_line.new.source) (g.S.Source.faults c.args.corpus.now) (g.S.Source.faults c.next_line.new.source)
     c.args.work.now.reader.ready c.args.work.now.reader.taken c.args.work.now.reader.last c.next_line.new.self c.next_line.new.line.items c.requires.going next in
-    rw (law.pending_for_bad (line_from (g.P.Pool.means c.args.pool.now) c.args.work.now.schedule) c.args.work.now.pending.items c.answer.new.pending.items c.deref.result.now bad c.in_ok-answer-in-Line.ensures.bytes)
-    (by.ended_bad_by (g.P.Pool.means c.args.pool.now) c.args.work.now.schedule told (g.P.Pool.told c.args.pool.now) (g.P.Pool.told c.answer.new.pool) left (g.S.Source.left c.args.corpus.now) (g.S.Source.left c.next_line.new.source) faults (g.S.Source.faults c.args.corpus.now) (g.S.Source.faults c.next_line.new.source) before now c.args.work.now.reader c.next_line.new.self c.args.work.now.pending.items c.next_line.new.line.items c.args.work.now.number (c.args.work.now.number + 1)
+    rw (law.pending_for_bad (line_from (g.P.Pool.means c.args.pool.now) c.args.work.now.schedule) c.args.work.now.pending.items c.answer_line.new.pending.items c.deref.result.now bad c.in_ok-answer_line-in-Line.ensures.bytes)
+    (by.ended_bad_by (g.P.Pool.means c.args.pool.now) c.args.work.now.schedule told (g.P.Pool.told c.args.pool.now) (g.P.Pool.told c.answer_line.new.pool) left (g.S.Source.left c.args.corpus.now) (g.S.Source.left c.next_line.new.source) faults (g.S.Source.faults c.args.corpus.now) (g.S.Source.faults c.next_line.new.source) before now c.args.work.now.reader c.next_line.new.self c.args.work.now.pending.items c.next_line.new.line.items c.args.work.now.number (c.args.work.now.number + 1)
     s next (same ∙ bad) (law.short_is line short) refl
-    (by.unasked_for_bad (g.P.Pool.means c.args.pool.now) c.args.work.now.schedule (g.P.Pool.told c.args.pool.now) (g.P.Pool.told c.answer.new.pool) c.deref.result.now bad c.in_ok-answer-in-Line.ensures.handed))
+    (by.unasked_for_bad (g.P.Pool.means c.args.pool.now) c.args.work.now.schedule (g.P.Pool.told c.args.pool.now) (g.P.Pool.told c.answer_line.new.pool) c.deref.result.now bad c.in_ok-answer_line-in-Line.ensures.handed))
 
 pub returns-in-End-clause-turned : goal.returns-in-End-clause-turned
 returns-in-End-clause-turned g c = λ told left faults before now s.

@@ -7,7 +7,7 @@ use Rattle.aqlx_top.proofs.Turns as law
 use Rattle.aqlx_top.proofs.Windowing as more
 use Rattle.aqlx_top.proofs.windows.run_in_windows.Goals as goal
 
-falls_to : (most before kept now : ℕ) → now ≤ most → now ≡ kept + 1 → kept ≡ before → most - now < most - before
+falls_to : (most before kept now : ℕ) → now ≤ most → kept < now → kept ≡ before → most - now < most - before
 falls_to most before kept now few counts same = omega arith
 
 pub returns-in_err-work-clause-part : goal.returns-in_err-work-clause-part
@@ -23,7 +23,6 @@ lines-init g c =
       fits = b.fits;
       below = rw b.nothing.1 b.fits.some;
       going = rw b.reader tt;
-      read = rw c.new-ahead.ensures.items (λ none. (c.in_ok-work.work.reader.ready, refl));
       unfailed = refl;
     }
 
@@ -39,9 +38,6 @@ turn_in_window-requires-clause-fits g c = λ κs within.
 
 pub turn_in_window-requires-clause-below : goal.turn_in_window-requires-clause-below
 turn_in_window-requires-clause-below g c = λ κs within. rw (c.in-Ok.ensures.same.3, c.in-Ok.ensures.same.2) c.lines.invariant.below
-
-pub turn_in_window-requires-clause-read : goal.turn_in_window-requires-clause-read
-turn_in_window-requires-clause-read g c = λ κs within. rw c.in-Ok.ensures.same.0 c.lines.invariant.read
 
 pub turn_in_window-requires-clause-room : goal.turn_in_window-requires-clause-room
 turn_in_window-requires-clause-room g c =

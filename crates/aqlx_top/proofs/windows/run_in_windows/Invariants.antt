@@ -4,7 +4,6 @@ use Rattle.aqlx_top.specs.Devices.{source_ends}
 use Rattle.aqlx_top.specs.Progress.{Stands, IsGoing}
 use Rattle.aqlx_top.specs.Planned.{line_by}
 use Rattle.aqlx_top.specs.Windows.{meant_by, Fits}
-use Rattle.window_lines.specs.Ahead.{IsAhead}
 use Rattle.aqlx_top.proofs.windows.run_in_windows.Given as goal
 
 abbrev pub invariant-lines : goal.invariant-lines
@@ -15,7 +14,6 @@ invariant-lines g l = record {
   fits : Fits l.fn.plan l.work;
   below : length l.work.window.items < l.work.most;
   going : IsGoing l.work.reader;
-  read : IsAhead l.work.reader l.ahead.items;
   unfailed : g.O.Sink.faults l.out ≡ g.O.Sink.faults l.initial.out;
 }
 

@@ -7,12 +7,6 @@ use Rattle.aqlx_top.proofs.Turns as law
 use Rattle.aqlx_top.proofs.Windowing as more
 use Rattle.aqlx_top.proofs.windows.turn_in_window.Goals as goal
 
-pub returns-in_err-read_before-clause-turned : goal.returns-in_err-read_before-clause-turned
-returns-in_err-read_before-clause-turned g c = λ plan left faults before now own s.
-    let p = err_from_is_err_and c.from_residual.result c.from_residual.ensures.1 in
-    rw p.1
-    (law.part_of (line_by plan) left (g.S.Source.left c.args.corpus.now) faults (g.S.Source.faults c.args.corpus.now) before now c.args.work.now.reader (meant_by (line_by plan) c.args.work.now.pending.items c.args.work.now.window.items) c.args.work.now.number s)
-
 pub returns-in_err-turn-clause-turned : goal.returns-in_err-turn-clause-turned
 returns-in_err-turn-clause-turned g c = λ plan left faults before now own s.
     let p = err_from_is_err_and c.from_residual-in_err-turn.result c.from_residual-in_err-turn.ensures.1 in

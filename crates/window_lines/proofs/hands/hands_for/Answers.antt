@@ -1,6 +1,6 @@
 use Rattle.std.proofs.Common.{rules, ◌≡◌}
 use Rattle.std.proofs.lemmas.List.Elements.{All-push}
-use Rattle.window_lines.proofs.short.hands_for.Goals as goal
+use Rattle.window_lines.proofs.hands.hands_for.Goals as goal
 
 pub loop-preserved : goal.loop-preserved
 loop-preserved c = (

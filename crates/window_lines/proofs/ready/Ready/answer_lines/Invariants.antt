@@ -1,0 +1,15 @@
+use Rattle.std.proofs.Common.{◌≡◌, ◌-◌}
+use Rattle.window_lines.specs.Hands.{IsPart}
+use Rattle.window_lines.specs.Lines.{line_by}
+use Rattle.window_lines.proofs.ready.Ready.answer_lines.Given as goal
+
+abbrev pub invariant-lines : goal.invariant-lines
+invariant-lines l = record {
+  tools : l.hand.tools ≡ l.initial.hand.tools;
+  head : l.hand.head ≡ l.initial.hand.head;
+  parts : l.hand.parts ≡ l.initial.hand.parts;
+  part : IsPart (line_by l.self.schedule.now) l.self.bytes.now l.part;
+}
+
+abbrev pub decreases-lines : goal.decreases-lines
+decreases-lines l = l.until - l.part.to

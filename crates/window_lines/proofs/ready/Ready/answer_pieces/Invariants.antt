@@ -1,0 +1,11 @@
+use Rattle.std.proofs.Common.{◌≡◌}
+use Rattle.window_lines.specs.Hands.{AreParts}
+use Rattle.window_lines.specs.Lines.{line_by}
+use Rattle.window_lines.proofs.ready.Ready.answer_pieces.Given as goal
+
+abbrev pub invariant-pieces : goal.invariant-pieces
+invariant-pieces l = record {
+  tools : l.hand.tools ≡ l.initial.hand.tools;
+  head : l.hand.head ≡ l.initial.hand.head;
+  parts : AreParts (line_by l.self.schedule.now) l.self.bytes.now l.hand.parts.items;
+}

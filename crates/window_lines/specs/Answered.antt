@@ -1,0 +1,34 @@
+-- Lines of the corpus that are answered: read, and written for.
+use Rattle.std.specs.Prelude.{◌≡◌, ℕ, ◌≤◌, false, List, [], ◌∷◌, ◌++◌, length, take, All}
+use Rattle.std.specs.List.{flat_map}
+use Rattle.span_token.specs.Documents.{Doc}
+use Rattle.corpus_json.specs.Documents.{documents, is_bad_line}
+use Rattle.corpus_json.specs.Lines.{joined, HasNoLf}
+use Rattle.window_lines.specs.declared.ready.Answered.{Answered}
+
+-- none of the lines is bad
+abbrev pub AreGood : List (List ℕ) → Type 0
+AreGood lines = All (λ line. is_bad_line line ≡ false) lines
+
+-- what is written for the documents of lines, one piece for each
+abbrev pub answer_to : (Doc → List ℕ) → List (List ℕ) → List ℕ
+answer_to piece lines = flat_map piece (documents lines)
+
+-- the bytes are so many lines, each with its LF and none of them bad, and the text is what is written for them
+pub record AreAnswered (piece : Doc → List ℕ) (bytes : List ℕ) (count : ℕ) (text : List ℕ) : Type 0 where
+  pub lines : List (List ℕ)
+  pub whole : bytes ≡ joined lines
+  pub no_lf : All HasNoLf lines
+  pub good : AreGood lines
+  pub counted : count ≡ length lines
+  pub written : text ≡ answer_to piece lines
+
+-- the first line isn't bad, and what is written for it, and for lines that stand at the beginning of the bytes behind it, is
+-- put behind what was there
+pub record IsAnswered (piece : Doc → List ℕ) (first bytes : List ℕ) (taken : Answered) (before after : List ℕ) : Type 0 where
+  pub good : is_bad_line first ≡ false
+  pub within : taken.bytes ≤ length bytes
+  pub few : taken.lines ≤ taken.bytes
+  pub text : List ℕ
+  pub answered : AreAnswered piece (take taken.bytes bytes) taken.lines text
+  pub put : after ≡ (before ++ answer_to piece (first ∷ [])) ++ text

@@ -1,0 +1,131 @@
+//! What each of several threads keeps of its own.
+
+ghost use Rattle.std.specs.Prelude.{◌≡◌, ◌≤◌, [], IfOk, vec_len};
+ghost use Rattle.window_lines.specs.Hands.{HaveTools};
+
+use crate::answer::Room;
+use algebra::Plan;
+use scalar_ops::{Tables, Tools};
+use span_token::OutOfMemory;
+use std::alloc::Global;
+use std::marker::Model;
+
+/// What each of several threads keeps of its own for a plan, made once and used for all lines of a run.
+///
+/// Contracts see the patterns and dictionaries of the plan.
+#[derive(Drop)]
+pub struct Hands<'p> {
+    pub(crate) tables: &'p Tables,
+    pub(crate) hands: Vec<Hand<'p>>,
+}
+
+impl<'p> Model for Hands<'p> {
+    ghost use Rattle.std.specs.Prelude.{◌<◌, ◌^◌, vec_len};
+    ghost use Rattle.std.specs.Coded.{codes};
+    ghost use Rattle.scalar_ops.specs.Tables.{Lists};
+    ghost use Rattle.window_lines.specs.Hands.{HaveTools};
+
+    ghost Value = { Lists };
+
+    ghost view = { λ hands. hands.tables.now };
+
+    ghost invariant = { λ hands. (0 < vec_len hands.hands) × (vec_len hands.hands < 2 ^ 32) × HaveTools hands.tables.now hands.hands.items };
+}
+
+/// What one thread keeps: its tools, room for a document, and what it answered last.
+#[derive(Drop)]
+pub(crate) struct Hand<'p> {
+    pub tools: Tools<'p>,
+    pub room: Room,
+    /// Whether `head` is what is written for the first line.
+    pub headed: bool,
+    pub head: Vec<u8>,
+    pub parts: Vec<Part>,
+    /// Texts of parts that are used again.
+    pub spare: Vec<Vec<u8>>,
+}
+
+/// What is written for the lines that stand from one place of some bytes to another, and their number.
+#[derive(Drop)]
+pub(crate) struct Part {
+    pub from: usize,
+    pub to: usize,
+    pub count: u64,
+    pub text: Vec<u8>,
+}
+
+impl<'p> Hands<'p> {
+    /// So many threads for a plan. What a thread needs to search is made when it first does.
+    pub fn new(alloc: Global, plan: &'p Plan, threads: u32) -> Result<Hands<'p>, OutOfMemory>
+        requires some { 1 ≤ threads }
+        ensures of_plan { IfOk result (λ hands. hands ≡ plan.now.lists) }
+    {
+        let tables = plan.tables();
+        let hands = hands_for(alloc, tables, threads)?;
+        Ok(Hands { tables, hands })
+    }
+}
+
+/// So many hands with tools for the tables.
+fn hands_for<'p>(
+    alloc: Global,
+    tables: &'p Tables,
+    number: u32,
+) -> Result<Vec<Hand<'p>>, OutOfMemory>
+    ensures long { IfOk result (λ hands. vec_len hands ≡ number) }
+    ensures tools { IfOk result (λ hands. HaveTools tables.now hands.items) }
+{
+    let mut hands = Vec::with_capacity(alloc, number as usize)?;
+    for _ in 0..number {
+        hands.push(hand_for(alloc, tables)?)?;
+    }
+    Ok(hands)
+}
+
+/// A hand with tools for the tables, which answered nothing yet.
+fn hand_for<'p>(alloc: Global, tables: &'p Tables) -> Result<Hand<'p>, OutOfMemory>
+    ensures { IfOk result (λ hand. hand.tools ≡ tables.now) }
+{
+    Ok(Hand {
+        tools: Tools::new(alloc, tables)?,
+        room: Room::new(alloc),
+        headed: false,
+        head: Vec::new(alloc),
+        parts: Vec::new(alloc),
+        spare: Vec::new(alloc),
+    })
+}
+
+impl<'p> Hand<'p> {
+    /// Forgets what was answered, and keeps the room that it took.
+    pub(crate) fn clear(&mut self)
+        ensures tools { self.new.tools ≡ self.old.tools }
+        ensures none { self.new.parts.items ≡ [] }
+    {
+        self.headed = false;
+        self.head.clear();
+        for _ in 0..self.parts.len() {
+            if let Some(part) = self.parts.pop() {
+                // room that can't be kept is made again
+                let _ = self.spare.push(part.text);
+            }
+        }
+        self.parts.clear();
+    }
+
+    /// A text without a byte, with room that was kept where there is some.
+    pub(crate) fn text(&mut self, alloc: Global) -> Vec<u8>
+        ensures empty { result.items ≡ [] }
+        ensures tools { self.new.tools ≡ self.old.tools }
+        ensures head { self.new.head ≡ self.old.head }
+        ensures parts { self.new.parts ≡ self.old.parts }
+    {
+        match self.spare.pop() {
+            Some(mut text) => {
+                text.clear();
+                text
+            }
+            None => Vec::new(alloc),
+        }
+    }
+}
