@@ -17,7 +17,7 @@ returns-in_err-next_line-clause-turned g c = λ told left faults before now s.
     s going c.in_err-next_line.ensures.err refl)
 
 pub answer-requires-clause-short : goal.answer-requires-clause-short
-answer-requires-clause-short g c =
+answer-requires-clause-short g c = λ κs within.
     let next = rw c.in-Line.is at c.in_ok-next_line.ensures.answer in
     rw c.deref.ensures.value
     (law.line_is_short (g.S.Source.left c.args.corpus.now) (g.S.Source.left c.next_line.new.source) (g.S.Source.faults c.args.corpus.now) (g.S.Source.faults c.next_line.new.source)
