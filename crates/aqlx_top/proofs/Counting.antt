@@ -9,7 +9,7 @@ use Rattle.demo_corpus.specs.Totals.{Answer, Tally, total_of, tally_of}
 use Rattle.run_pool.specs.Entries.{Entry, entry_of, with_entries, AreHandedInPart}
 use Rattle.run_pool.specs.Lines.{Meaning}
 use Rattle.run_pool.specs.PoolLaws.{with-none, with-with}
-use Rattle.aqlx_top.specs.Handing.{PoolEnds, pool_ends, IsHandedAll, IsHandedFront}
+use Rattle.aqlx_top.specs.Handing.{pool_ends, IsHandedAll, IsHandedFront}
 use Rattle.aqlx_top.specs.Showings.{IsCounted}
 
 -- there is a total for each output

@@ -1,4 +1,4 @@
-use Rattle.std.proofs.Common.{◌≡◌, ◌+◌, ℕ, List, Option, [], ◌∷◌, map, not, refl, sym, ap, subst, ◌∙◌}
+use Rattle.std.proofs.Common.{◌≡◌, ◌+◌, ℕ, List, [], ◌∷◌, map, not, refl, sym, ap, subst, ◌∙◌}
 use Rattle.corpus_json.specs.Documents.{documents, is_bad_line}
 use Rattle.std.proofs.lemmas.Result.{err_from_is_err_and}
 use Rattle.run_pool.specs.Entries.{entry_of, with_entries, AreHandedInPart}
