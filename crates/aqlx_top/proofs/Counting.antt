@@ -1,5 +1,5 @@
 -- The totals of the first documents, and what was handed over of them.
-use Rattle.std.proofs.Common.{◌≡◌, ◌∙◌, ◌++◌, ◌+◌, ◌<◌, ◌≤◌, ℕ, List, [], ◌∷◌, Option, length, map, drop, sym, ap, zero-add, take-append-drop, arith}
+use Rattle.std.proofs.Common.{◌≡◌, ◌∙◌, ◌++◌, ◌+◌, ◌<◌, ◌≤◌, ℕ, List, [], ◌∷◌, Option, Result, Ok, Err, MatchResult, length, map, drop, sym, ap, zero-add, take-append-drop, arith}
 use Rattle.std.proofs.lemmas.List.{length-map, map-append}
 use Rattle.std.proofs.lemmas.List.FromFn.{length-map-range_with_len, map-range_with_len_more, take-map-range_with_len}
 use Rattle.span_token.specs.Documents.{Doc}
@@ -9,7 +9,7 @@ use Rattle.demo_corpus.specs.Totals.{Answer, Tally, total_of, tally_of}
 use Rattle.run_pool.specs.Entries.{Entry, entry_of, with_entries, AreHandedInPart}
 use Rattle.run_pool.specs.Lines.{Meaning}
 use Rattle.run_pool.specs.PoolLaws.{with-none, with-with}
-use Rattle.aqlx_top.specs.Handing.{PoolEnds, pool_ends, IsHandedAll, IsHandedFront}
+use Rattle.aqlx_top.specs.Handing.{pool_ends, IsHandedAll, IsHandedFront}
 use Rattle.aqlx_top.specs.Showings.{IsCounted}
 
 -- there is a total for each output
@@ -65,3 +65,9 @@ module _ (means : Meaning) (plan : Parts) (first : Option (List Entry)) where
   pub handed_wanting : (count i : ℕ) (told now : Option (List Entry)) → i < count → told ≡ with_entries first (entries i)
       → AreHandedInPart told now (entry_of means plan (generated i) ∷ []) → IsHandedFront (pool_ends means first now) plan (first_documents count)
   handed_wanting count i told now below so_far part = handed_part count i told now part.handed part.others below so_far part.split part.told
+
+  -- all are handed over, whatever comes of it
+  pub handed_end : {T E : Type 0} (count i : ℕ) (told : Option (List Entry)) (r : Result T E) → i ≡ count → told ≡ with_entries first (entries i)
+      → MatchResult r (λ x. IsHandedAll (pool_ends means first told) plan (first_documents count)) (λ e. IsHandedFront (pool_ends means first told) plan (first_documents count))
+  handed_end count i told (Ok x) at_end so_far = so_far ∙ ap (λ (n : ℕ). with_entries first (entries n)) at_end
+  handed_end count i told (Err e) at_end so_far = handed_so_far count i told (omega arith) so_far

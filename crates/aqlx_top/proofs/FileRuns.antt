@@ -1,5 +1,5 @@
 -- From the text of a program file to the file, and to the words that name it.
-use Rattle.std.proofs.Common.{◌≡◌, ℕ, ◌+◌, ◌<◌, List, [], length, take, ap, subst, ◌∙◌, refl, arith, Option, Some, None, Result, Ok, Err, IfSome, IfOk, OnErr, inl, inr, ◌⊎◌}
+use Rattle.std.proofs.Common.{◌≡◌, ℕ, ◌+◌, ◌<◌, List, length, take, ap, subst, ◌∙◌, refl, arith, Option, Some, None, Result, Ok, Err, IfSome, IfOk, OnErr, inl, inr, ◌⊎◌}
 use Rattle.std.proofs.lemmas.List.{take_all, length-take}
 use Rattle.std.proofs.lemmas.Bool.{cases_lt}
 use Rattle.aql_io.specs.Bytes.{Names}

@@ -1,11 +1,12 @@
 -- A run by a pool, turn by turn: what was handed over.
-use Rattle.std.proofs.Common.{◌≡◌, ℕ, ◌+◌, ◌≤◌, Bool, true, false, List, [], ◌∷◌, ◌++◌, length, map, take, drop, ap, ap₂, sym, subst, ◌∙◌, refl, append_assoc, take-append-drop, Option, Some, None, is_some, All}
+use Rattle.std.proofs.Common.{◌≡◌, ℕ, ◌+◌, ◌≤◌, Bool, true, false, List, [], ◌∷◌, ◌++◌, length, map, take, drop, ap, ap₂, sym, subst, ◌∙◌, refl, append_assoc, take-append-drop, Option, Some, None, is_some, Result, Ok, Err, IfOk, OnErr}
 use Rattle.std.proofs.lemmas.List.{append-nil, map-append}
 use Rattle.std.proofs.lemmas.List.Elements.{All-cons, All-nil}
 use Rattle.std.proofs.lemmas.Grind.{flat_map-append}
 use Rattle.std.specs.List.{flat_map}
 use Rattle.std.specs.Io.KnownBytes.{Appends, Consumes}
 use Rattle.span_token.specs.Documents.{Doc}
+use Rattle.span_token.specs.declared.refusal.OutOfMemory.{OutOfMemory}
 use Rattle.algebra.specs.Plans.{Parts}
 use Rattle.corpus_json.specs.Limits.{corpus_limit}
 use Rattle.corpus_json.specs.declared.step.Step.{Step}
@@ -26,7 +27,7 @@ use Rattle.aqlx_top.specs.Endings.{InPart, Came, written_for}
 use Rattle.aqlx_top.specs.Handing.{PoolEnds, pool_ends, IsHandedAll, CameBy, InPartBy}
 use Rattle.aqlx_top.specs.PoolTurns.{StandsBy, FinishedBy, IsRunBy}
 use Rattle.aqlx_top.specs.Progress.{IsReadTo, IsRunTo}
-use Rattle.aqlx_top.specs.Taken.{at_end, failed, at_limit, left_off, is_at_end, HasNoBadLine}
+use Rattle.aqlx_top.specs.Taken.{is_at_end, HasNoBadLine}
 use Rattle.aqlx_top.proofs.Readings.{lines_so_far, line_read, end_read, failed_read, limit_read, long_read}
 use Rattle.aqlx_top.proofs.Sinks.{appends_more, appends_nothing}
 use Rattle.aqlx_top.proofs.Turns.{begins, came_of, consumes_more, cut_pending, ended_bad, ended_done, ended_failed, ended_limit, ended_long, finished_in_part, next_line_good, part_at, part_of_taken, sent_whole}
@@ -383,13 +384,22 @@ module _ (means : Meaning) (before after : Option (List Entry)) (plan : Parts) (
         within = part.prefix;
       }
 
-  pub part_plain : (held_before held_now : Option (List ℕ)) → InPart (line_by plan) corpus held_before held_now → InPartBy (pool_ends means before after) plan corpus held_before held_now
+  part_plain : (held_before held_now : Option (List ℕ)) → InPart (line_by plan) corpus held_before held_now → InPartBy (pool_ends means before after) plan corpus held_before held_now
   part_plain held_before held_now part = part_meant held_before held_now (subst (λ (m : Meaning). InPart (line_from m plan) corpus held_before held_now) (sym found) part)
 
-  pub run_plain : (out : SinkEnds) (status : Status) → IsRunTo (line_by plan) corpus out status → IsRunBy (pool_ends means before after) plan corpus out status
+  run_plain : (out : SinkEnds) (status : Status) → IsRunTo (line_by plan) corpus out status → IsRunBy (pool_ends means before after) plan corpus out status
   run_plain out WriteFault run = (run.0, part_plain out.held_before out.held_after run.1)
   run_plain out Done run = came_plain out Done run
   run_plain out ReadFault run = came_plain out ReadFault run
   run_plain out Usage run = came_plain out Usage run
   run_plain out (Program fault) run = came_plain out (Program fault) run
   run_plain out (Corpus fault) run = came_plain out (Corpus fault) run
+
+  pub ran_plain : (out : SinkEnds) (r : Result Status OutOfMemory) → IfOk r (IsRunTo (line_by plan) corpus out) → IfOk r (IsRunBy (pool_ends means before after) plan corpus out)
+  ran_plain out (Ok status) ran = run_plain out status ran
+  ran_plain out (Err e) ran = tt
+
+  pub unended_plain : (held_before held_now : Option (List ℕ)) (r : Result Status OutOfMemory) → OnErr r (InPart (line_by plan) corpus held_before held_now)
+      → OnErr r (InPartBy (pool_ends means before after) plan corpus held_before held_now)
+  unended_plain held_before held_now (Ok status) part = tt
+  unended_plain held_before held_now (Err e) part = part_plain held_before held_now part

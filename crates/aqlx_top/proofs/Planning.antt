@@ -1,18 +1,12 @@
 -- A plan that was made of a program gives the lines that the program means.
 use Rattle.std.proofs.Common.{◌≡◌, ◌++◌, ◌+◌, ℕ, zero, suc, List, [], ◌∷◌, length, map, refl, sym, ap, ap₂, ◌∙◌, length-append}
-use Rattle.std.specs.List.{AllZip, zip, range_with_len}
+use Rattle.std.specs.List.{AllZip, range_with_len}
 use Rattle.std.proofs.lemmas.List.{length-map}
 use Rattle.std.proofs.lemmas.List.Sums.{sum_by-cons, sum_by_push}
-use Rattle.aql_base.specs.Bags.{SameBag}
 use Rattle.aql_base.specs.CountLaws.{length-SameBag}
 use Rattle.span_token.specs.Documents.{Doc}
-use Rattle.row_values.specs.Datums.{Datum}
 use Rattle.row_values.specs.Outputs.{OutputNames}
-use Rattle.row_values.specs.SortedRows.{sorted-SameBag}
-use Rattle.corpus_json.specs.Outputs.{array_of, object_of, row_data, rows_data, views_data, label_pair, line_data, output_line}
-use Rattle.serde_json.specs.Data.{Data}
-use Rattle.serde_json.specs.Written.{compact_text}
-use Rattle.std.specs.Prelude.{codes}
+use Rattle.corpus_json.specs.Outputs.{output_line}
 use Rattle.aql_typed.specs.declared.tree.Output.{Output}
 use Rattle.aql_typed.specs.Meaning.{output_rows}
 use Rattle.aql_typed.specs.Programs.{names_of}

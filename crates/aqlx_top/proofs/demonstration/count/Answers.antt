@@ -4,7 +4,6 @@ use Rattle.std.proofs.lemmas.Simd.{map-map}
 use Rattle.row_values.specs.Rows.{RowList}
 use Rattle.row_values.specs.Outputs.{OutputNames}
 use Rattle.algebra.specs.declared.output.PlanOut.{PlanOut}
-use Rattle.corpus_json.specs.Outputs.{rows_of}
 use Rattle.demo_corpus.specs.Totals.{Answer, answer_of, tally_of}
 use Rattle.run_pool.specs.Lines.{names_in}
 use Rattle.aqlx_top.proofs.Planning.{tally_alike}

@@ -7,7 +7,7 @@ use Rattle.window_lines.specs.ShownLaws.{list_of, shown_answer}
 use Rattle.aqlx_top.proofs.demonstration.count_shown.Goals as goal
 
 pub count_answered-requires-clause-found : goal.count_answered-requires-clause-found
-count_answered-requires-clause-found g c =
+count_answered-requires-clause-found g c = λ κs within.
     subst (IsAnswer rows_by c.args.plan.now c.args.document.now)
     (sym (ap (map (λ list. list.now)) c.as_slice.ensures.value ∙ c.in_ok-shown.ensures ∙ ap (map (list_of c.args.board.now)) c.outputs.ensures.outputs))
     (shown_answer c.args.plan.now c.args.document.now c.args.board.now c.requires.shown c.outputs.ensures.valid.each)

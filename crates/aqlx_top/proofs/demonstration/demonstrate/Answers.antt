@@ -1,4 +1,4 @@
-use Rattle.std.proofs.Common.{◌∙◌, inl, refl}
+use Rattle.std.proofs.Common.{◌∙◌}
 use Rattle.std.proofs.lemmas.Result.{err_from_is_err_and}
 use Rattle.aqlx_top.specs.Devices.{sink_ends}
 use Rattle.aqlx_top.specs.Handing.{pool_ends}

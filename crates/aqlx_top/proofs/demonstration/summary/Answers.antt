@@ -1,4 +1,4 @@
-use Rattle.std.proofs.Common.{◌≡◌, ◌∙◌, ◌∷◌, [], ◌<◌, ◌≤◌, length, map, sym, ap, subst, arith, refl}
+use Rattle.std.proofs.Common.{◌≡◌, ◌∙◌, ◌∷◌, [], length, map, sym, ap, subst, arith}
 use Rattle.std.proofs.lemmas.List.{length-map}
 use Rattle.std.proofs.lemmas.Result.{err_from_is_err_and}
 use Rattle.algebra.specs.Plans.{Parts}
@@ -12,13 +12,13 @@ use Rattle.aqlx_top.proofs.Counting as law
 use Rattle.aqlx_top.proofs.demonstration.summary.Goals as goal
 
 pub count_document-requires-clause-one_of_each : goal.count_document-requires-clause-one_of_each
-count_document-requires-clause-one_of_each g c =
+count_document-requires-clause-one_of_each g c = λ κs within.
     let plan : Parts = c.args.plan.now in
     ap (λ (tally : Tally). length tally.totals) c.documents.invariant.counted ∙ law.as_many (length plan.outputs) (map ((g.P.Pool.means c.args.pool.now) plan) (first_documents c.documents.i))
     ∙ ap (λ (p : Parts). length p.outputs) (sym c.in_ok-schedule.ensures)
 
 pub count_document-requires-clause-room : goal.count_document-requires-clause-room
-count_document-requires-clause-room g c =
+count_document-requires-clause-room g c = λ κs within.
     let plan : Parts = c.args.plan.now in
     let so_many : c.documents.totals.documents ≡ c.documents.i =
     ap (λ (tally : Tally). tally.documents) c.documents.invariant.counted ∙ law.documents_counted (length plan.outputs) ((g.P.Pool.means c.args.pool.now) plan) c.documents.i in
@@ -45,7 +45,7 @@ pub summary-requires : goal.summary-requires
 summary-requires g c =
     let plan : Parts = c.args.plan.now in
     record {
-      one_of_each = ap length (c.deref.ensures.value ∙ c.in_ok-outputs.ensures) ∙ length-map plan.outputs (λ (out : PlanOut). out.names)
+      one_of_each = ap length (c.deref-2.ensures.value ∙ c.in_ok-outputs.ensures) ∙ length-map plan.outputs (λ (out : PlanOut). out.names)
           ∙ sym (ap (λ (tally : Tally). length tally.totals) c.documents.invariant.counted ∙ law.as_many (length plan.outputs) (map ((g.P.Pool.means c.args.pool.now) plan) (first_documents c.documents.i)));
     }
 
@@ -83,3 +83,8 @@ pub returns-in_err-totals-clause-handed : goal.returns-in_err-totals-clause-hand
 returns-in_err-totals-clause-handed g c =
     let p = err_from_is_err_and c.from_residual-in_err-totals.result c.from_residual-in_err-totals.ensures.1 in
     rw p.1 (law.handed_none (g.P.Pool.means c.args.pool.now) c.args.plan.now (g.P.Pool.told c.args.pool.now) c.args.count)
+
+pub returns-clause-handed : goal.returns-clause-handed
+returns-clause-handed g c =
+    let at_end : c.documents.i ≡ c.args.count = omega (arith, c.documents-test.false) in
+    law.handed_end (g.P.Pool.means c.args.pool.now) c.args.plan.now (g.P.Pool.told c.args.pool.now) c.args.count c.documents.i (g.P.Pool.told c.documents.pool) c.summary.result at_end c.documents.invariant.handed

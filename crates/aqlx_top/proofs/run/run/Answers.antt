@@ -35,7 +35,7 @@ returns-in-Err-clause-ran g c = (
 )
 
 pub take_turn-requires-clause-room : goal.take_turn-requires-clause-room
-take_turn-requires-clause-room g c =
+take_turn-requires-clause-room g c = λ κs within.
     let sent = c.in-Ok.ensures.sent (pool_ends (g.P.Pool.means c.args.pool.now) (g.P.Pool.told c.args.pool.now) (g.P.Pool.told c.lines.pool)) c.args.plan.now (g.S.Source.left c.args.corpus.now) (g.S.Source.left c.lines.corpus) (g.S.Source.faults c.args.corpus.now) (g.S.Source.faults c.lines.corpus) (g.O.Sink.held c.args.out.now) c.lines.invariant.stands in
     let few = law.number_within (line_from (g.P.Pool.means c.args.pool.now) c.args.plan.now) (g.S.Source.left c.args.corpus.now) (g.S.Source.left c.lines.corpus) (g.S.Source.faults c.args.corpus.now) (g.S.Source.faults c.lines.corpus) (g.O.Sink.held c.args.out.now) (g.O.Sink.held c.send_in_time.new.out) c.send_in_time.new.work.reader c.send_in_time.new.work.pending.items c.send_in_time.new.work.number sent.stands in
     omega arith

@@ -1,4 +1,4 @@
-use Rattle.std.proofs.Common.{◌≡◌, ◌+◌, ℕ, List, Option, [], ◌∷◌, map, not, refl, sym, ap, subst, ◌∙◌}
+use Rattle.std.proofs.Common.{◌≡◌, ◌+◌, ℕ, List, [], ◌∷◌, map, not, refl, sym, ap, subst, ◌∙◌}
 use Rattle.corpus_json.specs.Documents.{documents, is_bad_line}
 use Rattle.std.proofs.lemmas.Result.{err_from_is_err_and}
 use Rattle.run_pool.specs.Entries.{entry_of, with_entries, AreHandedInPart}
@@ -17,7 +17,7 @@ returns-in_err-next_line-clause-turned g c = λ told left faults before now s.
     s going c.in_err-next_line.ensures.err refl)
 
 pub answer_line-requires-clause-short : goal.answer_line-requires-clause-short
-answer_line-requires-clause-short g c =
+answer_line-requires-clause-short g c = λ κs within.
     let next = rw c.in-Line.is at c.in_ok-next_line.ensures.answer in
     rw c.deref.ensures.value
     (law.line_is_short (g.S.Source.left c.args.corpus.now) (g.S.Source.left c.next_line.new.source) (g.S.Source.faults c.args.corpus.now) (g.S.Source.faults c.next_line.new.source)

@@ -3,7 +3,7 @@ use Rattle.aqlx_top.specs.Devices.{files_ends, source_ends, sink_ends}
 use Rattle.aqlx_top.specs.Handing.{pool_ends}
 use Rattle.aqlx_top.specs.Orders.{order_told}
 use Rattle.aqlx_top.specs.Words.{to_check, to_plan}
-use Rattle.aqlx_top.proofs.FileRuns.{run_cause}
+use Rattle.aqlx_top.proofs.FileRuns.{run_cause, run_front}
 use Rattle.aqlx_top.proofs.Following as law
 use Rattle.aqlx_top.proofs.top.follow.Goals as goal
 
@@ -11,6 +11,11 @@ pub returns-in-Run-clause-cause : goal.returns-in-Run-clause-cause
 returns-in-Run-clause-cause g c =
     rw c.in-Run.is
     (run_cause c.in-Run.name.now (files_ends (g.F.Files.told c.args.files.now) (g.F.Files.faults c.args.files.now) (g.F.Files.faults c.run_file.new.files)) (pool_ends (g.P.Pool.means c.args.pool.now) (g.P.Pool.told c.args.pool.now) (g.P.Pool.told c.run_file.new.pool)) (source_ends (g.S.Source.left c.args.corpus.now) (g.S.Source.left c.run_file.new.corpus) (g.S.Source.faults c.args.corpus.now) (g.S.Source.faults c.run_file.new.corpus)) (sink_ends (g.O.Sink.held c.args.out.now) (g.O.Sink.held c.run_file.new.out) (g.O.Sink.flushed c.args.out.now) (g.O.Sink.flushed c.run_file.new.out) (g.O.Sink.faults c.args.out.now) (g.O.Sink.faults c.run_file.new.out)) c.run_file.result c.run_file.ensures.ran)
+
+pub returns-in-Run-clause-front : goal.returns-in-Run-clause-front
+returns-in-Run-clause-front g c =
+    rw c.in-Run.is
+    (run_front c.in-Run.name.now (files_ends (g.F.Files.told c.args.files.now) (g.F.Files.faults c.args.files.now) (g.F.Files.faults c.run_file.new.files)) (pool_ends (g.P.Pool.means c.args.pool.now) (g.P.Pool.told c.args.pool.now) (g.P.Pool.told c.run_file.new.pool)) (source_ends (g.S.Source.left c.args.corpus.now) (g.S.Source.left c.run_file.new.corpus) (g.S.Source.faults c.args.corpus.now) (g.S.Source.faults c.run_file.new.corpus)) (sink_ends (g.O.Sink.held c.args.out.now) (g.O.Sink.held c.run_file.new.out) (g.O.Sink.flushed c.args.out.now) (g.O.Sink.flushed c.run_file.new.out) (g.O.Sink.faults c.args.out.now) (g.O.Sink.faults c.run_file.new.out)) c.run_file.result c.run_file.ensures.part)
 
 pub returns-in-Run-clause-unread : goal.returns-in-Run-clause-unread
 returns-in-Run-clause-unread g c = λ none. absurd (none c.in-Run.name.now (ap order_told c.in-Run.is))
