@@ -144,7 +144,8 @@ line_kind left_now left_next faults_now faults_next ready taken (Some last) now 
 
 module _ (piece : Doc → List ℕ) (left_before left_now left_next : Option (List ℕ)) (faults_before faults_now faults_next : ℕ) (before now : Option (List ℕ))
     (reading : Reading) (pending : List ℕ) (window : List Input) (number : ℕ) (mid after : Windowed) where
-  corpus : SourceEnds
+  -- the corpus from the beginning of the run to behind the line
+  abbrev pub corpus : SourceEnds
   corpus = source_ends left_before left_next faults_before faults_next
 
   module _ (s : Stands piece (source_ends left_before left_now faults_before faults_now) before now reading (meant_by piece pending window) number)

@@ -65,7 +65,6 @@ lines-preserved g c =
       fits = c.in_ok-turn_in_window.ensures.fits c.args.plan.now fits;
       below = c.in_ok-turn_in_window.ensures.below c.in-Next.is;
       going = c.in_ok-turn_in_window.ensures.going c.in-Next.is;
-      read = c.in_ok-turn_in_window.ensures.read;
       unfailed = c.in-Ok.ensures.stands ∙ c.lines.invariant.unfailed;
     }
 

@@ -17,10 +17,10 @@ returns-in_err-next_line-clause-turned g c = λ plan left faults before now own 
     s going c.in_err-next_line.ensures.err)
 
 pub take_given-requires-clause-line : goal.take_given-requires-clause-line
-take_given-requires-clause-line g c =
+take_given-requires-clause-line g c = λ κs within.
     let next = rw c.in-Line.is at c.in_ok-next_line.ensures.answer in
-    (law.line_is_short (g.S.Source.left c.args.corpus.now) (g.S.Source.left c.next_line.new.source) (g.S.Source.faults c.args.corpus.now) (g.S.Source.faults c.next_line.new.source)
-    c.args.work.now.reader.ready c.args.work.now.reader.taken c.args.work.now.reader.last c.next_line.new.self c.next_line.new.line.items c.requires.going next)
+    law.line_is_short (g.S.Source.left c.args.corpus.now) (g.S.Source.left c.next_line.new.source) (g.S.Source.faults c.args.corpus.now) (g.S.Source.faults c.next_line.new.source)
+    c.args.work.now.reader.ready c.args.work.now.reader.taken c.args.work.now.reader.last c.next_line.new.self c.next_line.new.line.items c.requires.going next
 
 pub returns-in-End-clause-turned : goal.returns-in-End-clause-turned
 returns-in-End-clause-turned g c = λ plan left faults before now own s.
@@ -41,3 +41,20 @@ pub returns-in-Limit-clause-turned : goal.returns-in-Limit-clause-turned
 returns-in-Limit-clause-turned g c = λ plan left faults before now own s.
     let piece = line_by plan in
     law.ended_limit piece left (g.S.Source.left c.args.corpus.now) (g.S.Source.left c.next_line.new.source) faults (g.S.Source.faults c.args.corpus.now) (g.S.Source.faults c.next_line.new.source) before now c.args.work.now.reader c.next_line.new.self (meant_by piece c.args.work.now.pending.items c.args.work.now.window.items) c.next_line.new.line.items c.args.work.now.number s (rw c.in-Limit.is at c.in_ok-next_line.ensures.answer)
+
+pub returns-in-Line-clause-turned : goal.returns-in-Line-clause-turned
+returns-in-Line-clause-turned g c = λ plan left faults before now own s.
+    let next = rw c.in-Line.is at c.in_ok-next_line.ensures.answer in
+    more.given_result (line_by plan) left (g.S.Source.left c.args.corpus.now) (g.S.Source.left c.next_line.new.source) faults (g.S.Source.faults c.args.corpus.now) (g.S.Source.faults c.next_line.new.source) before now
+    c.args.work.now.reader c.args.work.now.pending.items c.args.work.now.window.items c.args.work.now.number _ c.take_given.new.work s c.requires.going next c.taken-taken.ensures.below refl refl refl c.take_given.result (rw own at c.take_given.ensures.given)
+
+pub returns-in-Line-clause-counts : goal.returns-in-Line-clause-counts
+returns-in-Line-clause-counts g c =
+    more.rises_result (line_by c.args.work.now.plan.now) _ c.take_given.new.work c.take_given.result c.args.work.now.number c.take_given.ensures.given refl
+
+pub returns-in-Line-clause-going : goal.returns-in-Line-clause-going
+returns-in-Line-clause-going g c =
+    let next = rw c.in-Line.is at c.in_ok-next_line.ensures.answer in
+    more.going_result (line_by c.args.work.now.plan.now) _ c.take_given.new.work c.take_given.result c.take_given.ensures.given
+    (law.goes_on (g.S.Source.left c.args.corpus.now) (g.S.Source.left c.next_line.new.source) (g.S.Source.faults c.args.corpus.now) (g.S.Source.faults c.next_line.new.source)
+    c.args.work.now.reader.ready c.args.work.now.reader.taken c.args.work.now.reader.last c.next_line.new.self c.next_line.new.line.items c.requires.going next)
