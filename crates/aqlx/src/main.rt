@@ -6,6 +6,7 @@
 
 use aql_io::{RealFiles, RealSink, RealSource};
 use aqlx_top::aqlx;
+use run_pool::Workers;
 use span_token::OutOfMemory;
 use std::alloc::Global;
 use std::env;
@@ -48,6 +49,7 @@ fn main(rt: HostRuntime) -> ExitCode {
         &mut corpus,
         &mut out,
         &mut err,
+        &mut Workers,
     ) {
         Ok(status) => ExitCode::from(status.code()),
         Err(OutOfMemory) => ExitCode::from(OUT_OF_MEMORY),

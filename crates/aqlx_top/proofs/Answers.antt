@@ -9,7 +9,7 @@ use Rattle.aql_io.specs.Bytes.{Names}
 use Rattle.span_token.specs.Documents.{Doc}
 use Rattle.span_token.specs.declared.refusal.OutOfMemory.{OutOfMemory}
 use Rattle.corpus_json.specs.Limits.{line_limit, corpus_limit}
-use Rattle.corpus_json.specs.Documents.{is_bad_line}
+use Rattle.corpus_json.specs.Documents.{documents, is_bad_line}
 use Rattle.corpus_json.specs.Lines.{is_too_long, lines_of, last_line, joined, cut, HasNoLf, BeginsTooLong}
 use Rattle.corpus_json.specs.LineLaws.{joined-cut, cut-no_lf, lines_of-joined, lines_of-too_long}
 use Rattle.aqlx_top.specs.declared.status.Status.{Status}
@@ -19,9 +19,10 @@ use Rattle.aqlx_top.specs.declared.status.CorpusFault.{CorpusFault}
 use Rattle.aqlx_top.specs.declared.status.CorpusFault.TheVariants.{BadLine, LineLong, CorpusLarge}
 use Rattle.aqlx_top.specs.Devices.{SourceEnds, SinkEnds, FilesFailed, SinkFailed, SinkNeverFailed, Gained, GainedFront, IsUntouched, IsUnread}
 use Rattle.aqlx_top.specs.Endings.{InPart, Came, written_for}
-use Rattle.aqlx_top.specs.Outcome.{Call, IsReadAs, IsCalledFor, IsCalledWith, IsMeant, RanTo, Wrote, WroteFront, HasCauseOf, IsAnswered, CanBeDone, IsOfDocuments, HasNoFault, NoneFailed, IsRefusedOrWanting, IsDoneOrWanting, Outcome}
+use Rattle.aqlx_top.specs.Outcome.{Call, IsReadAs, IsCalledFor, IsCalledWith, IsIdle, IsMeant, RanTo, Wrote, WroteFront, HasCauseOf, IsAnswered, CanBeDone, IsOfDocuments, HasNoFault, NoneFailed, IsRefusedOrWanting, IsDoneOrWanting, Outcome}
 use Rattle.aqlx_top.specs.ProgramFaults.{HasFault, IsFaultless, AreOneFault}
-use Rattle.aqlx_top.specs.Run.{Program, line_of}
+use Rattle.run_pool.specs.Lines.{line_from}
+use Rattle.aqlx_top.specs.Run.{Program}
 use Rattle.aqlx_top.specs.Stages.{IsToldAs}
 use Rattle.aqlx_top.specs.Statuses.{HasLine}
 use Rattle.aqlx_top.specs.Taken.{How, at_end, failed, at_limit, left_off, is_at_end, HasNoBadLine, IsFirstBad}
@@ -32,8 +33,12 @@ use Rattle.aqlx_top.proofs.Sinks.{appends_nothing}
 pub gained_nothing : (sink : SinkEnds) → IsUntouched sink → Gained sink []
 gained_nothing sink untouched = subst (λ (held : Option (List ℕ)). Appends sink.held_before held []) (sym untouched.held) (appends_nothing sink.held_before)
 
+-- where nothing was done, nothing is written and handed over
+idle_front : (call : Call) → IsIdle call.pool call.corpus call.out → WroteFront call
+idle_front call idle = inl (record { gained = gained_nothing call.out idle.untouched; handed = inl idle.unasked })
+
 -- what came to its end is also a part
-part_of_came : (piece : Doc → List ℕ) (corpus : SourceEnds) (out : SinkEnds) (status : Status) → Came piece corpus out status → InPart piece corpus out.held_before out.held_after
+unfoldable part_of_came : (piece : Doc → List ℕ) (corpus : SourceEnds) (out : SinkEnds) (status : Status) → Came piece corpus out status → InPart piece corpus out.held_before out.held_after
 part_of_came piece corpus out status came =
     record {
       given = came.given;
@@ -46,22 +51,39 @@ part_of_came piece corpus out status came =
     }
 
 front_of_run : (call : Call) (status : Status) → RanTo call status → WroteFront call
+unfolding part_of_came
 front_of_run call status run =
-    inr (inl (record { program = run.program; called = run.called; ran = part_of_came (line_of run.program) call.corpus call.out status run.ran }))
+    let ran = run.ran in
+    let docs = documents (lines_of (is_at_end ran.run.came.how) ran.run.came.given) in
+    let piece = line_from call.pool.means ran.plan in
+    inr (inl (record {
+      program = run.program;
+      called = run.called;
+      ran = record {
+        plan = ran.plan;
+        with_plan = ran.with_plan;
+        run = record {
+          part = part_of_came piece call.corpus call.out status ran.run.came;
+          handed = record { front = docs; behind = []; split = sym (append-nil docs); handed = ran.run.handed };
+          rest = [];
+          within = append-nil (written_for piece (lines_of (is_at_end ran.run.came.how) ran.run.came.given));
+        };
+      };
+    }))
 
 front_of_wrote : (call : Call) → Wrote call → WroteFront call
 front_of_wrote call wrote =
     let all : GainedFront call.out wrote.bytes =
     (length wrote.bytes, subst (λ (bytes : List ℕ). Gained call.out bytes) (sym (take_all (length wrote.bytes) wrote.bytes (omega arith))) wrote.sent.gained) in
-    inr (inr (record { order = wrote.order; words = wrote.words; bytes = wrote.bytes; meant = wrote.meant; unread = wrote.unread; front = all }))
+    inr (inr (record { order = wrote.order; words = wrote.words; bytes = wrote.bytes; meant = wrote.meant; asked = wrote.asked; unread = wrote.unread; front = all }))
 
 -- whatever the cause of a status is, a prefix is written
 pub front_of_cause : (call : Call) (status : Status) → HasCauseOf call status → WroteFront call
 front_of_cause call Done cause = elim cause [ inl run ↦ front_of_run call Done run | inr wrote ↦ front_of_wrote call wrote ]
-front_of_cause call (Refused fault) cause = inl (gained_nothing call.out cause.idle.untouched)
-front_of_cause call Usage cause = inl (gained_nothing call.out cause.idle.untouched)
+front_of_cause call (Refused fault) cause = idle_front call cause.idle
+front_of_cause call Usage cause = idle_front call cause.idle
 front_of_cause call (Corpus fault) cause = front_of_run call (Corpus fault) cause
-front_of_cause call ReadFault cause = elim cause [ inl stopped ↦ inl (gained_nothing call.out stopped.1.idle.untouched) | inr run ↦ front_of_run call ReadFault run ]
+front_of_cause call ReadFault cause = elim cause [ inl stopped ↦ idle_front call stopped.1.idle | inr run ↦ front_of_run call ReadFault run ]
 front_of_cause call WriteFault cause = inr cause.1
 
 -- where a status is told as itself, it has its cause and its line
@@ -94,7 +116,7 @@ front_of call err (Err e) a = a.0
 -- where a run came to a status other than a failed read, no call failed
 quiet_run : (call : Call) (err : SinkEnds) (status : Status) → status ≢ ReadFault → RanTo call status → SinkNeverFailed err → NoneFailed call err
 quiet_run call err status not_read run line =
-    record { files = run.called.file.unfailed; corpus = run.ran.read not_read; out = run.ran.wrote.unfailed; line = line }
+    record { files = run.called.file.unfailed; corpus = run.ran.run.came.read not_read; out = run.ran.run.came.wrote.unfailed; line = line }
 
 -- a status other than a failed read or write says that no call failed
 pub told_of : (call : Call) (err : SinkEnds) (result : Result Status OutOfMemory) → IsAnswered call err result
@@ -122,7 +144,7 @@ read_of call err (Ok (Refused fault)) a is = absurd (cc)
 read_of call err (Ok Usage) a is = absurd (cc)
 read_of call err (Ok (Corpus fault)) a is = absurd (cc)
 read_of call err (Ok ReadFault) a is =
-    elim a.0 [ inl stopped ↦ (stopped.1.idle.untouched.faults, a.1.unfailed) | inr run ↦ (run.ran.wrote.unfailed, a.1.unfailed) ]
+    elim a.0 [ inl stopped ↦ (stopped.1.idle.untouched.faults, a.1.unfailed) | inr run ↦ (run.ran.run.came.wrote.unfailed, a.1.unfailed) ]
 read_of call err (Ok WriteFault) a is = absurd (cc)
 read_of call err (Err e) a is = absurd (cc)
 
@@ -288,7 +310,7 @@ run_has_no_fault call text program called with_text =
     subst IsFaultless (same_text call text called.text called.name with_text (run_names call.words called.name called.words) called.file) called.holds.faultless
 
 -- nor is one for which something is written without a corpus
-written_has_no_fault : (call : Call) (text : List ℕ) (order : Order) (bytes : List ℕ) → IsOrder call.words order → IsMeant call.files order bytes → IsCalledWith call text → IsFaultless text
+written_has_no_fault : (call : Call) (text : List ℕ) (order : Order) (bytes : List ℕ) → IsOrder call.words order → IsMeant call.files call.pool order bytes → IsCalledWith call text → IsFaultless text
 written_has_no_fault call text (to_run name) bytes asked meant with_text = absurd meant
 written_has_no_fault call text (to_check name) bytes asked meant with_text =
     let file : IsFileOrder call.words name = record { order = to_check name; asked = asked; named = refl } in
@@ -372,11 +394,11 @@ complete_of call err (Ok Usage) a order asked can no_fault = absurd (no_order ca
 complete_of call err (Ok (Corpus fault)) a order asked can no_fault =
     let name = a.0.called.name in
     let run : CanBeDone call (to_run name) = subst (CanBeDone call) (one_order call.words order (to_run name) asked a.0.called.words) can in
-    absurd (no_corpus_fault (line_of a.0.program) call.corpus call.out fault a.0.ran run.1)
+    absurd (no_corpus_fault (line_from call.pool.means a.0.ran.plan) call.corpus call.out fault a.0.ran.run.came run.1)
 complete_of call err (Ok ReadFault) a order asked can no_fault =
     elim a.0 [
       | inl stopped ↦ absurd (no_fault.files stopped.0)
-      | inr run ↦ absurd (no_fault.corpus (run.ran.taken.broken run.ran.status_is.0).0)
+      | inr run ↦ absurd (no_fault.corpus (run.ran.run.came.taken.broken run.ran.run.came.status_is.0).0)
     ]
 complete_of call err (Ok WriteFault) a order asked can no_fault =
     elim a [ inl itself ↦ absurd (no_fault.out itself.0.0) | inr line ↦ absurd (no_fault.line line.failed) ]

@@ -1,10 +1,8 @@
 -- From the text of a program file to the file, and to the words that name it.
-use Rattle.std.specs.List.{flat_map}
-use Rattle.std.proofs.Common.{◌≡◌, ℕ, ◌+◌, ◌<◌, List, [], ◌∷◌, ◌++◌, length, take, ap, ap₂, subst, ◌∙◌, refl, arith, Option, Some, None, Result, Ok, Err, IfSome, IfOk, OnErr, inl, inr, ◌⊎◌}
+use Rattle.std.proofs.Common.{◌≡◌, ℕ, ◌+◌, ◌<◌, List, length, take, ap, subst, ◌∙◌, refl, arith, Option, Some, None, Result, Ok, Err, IfSome, IfOk, OnErr, inl, inr, ◌⊎◌}
 use Rattle.std.proofs.lemmas.List.{take_all, length-take}
 use Rattle.std.proofs.lemmas.Bool.{cases_lt}
 use Rattle.aql_io.specs.Bytes.{Names}
-use Rattle.span_token.specs.Documents.{Doc}
 use Rattle.span_token.specs.declared.refusal.OutOfMemory.{OutOfMemory}
 use Rattle.aqlx_top.specs.Limits.{program_limit}
 use Rattle.aqlx_top.specs.declared.status.Status.{Status}
@@ -14,72 +12,63 @@ use Rattle.aqlx_top.specs.declared.status.ProgramFault.TheVariants.{Large}
 use Rattle.aqlx_top.specs.declared.status.What.TheVariants.{Bytes}
 use Rattle.aqlx_top.specs.declared.modes.Shown.{Shown}
 use Rattle.aqlx_top.specs.declared.modes.Shown.TheVariants.{Check, Plan}
-use Rattle.aqlx_top.specs.Devices.{FilesEnds, SourceEnds, SinkEnds, FilesNeverFailed, HasSent}
-use Rattle.corpus_json.specs.Documents.{documents}
-use Rattle.corpus_json.specs.Lines.{lines_of}
-use Rattle.aqlx_top.specs.Endings.{written_for, Came, InPart}
-use Rattle.aqlx_top.specs.Taken.{is_at_end}
+use Rattle.aqlx_top.specs.Devices.{FilesEnds, SourceEnds, SinkEnds, FilesNeverFailed}
+use Rattle.algebra.specs.Nodes.{IsPlan}
+use Rattle.algebra.specs.Plans.{Parts, AreOutputs}
+use Rattle.run_pool.specs.Lines.{Meaning}
+use Rattle.run_pool.specs.PoolLaws.{sound_line}
+use Rattle.aqlx_top.specs.Handing.{PoolEnds, InPartBy}
+use Rattle.aqlx_top.specs.PoolRuns.{IsRunWith}
+use Rattle.aqlx_top.specs.PoolTurns.{IsRunBy}
+use Rattle.aqlx_top.specs.Plans.{IsPlanOf}
 use Rattle.aqlx_top.specs.Outcome.{IsReadAs, IsCalledFor, WroteFront, HasCauseOf, call_of}
 use Rattle.aqlx_top.specs.ProgramFaults.{HasOnlyFault, AreOneFault, HoldsProgram}
 use Rattle.aqlx_top.specs.ProgramFile.{IsFrontOf}
-use Rattle.aqlx_top.specs.Progress.{IsRunTo}
 use Rattle.aqlx_top.specs.Modes.{GivesPlan}
-use Rattle.aqlx_top.specs.Run.{Program, line_of}
+use Rattle.aqlx_top.specs.Run.{Program}
 use Rattle.aqlx_top.specs.Showings.{gives, IsTextShown, IsFileShown}
-use Rattle.aqlx_top.specs.Stages.{RanText, IsFileRunTo, IsFileInPart, IsTextRunTo, IsTextInPart}
+use Rattle.aqlx_top.specs.Stages.{RanText, RanTextInPart, IsRunFor, IsFileRunTo, IsFileInPart, IsTextRunTo, IsTextInPart}
 use Rattle.aqlx_top.specs.Words.{to_run, IsOrder}
+use Rattle.aqlx_top.proofs.Planning.{plan_means}
 use Rattle.aqlx_top.proofs.ProgramLaws.{only_large}
 
--- ---- pieces that are alike for each document
+-- ---- a run by a plan of the text
 
-written_alike : (piece other : Doc → List ℕ) → ((doc : Doc) → piece doc ≡ other doc) → (lines : List (List ℕ)) → written_for piece lines ≡ written_for other lines
-written_alike piece other alike lines = each (documents lines)
-  where
-    each : (docs : List Doc) → flat_map piece docs ≡ flat_map other docs
-    each [] = refl
-    each (doc ∷ docs) = ap₂ (λ (first rest : List ℕ). first ++ rest) (alike doc) (each docs)
-
-part_alike : (piece other : Doc → List ℕ) → ((doc : Doc) → piece doc ≡ other doc) → (corpus : SourceEnds) (before now : Option (List ℕ)) → InPart piece corpus before now → InPart other corpus before now
-part_alike piece other alike corpus before now part = record {
-  given = part.given;
-  how = part.how;
-  sent = part.sent;
-  rest = part.rest;
-  taken = part.taken;
-  gained = part.gained;
-  prefix = part.prefix ∙ written_alike piece other alike (lines_of (is_at_end part.how) part.given);
+-- the text's plan is one that is shown, and a sound pool's lines by it are those that the program means
+run_with : (means : Meaning) (text : List ℕ) (plan : Parts) (planned : IsPlanOf text plan) → IsPlan plan.nodes → AreOutputs plan.nodes plan.outputs → IsRunWith means text planned.program plan
+run_with means text plan planned nodes outputs = record {
+  shown = record { plan = plan; nodes = nodes; outputs = outputs; planned = planned; bytes_are = refl };
+  meant = λ sound doc. sound_line means sound plan doc ∙ plan_means text plan planned doc;
 }
 
-came_alike : (piece other : Doc → List ℕ) → ((doc : Doc) → piece doc ≡ other doc) → (corpus : SourceEnds) (out : SinkEnds) (status : Status) → Came piece corpus out status → Came other corpus out status
-came_alike piece other alike corpus out status came = record {
-  given = came.given;
-  how = came.how;
-  taken = came.taken;
-  status_is = came.status_is;
-  read = came.read;
-  wrote = subst (HasSent out) (written_alike piece other alike (lines_of (is_at_end came.how) came.given)) came.wrote;
-}
+run_for : (pool : PoolEnds) (text : List ℕ) (program : Program) (plan : Parts) (corpus : SourceEnds) (out : SinkEnds) (status : Status) → IsRunWith pool.means text program plan
+    → IsRunBy pool plan corpus out status → IsRunFor pool text program corpus out status
+run_for pool text program plan corpus out WriteFault own run = (run.0, record { plan = plan; with_plan = own; run = run.1 })
+run_for pool text program plan corpus out Done own run = record { plan = plan; with_plan = own; run = run }
+run_for pool text program plan corpus out ReadFault own run = record { plan = plan; with_plan = own; run = run }
+run_for pool text program plan corpus out Usage own run = record { plan = plan; with_plan = own; run = run }
+run_for pool text program plan corpus out (Refused fault) own run = record { plan = plan; with_plan = own; run = run }
+run_for pool text program plan corpus out (Corpus fault) own run = record { plan = plan; with_plan = own; run = run }
 
-run_alike : (piece other : Doc → List ℕ) → ((doc : Doc) → piece doc ≡ other doc) → (corpus : SourceEnds) (out : SinkEnds) (status : Status) → IsRunTo piece corpus out status → IsRunTo other corpus out status
-run_alike piece other alike corpus out WriteFault run = (run.0, part_alike piece other alike corpus out.held_before out.held_after run.1)
-run_alike piece other alike corpus out Done run = came_alike piece other alike corpus out Done run
-run_alike piece other alike corpus out ReadFault run = came_alike piece other alike corpus out ReadFault run
-run_alike piece other alike corpus out Usage run = came_alike piece other alike corpus out Usage run
-run_alike piece other alike corpus out (Refused fault) run = came_alike piece other alike corpus out (Refused fault) run
-run_alike piece other alike corpus out (Corpus fault) run = came_alike piece other alike corpus out (Corpus fault) run
+module _ (text : List ℕ) (plan : Parts) (planned : IsPlanOf text plan) (nodes : IsPlan plan.nodes) (outputs : AreOutputs plan.nodes plan.outputs) (pool : PoolEnds) (corpus : SourceEnds) (out : SinkEnds) where
+  -- a program text that ran
+  pub text_run : (r : Result Status OutOfMemory) → IfOk r (IsRunBy pool plan corpus out) → IfOk r (IsTextRunTo text pool corpus out)
+  text_run (Ok status) ran =
+      inr (record {
+        program = planned.program;
+        holds = planned.holds;
+        ran = run_for pool text planned.program plan corpus out status (run_with pool.means text plan planned nodes outputs) ran;
+      })
+  text_run (Err e) ran = tt
 
--- a program text that ran
-pub text_run : (text : List ℕ) (program : Program) (piece : Doc → List ℕ) (corpus : SourceEnds) (out : SinkEnds) (r : Result Status OutOfMemory)
-    → HoldsProgram text program → ((doc : Doc) → piece doc ≡ line_of program doc) → IfOk r (IsRunTo piece corpus out) → IfOk r (IsTextRunTo text corpus out)
-text_run text program piece corpus out (Ok status) holds means ran =
-    inr (record { program = program; holds = holds; ran = run_alike piece (line_of program) means corpus out status ran })
-text_run text program piece corpus out (Err e) holds means ran = tt
-
-pub text_part : (text : List ℕ) (program : Program) (piece : Doc → List ℕ) (corpus : SourceEnds) (out : SinkEnds) (r : Result Status OutOfMemory)
-    → HoldsProgram text program → ((doc : Doc) → piece doc ≡ line_of program doc) → OnErr r (InPart piece corpus out.held_before out.held_after) → OnErr r (IsTextInPart text corpus out)
-text_part text program piece corpus out (Ok status) holds means part = tt
-text_part text program piece corpus out (Err e) holds means part =
-    inr (record { program = program; holds = holds; ran = part_alike piece (line_of program) means corpus out.held_before out.held_after part })
+  pub text_part : (r : Result Status OutOfMemory) → OnErr r (InPartBy pool plan corpus out.held_before out.held_after) → OnErr r (IsTextInPart text pool corpus out)
+  text_part (Ok status) part = tt
+  text_part (Err e) part =
+      inr (record {
+        program = planned.program;
+        holds = planned.holds;
+        ran = record { plan = plan; with_plan = run_with pool.means text plan planned nodes outputs; run = part };
+      })
 
 -- ---- a front of a file
 
@@ -106,12 +95,16 @@ fault_of_held held bytes fault front cause =
           (only_large held large.0)
     ]
 
-program_of_held : (held bytes : List ℕ) (program : Program) → bytes ≡ take (program_limit + 1) held → HoldsProgram bytes program → HoldsProgram held program
-program_of_held held bytes program front holds =
+-- a front that holds a program is all of the text
+program_is_whole : (held bytes : List ℕ) (program : Program) → bytes ≡ take (program_limit + 1) held → HoldsProgram bytes program → bytes ≡ held
+program_is_whole held bytes program front holds =
     elim (whole_or_large held bytes front) [
-      | inl whole ↦ subst (λ (t : List ℕ). HoldsProgram t program) whole holds
+      | inl whole ↦ whole
       | inr large ↦ let small = holds.holds.reads.small in let long = large.1 in absurd (omega arith)
     ]
+
+program_of_held : (held bytes : List ℕ) (program : Program) → bytes ≡ take (program_limit + 1) held → HoldsProgram bytes program → HoldsProgram held program
+program_of_held held bytes program front holds = subst (λ (t : List ℕ). HoldsProgram t program) (program_is_whole held bytes program front holds) holds
 
 -- a text that the file holds, of which something is so
 abbrev Held : Option (List ℕ) → (List ℕ → Type 0) → Type 0
@@ -123,9 +116,9 @@ fault_at None bytes fault front cause = absurd front
 fault_at (Some held) bytes fault front cause = (held, refl, fault_of_held held bytes fault front cause)
 
 program_at : (file : Option (List ℕ)) (bytes : List ℕ) (program : Program) → IsFrontOf file (program_limit + 1) bytes → HoldsProgram bytes program
-    → Held file (λ text. HoldsProgram text program)
+    → Held file (λ text. bytes ≡ text)
 program_at None bytes program front holds = absurd front
-program_at (Some held) bytes program front holds = (held, refl, program_of_held held bytes program front holds)
+program_at (Some held) bytes program front holds = (held, refl, program_is_whole held bytes program front holds)
 
 fault_of_front : (told : Option Names) (name bytes : List ℕ) (fault : ProgramFault) → IfSome told (λ names. IsFrontOf (names name) (program_limit + 1) bytes)
     → HasOnlyFault bytes fault → (text : List ℕ) × IfSome told (λ names. names name ≡ Some text) × HasOnlyFault text fault
@@ -154,8 +147,8 @@ given_by_front shown None name text bytes front given = (text, tt, given)
 given_by_front shown (Some names) name text bytes front given = given_at shown (names name) text bytes front given
 
 program_of_front : (told : Option Names) (name bytes : List ℕ) (program : Program) → IfSome told (λ names. IsFrontOf (names name) (program_limit + 1) bytes)
-    → HoldsProgram bytes program → (text : List ℕ) × IfSome told (λ names. names name ≡ Some text) × HoldsProgram text program
-program_of_front None name bytes program front holds = (bytes, tt, holds)
+    → HoldsProgram bytes program → (text : List ℕ) × IfSome told (λ names. names name ≡ Some text) × (bytes ≡ text)
+program_of_front None name bytes program front holds = (bytes, tt, refl)
 program_of_front (Some names) name bytes program front holds = program_at (names name) bytes program front holds
 
 -- ---- a file that ran
@@ -164,35 +157,35 @@ program_of_front (Some names) name bytes program front holds = program_at (names
 read_as : (files : FilesEnds) (name text : List ℕ) → IfSome files.told (λ names. names name ≡ Some text) → FilesNeverFailed files → IsReadAs files name text
 read_as files name text held unfailed = record { held = held; unfailed = unfailed }
 
-file_run_to : (name bytes : List ℕ) (files : FilesEnds) (corpus : SourceEnds) (out : SinkEnds) (status : Status)
+file_run_to : (name bytes : List ℕ) (files : FilesEnds) (pool : PoolEnds) (corpus : SourceEnds) (out : SinkEnds) (status : Status)
     → IfSome files.told (λ names. IsFrontOf (names name) (program_limit + 1) bytes) → FilesNeverFailed files
-    → IsTextRunTo bytes corpus out status → IsFileRunTo name files corpus out status
-file_run_to name bytes files corpus out status front unfailed ran =
+    → IsTextRunTo bytes pool corpus out status → IsFileRunTo name files pool corpus out status
+file_run_to name bytes files pool corpus out status front unfailed ran =
     elim ran [
       | inl refused ↦
           let found = fault_of_front files.told name bytes refused.fault front refused.cause in
           inr (found.0, read_as files name found.0 found.1 unfailed, inl (record { fault = refused.fault; told = refused.told; cause = found.2; idle = refused.idle }))
       | inr run ↦
           let found = program_of_front files.told name bytes run.program front run.holds in
-          inr (found.0, read_as files name found.0 found.1 unfailed, inr (record { program = run.program; holds = found.2; ran = run.ran }))
+          inr (found.0, read_as files name found.0 found.1 unfailed, inr (subst (λ (t : List ℕ). RanText t pool corpus out status) found.2 run))
     ]
 
-pub file_run : (name bytes : List ℕ) (files : FilesEnds) (corpus : SourceEnds) (out : SinkEnds) (r : Result Status OutOfMemory)
+pub file_run : (name bytes : List ℕ) (files : FilesEnds) (pool : PoolEnds) (corpus : SourceEnds) (out : SinkEnds) (r : Result Status OutOfMemory)
     → IfSome files.told (λ names. IsFrontOf (names name) (program_limit + 1) bytes) → FilesNeverFailed files
-    → IfOk r (IsTextRunTo bytes corpus out) → IfOk r (IsFileRunTo name files corpus out)
-file_run name bytes files corpus out (Ok status) front unfailed ran = file_run_to name bytes files corpus out status front unfailed ran
-file_run name bytes files corpus out (Err e) front unfailed ran = tt
+    → IfOk r (IsTextRunTo bytes pool corpus out) → IfOk r (IsFileRunTo name files pool corpus out)
+file_run name bytes files pool corpus out (Ok status) front unfailed ran = file_run_to name bytes files pool corpus out status front unfailed ran
+file_run name bytes files pool corpus out (Err e) front unfailed ran = tt
 
-pub file_part : (name bytes : List ℕ) (files : FilesEnds) (corpus : SourceEnds) (out : SinkEnds) (r : Result Status OutOfMemory)
+pub file_part : (name bytes : List ℕ) (files : FilesEnds) (pool : PoolEnds) (corpus : SourceEnds) (out : SinkEnds) (r : Result Status OutOfMemory)
     → IfSome files.told (λ names. IsFrontOf (names name) (program_limit + 1) bytes) → FilesNeverFailed files
-    → OnErr r (IsTextInPart bytes corpus out) → OnErr r (IsFileInPart name files corpus out)
-file_part name bytes files corpus out (Ok status) front unfailed part = tt
-file_part name bytes files corpus out (Err e) front unfailed part =
+    → OnErr r (IsTextInPart bytes pool corpus out) → OnErr r (IsFileInPart name files pool corpus out)
+file_part name bytes files pool corpus out (Ok status) front unfailed part = tt
+file_part name bytes files pool corpus out (Err e) front unfailed part =
     elim part [
       | inl nothing ↦ inl nothing
       | inr run ↦
           let found = program_of_front files.told name bytes run.program front run.holds in
-          inr (found.0, read_as files name found.0 found.1 unfailed, record { program = run.program; holds = found.2; ran = run.ran })
+          inr (found.0, read_as files name found.0 found.1 unfailed, subst (λ (t : List ℕ). RanTextInPart t pool corpus out) found.2 run)
     ]
 
 file_shown_to : (shown : Shown) (name text : List ℕ) (files : FilesEnds) (out : SinkEnds) (status : Status)
@@ -216,48 +209,48 @@ file_shown shown name text files out (Err e) front unfailed came = tt
 
 -- ---- words that name a file
 
-called_by : (words : List (List ℕ)) (name text : List ℕ) (files : FilesEnds) (corpus : SourceEnds) (out : SinkEnds) (program : Program)
-    → IsOrder words (to_run name) → IsReadAs files name text → HoldsProgram text program → IsCalledFor (call_of words files corpus out) program
-called_by words name text files corpus out program run held holds = record { name = name; text = text; words = run; file = held; holds = holds }
+abbrev called_by : (words : List (List ℕ)) (name text : List ℕ) (files : FilesEnds) (pool : PoolEnds) (corpus : SourceEnds) (out : SinkEnds) (program : Program)
+    → IsOrder words (to_run name) → IsReadAs files name text → HoldsProgram text program → IsCalledFor (call_of words files pool corpus out) program
+called_by words name text files pool corpus out program run held holds = record { name = name; text = text; words = run; file = held; holds = holds }
 
-cause_of_run : (words : List (List ℕ)) (name text : List ℕ) (files : FilesEnds) (corpus : SourceEnds) (out : SinkEnds) (status : Status)
-    → IsOrder words (to_run name) → IsReadAs files name text → RanText text corpus out status → HasCauseOf (call_of words files corpus out) status
-cause_of_run words name text files corpus out Done run held f =
-    inl (record { program = f.program; called = called_by words name text files corpus out f.program run held f.holds; ran = f.ran })
-cause_of_run words name text files corpus out (Refused fault) run held f = absurd f.ran.status_is
-cause_of_run words name text files corpus out Usage run held f = absurd f.ran.status_is
-cause_of_run words name text files corpus out (Corpus fault) run held f =
-    record { program = f.program; called = called_by words name text files corpus out f.program run held f.holds; ran = f.ran }
-cause_of_run words name text files corpus out ReadFault run held f =
-    inr (record { program = f.program; called = called_by words name text files corpus out f.program run held f.holds; ran = f.ran })
-cause_of_run words name text files corpus out WriteFault run held f =
-    (f.ran.0, inl (record { program = f.program; called = called_by words name text files corpus out f.program run held f.holds; ran = f.ran.1 }))
+cause_of_run : (words : List (List ℕ)) (name text : List ℕ) (files : FilesEnds) (pool : PoolEnds) (corpus : SourceEnds) (out : SinkEnds) (status : Status)
+    → IsOrder words (to_run name) → IsReadAs files name text → RanText text pool corpus out status → HasCauseOf (call_of words files pool corpus out) status
+cause_of_run words name text files pool corpus out Done run held f =
+    inl (record { program = f.program; called = called_by words name text files pool corpus out f.program run held f.holds; ran = f.ran })
+cause_of_run words name text files pool corpus out (Refused fault) run held f = absurd f.ran.run.came.status_is
+cause_of_run words name text files pool corpus out Usage run held f = absurd f.ran.run.came.status_is
+cause_of_run words name text files pool corpus out (Corpus fault) run held f =
+    record { program = f.program; called = called_by words name text files pool corpus out f.program run held f.holds; ran = f.ran }
+cause_of_run words name text files pool corpus out ReadFault run held f =
+    inr (record { program = f.program; called = called_by words name text files pool corpus out f.program run held f.holds; ran = f.ran })
+cause_of_run words name text files pool corpus out WriteFault run held f =
+    (f.ran.0, inl (record { program = f.program; called = called_by words name text files pool corpus out f.program run held f.holds; ran = f.ran.1 }))
 
-cause_of_file : (words : List (List ℕ)) (name : List ℕ) (files : FilesEnds) (corpus : SourceEnds) (out : SinkEnds) (status : Status)
-    → IsOrder words (to_run name) → IsFileRunTo name files corpus out status → HasCauseOf (call_of words files corpus out) status
-cause_of_file words name files corpus out status run came =
+cause_of_file : (words : List (List ℕ)) (name : List ℕ) (files : FilesEnds) (pool : PoolEnds) (corpus : SourceEnds) (out : SinkEnds) (status : Status)
+    → IsOrder words (to_run name) → IsFileRunTo name files pool corpus out status → HasCauseOf (call_of words files pool corpus out) status
+cause_of_file words name files pool corpus out status run came =
     elim came [
       | inl unread ↦ rw unread.0 (inl (unread.1, record { name = name; words = record { order = to_run name; asked = run; named = refl }; idle = unread.2 }))
       | inr read ↦ elim read.2 [
         | inl refused ↦
             rw refused.told
             (record { name = name; text = read.0; words = record { order = to_run name; asked = run; named = refl }; file = read.1; cause = refused.cause; idle = refused.idle })
-        | inr f ↦ cause_of_run words name read.0 files corpus out status run read.1 f
+        | inr f ↦ cause_of_run words name read.0 files pool corpus out status run read.1 f
       ]
     ]
 
-pub run_cause : (name : List ℕ) (files : FilesEnds) (corpus : SourceEnds) (out : SinkEnds) (r : Result Status OutOfMemory)
-    → IfOk r (IsFileRunTo name files corpus out)
-    → IfOk r (λ status. (words : List (List ℕ)) → IsOrder words (to_run name) → HasCauseOf (call_of words files corpus out) status)
-run_cause name files corpus out (Ok status) came = λ words run. cause_of_file words name files corpus out status run came
-run_cause name files corpus out (Err e) came = tt
+pub run_cause : (name : List ℕ) (files : FilesEnds) (pool : PoolEnds) (corpus : SourceEnds) (out : SinkEnds) (r : Result Status OutOfMemory)
+    → IfOk r (IsFileRunTo name files pool corpus out)
+    → IfOk r (λ status. (words : List (List ℕ)) → IsOrder words (to_run name) → HasCauseOf (call_of words files pool corpus out) status)
+run_cause name files pool corpus out (Ok status) came = λ words run. cause_of_file words name files pool corpus out status run came
+run_cause name files pool corpus out (Err e) came = tt
 
-pub run_front : (name : List ℕ) (files : FilesEnds) (corpus : SourceEnds) (out : SinkEnds) (r : Result Status OutOfMemory)
-    → OnErr r (IsFileInPart name files corpus out)
-    → OnErr r ((words : List (List ℕ)) → IsOrder words (to_run name) → WroteFront (call_of words files corpus out))
-run_front name files corpus out (Ok status) part = tt
-run_front name files corpus out (Err e) part = λ words run.
+pub run_front : (name : List ℕ) (files : FilesEnds) (pool : PoolEnds) (corpus : SourceEnds) (out : SinkEnds) (r : Result Status OutOfMemory)
+    → OnErr r (IsFileInPart name files pool corpus out)
+    → OnErr r ((words : List (List ℕ)) → IsOrder words (to_run name) → WroteFront (call_of words files pool corpus out))
+run_front name files pool corpus out (Ok status) part = tt
+run_front name files pool corpus out (Err e) part = λ words run.
     elim part [
-      | inl nothing ↦ inl nothing
-      | inr f ↦ inr (inl (record { program = f.2.program; called = called_by words name f.0 files corpus out f.2.program run f.1 f.2.holds; ran = f.2.ran }))
+      | inl nothing ↦ inl (record { gained = nothing.gained; handed = inl nothing.unasked })
+      | inr f ↦ inr (inl (record { program = f.2.program; called = called_by words name f.0 files pool corpus out f.2.program run f.1 f.2.holds; ran = f.2.ran }))
     ]

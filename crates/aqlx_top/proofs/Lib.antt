@@ -4,6 +4,7 @@ pub mod LimitLaws
 pub mod FileLemmas
 pub mod Readings
 pub mod Turns
+pub mod Handings
 pub mod ProgramLaws
 pub mod Begins
 pub mod Planning

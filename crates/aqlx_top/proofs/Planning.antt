@@ -1,18 +1,12 @@
 -- A plan that was made of a program gives the lines that the program means.
 use Rattle.std.proofs.Common.{◌≡◌, ◌++◌, ◌+◌, ℕ, zero, suc, List, [], ◌∷◌, length, map, refl, sym, ap, ap₂, ◌∙◌, length-append}
-use Rattle.std.specs.List.{AllZip, zip, range_with_len}
+use Rattle.std.specs.List.{AllZip, range_with_len}
 use Rattle.std.proofs.lemmas.List.{length-map}
 use Rattle.std.proofs.lemmas.List.Sums.{sum_by-cons, sum_by_push}
-use Rattle.aql_base.specs.Bags.{SameBag}
 use Rattle.aql_base.specs.CountLaws.{length-SameBag}
 use Rattle.span_token.specs.Documents.{Doc}
-use Rattle.row_values.specs.Datums.{Datum}
 use Rattle.row_values.specs.Outputs.{OutputNames}
-use Rattle.row_values.specs.SortedRows.{sorted-SameBag}
-use Rattle.corpus_json.specs.Outputs.{array_of, object_of, row_data, rows_data, views_data, label_pair, line_data, output_line}
-use Rattle.serde_json.specs.Data.{Data}
-use Rattle.serde_json.specs.Written.{compact_text}
-use Rattle.std.specs.Prelude.{codes}
+use Rattle.corpus_json.specs.Outputs.{output_line}
 use Rattle.aql_typed.specs.declared.tree.Output.{Output}
 use Rattle.aql_typed.specs.Meaning.{output_rows}
 use Rattle.aql_typed.specs.Programs.{names_of}
@@ -22,11 +16,14 @@ use Rattle.algebra.specs.Plans.{Parts}
 use Rattle.algebra.specs.Values.{val}
 use Rattle.demo_corpus.specs.Totals.{Answer, Tally, size_at, total_of, tally_of}
 use Rattle.demo_corpus.specs.Summaries.{summary_of}
-use Rattle.window_lines.specs.LineLaws.{AreSameBags, lines_alike}
+use Rattle.run_pool.specs.Answers.{IsSound}
+use Rattle.run_pool.specs.LineLaws.{lines_alike}
+use Rattle.run_pool.specs.Lines.{Meaning, AreSameBags}
 use Rattle.plan_maker.specs.Lowered.{ShowsOutput}
 use Rattle.plan_maker.specs.Shown.{ShowsProgram}
 use Rattle.aqlx_top.specs.Modes.{summary_on}
 use Rattle.aqlx_top.specs.Planned.{names_in, rows_by, line_by, summary_by}
+use Rattle.aqlx_top.specs.PoolRuns.{summary_from}
 use Rattle.aqlx_top.specs.Plans.{IsPlanOf}
 use Rattle.aqlx_top.specs.Run.{Typed, Program, program_of, line_of, outputs_of, rows_for}
 
@@ -101,3 +98,7 @@ plan_means text plan planned doc =
 pub plan_counts : (text : List ℕ) (plan : Parts) (planned : IsPlanOf text plan) (docs : List Doc) → summary_by plan docs ≡ summary_on planned.program docs
 plan_counts text plan planned docs =
     made_counts planned.holds.typed plan planned.shows docs ∙ ap (λ (program : Program). summary_on program docs) (sym planned.holds.program_is)
+
+-- a sound pool's summaries are those of the plan
+pub sound_counts : (means : Meaning) → IsSound means → (plan : Parts) (docs : List Doc) → summary_from means plan docs ≡ summary_by plan docs
+sound_counts means sound plan docs = ap (summary_of (names_in plan)) (tallies_alike (means plan) (rows_by plan) (sound plan) (length plan.outputs) docs)

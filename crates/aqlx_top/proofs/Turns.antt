@@ -39,14 +39,14 @@ pub rose_later : (a b c : ℕ) → b ≡ a → Rose b c → Rose a c
 rose_later a b c h k = omega arith
 
 -- a reading that is left off, or at its end, is how a run took what it took
-taken_so_far : (left_before left_now : Option (List ℕ)) (faults_before faults_now : ℕ) (given : List ℕ) (how : How)
+pub taken_so_far : (left_before left_now : Option (List ℕ)) (faults_before faults_now : ℕ) (given : List ℕ) (how : How)
     → Consumes left_before left_now given → IsLeftOff left_now given how
     → IsTaken (source_ends left_before left_now faults_before faults_now) given how
 taken_so_far left_before left_now faults_before faults_now given how taken off =
     record { taken = taken; ended = off.ended; broken = λ e. absurd (off.broken e); full = λ e. absurd (off.full e) }
 
 -- what is sent and pending is the beginning of what is meant, where the lines are the first ones
-prefix_of : (piece : Doc → List ℕ) (sent pending : List ℕ) (lines after all : List (List ℕ)) → HasNoBadLine lines
+pub prefix_of : (piece : Doc → List ℕ) (sent pending : List ℕ) (lines after all : List (List ℕ)) → HasNoBadLine lines
     → sent ++ pending ≡ written_for piece lines → all ≡ lines ++ after
     → sent ++ (pending ++ written_for piece after) ≡ written_for piece all
 prefix_of piece sent pending lines after all good wrote split =
@@ -56,7 +56,7 @@ prefix_of piece sent pending lines after all good wrote split =
     ∙ ap (written_for piece) (sym split)
 
 -- where lines were read to, a prefix of what they mean is sent
-part_at : (piece : Doc → List ℕ) (left_before left_now : Option (List ℕ)) (faults_before faults_now : ℕ) (held_before held_now : Option (List ℕ)) (given : List ℕ) (lines more : List (List ℕ)) (reading : Reading) (sent pending : List ℕ)
+unfoldable pub part_at : (piece : Doc → List ℕ) (left_before left_now : Option (List ℕ)) (faults_before faults_now : ℕ) (held_before held_now : Option (List ℕ)) (given : List ℕ) (lines more : List (List ℕ)) (reading : Reading) (sent pending : List ℕ)
     → Consumes left_before left_now given → IsReadTo left_now given (lines ++ more) reading → HasNoBadLine lines
     → Appends held_before held_now sent → sent ++ pending ≡ written_for piece lines
     → InPart piece (source_ends left_before left_now faults_before faults_now) held_before held_now
@@ -81,7 +81,7 @@ part_of piece left_before left_now faults_before faults_now held_before held_now
     (rw (append-nil s.lines) s.read) s.good s.gained s.wrote
 
 -- what is pending is sent whole
-pub sent_whole : (piece : Doc → List ℕ) (corpus : SourceEnds) (held_before held_now held_next : Option (List ℕ)) (reading : Reading) (pending : List ℕ) (number : ℕ)
+unfoldable pub sent_whole : (piece : Doc → List ℕ) (corpus : SourceEnds) (held_before held_now held_next : Option (List ℕ)) (reading : Reading) (pending : List ℕ) (number : ℕ)
     → Stands piece corpus held_before held_now reading pending number
     → Appends held_now held_next pending
     → Stands piece corpus held_before held_next reading [] number
@@ -102,7 +102,7 @@ sent_whole piece corpus held_before held_now held_next reading pending number s 
     }
 
 -- a front of what is pending is sent, and the rest isn't
-cut_pending : (sent pending whole : List ℕ) (count : ℕ) → sent ++ pending ≡ whole → (sent ++ take count pending) ++ drop count pending ≡ whole
+pub cut_pending : (sent pending whole : List ℕ) (count : ℕ) → sent ++ pending ≡ whole → (sent ++ take count pending) ++ drop count pending ≡ whole
 cut_pending sent pending whole count wrote =
     append_assoc sent (take count pending) (drop count pending) ∙ ap (λ (bs : List ℕ). sent ++ bs) (take-append-drop count pending) ∙ wrote
 
@@ -117,7 +117,7 @@ sent_in_part piece left_before left_now faults_before faults_now held_before hel
     (cut_pending s.sent pending (written_for piece s.lines) count s.wrote)
 
 -- a finished run of which what is pending is sent in part
-pub finished_in_part : (piece : Doc → List ℕ) (corpus : SourceEnds) (held_before held_now held_next : Option (List ℕ)) (pending : List ℕ) (status : Status) (count : ℕ)
+unfoldable pub finished_in_part : (piece : Doc → List ℕ) (corpus : SourceEnds) (held_before held_now held_next : Option (List ℕ)) (pending : List ℕ) (status : Status) (count : ℕ)
     → Finished piece corpus held_before held_now pending status
     → Appends held_now held_next (take count pending)
     → InPart piece corpus held_before held_next
@@ -133,7 +133,7 @@ finished_in_part piece corpus held_before held_now held_next pending status coun
     }
 
 -- a finished run of which what is pending is sent whole and flushed
-came_of : (piece : Doc → List ℕ) (corpus : SourceEnds) (out : SinkEnds) (held_now : Option (List ℕ)) (pending : List ℕ) (status : Status)
+unfoldable pub came_of : (piece : Doc → List ℕ) (corpus : SourceEnds) (out : SinkEnds) (held_now : Option (List ℕ)) (pending : List ℕ) (status : Status)
     → Finished piece corpus out.held_before held_now pending status
     → Appends held_now out.held_after pending → IsFlushed out → SinkNeverFailed out
     → Came piece corpus out status
@@ -163,7 +163,7 @@ run_to piece corpus out held_now pending ReadFault f h flushed unfailed = came_o
 run_to piece corpus out held_now pending WriteFault f h flushed unfailed = absurd f.status_is
 
 -- nothing is meant by what stands from a bad line on
-ended_before : (piece : Doc → List ℕ) (sent pending : List ℕ) (lines : List (List ℕ)) (line : List ℕ) (after all : List (List ℕ)) → HasNoBadLine lines
+pub ended_before : (piece : Doc → List ℕ) (sent pending : List ℕ) (lines : List (List ℕ)) (line : List ℕ) (after all : List (List ℕ)) → HasNoBadLine lines
     → is_bad_line line ≡ true → sent ++ pending ≡ written_for piece lines → all ≡ lines ++ line ∷ after
     → sent ++ pending ≡ written_for piece all
 ended_before piece sent pending lines line after all good bad wrote split =
@@ -175,7 +175,7 @@ ended_before piece sent pending lines line after all good bad wrote split =
     ∙ ap (written_for piece) (sym split)
 
 -- a line that isn't bad was looked at, and what is written for it is pending
-pub next_line_good : (piece : Doc → List ℕ) (left_before left_now left_next : Option (List ℕ)) (faults_before faults_now faults_next : ℕ) (held_before held_now : Option (List ℕ)) (reading next_reading : Reading) (pending gain line : List ℕ) (number next_number : ℕ)
+unfoldable pub next_line_good : (piece : Doc → List ℕ) (left_before left_now left_next : Option (List ℕ)) (faults_before faults_now faults_next : ℕ) (held_before held_now : Option (List ℕ)) (reading next_reading : Reading) (pending gain line : List ℕ) (number next_number : ℕ)
     → Stands piece (source_ends left_before left_now faults_before faults_now) held_before held_now reading pending number
     → NextLine left_now left_next faults_now faults_next reading next_reading line Line
     → next_reading.taken ≤ corpus_limit
@@ -214,7 +214,7 @@ part_of_next piece left_before left_now left_next faults_before faults_now fault
     s.good s.gained s.wrote
 
 -- a bad line was looked at
-pub ended_bad : (piece : Doc → List ℕ) (left_before left_now left_next : Option (List ℕ)) (faults_before faults_now faults_next : ℕ) (held_before held_now : Option (List ℕ)) (reading next_reading : Reading) (pending line : List ℕ) (number next_number : ℕ)
+unfoldable pub ended_bad : (piece : Doc → List ℕ) (left_before left_now left_next : Option (List ℕ)) (faults_before faults_now faults_next : ℕ) (held_before held_now : Option (List ℕ)) (reading next_reading : Reading) (pending line : List ℕ) (number next_number : ℕ)
     → Stands piece (source_ends left_before left_now faults_before faults_now) held_before held_now reading pending number
     → NextLine left_now left_next faults_now faults_next reading next_reading line Line
     → is_bad_line line ≡ true
@@ -246,7 +246,7 @@ ended_bad piece left_before left_now left_next faults_before faults_now faults_n
     }
 
 -- the next line is too long
-pub ended_long : (piece : Doc → List ℕ) (left_before left_now left_next : Option (List ℕ)) (faults_before faults_now faults_next : ℕ) (held_before held_now : Option (List ℕ)) (reading next_reading : Reading) (pending line : List ℕ) (number next_number : ℕ)
+unfoldable pub ended_long : (piece : Doc → List ℕ) (left_before left_now left_next : Option (List ℕ)) (faults_before faults_now faults_next : ℕ) (held_before held_now : Option (List ℕ)) (reading next_reading : Reading) (pending line : List ℕ) (number next_number : ℕ)
     → Stands piece (source_ends left_before left_now faults_before faults_now) held_before held_now reading pending number
     → NextLine left_now left_next faults_now faults_next reading next_reading line Long
     → next_number ≡ number + 1
@@ -281,7 +281,7 @@ ended_long piece left_before left_now left_next faults_before faults_now faults_
     }
 
 -- the source is at its end
-pub ended_done : (piece : Doc → List ℕ) (left_before left_now left_next : Option (List ℕ)) (faults_before faults_now faults_next : ℕ) (held_before held_now : Option (List ℕ)) (reading next_reading : Reading) (pending line : List ℕ) (number : ℕ)
+unfoldable pub ended_done : (piece : Doc → List ℕ) (left_before left_now left_next : Option (List ℕ)) (faults_before faults_now faults_next : ℕ) (held_before held_now : Option (List ℕ)) (reading next_reading : Reading) (pending line : List ℕ) (number : ℕ)
     → Stands piece (source_ends left_before left_now faults_before faults_now) held_before held_now reading pending number
     → NextLine left_now left_next faults_now faults_next reading next_reading line End
     → is_some left_next ≡ is_some left_now
@@ -305,7 +305,7 @@ ended_done piece left_before left_now left_next faults_before faults_now faults_
     }
 
 -- a read failed
-pub ended_failed : (piece : Doc → List ℕ) (left_before left_now left_next : Option (List ℕ)) (faults_before faults_now faults_next : ℕ) (held_before held_now : Option (List ℕ)) (reading next_reading : Reading) (pending line : List ℕ) (number : ℕ)
+unfoldable pub ended_failed : (piece : Doc → List ℕ) (left_before left_now left_next : Option (List ℕ)) (faults_before faults_now faults_next : ℕ) (held_before held_now : Option (List ℕ)) (reading next_reading : Reading) (pending line : List ℕ) (number : ℕ)
     → Stands piece (source_ends left_before left_now faults_before faults_now) held_before held_now reading pending number
     → NextLine left_now left_next faults_now faults_next reading next_reading line Failed
     → Finished piece (source_ends left_before left_next faults_before faults_next) held_before held_now pending ReadFault
@@ -328,7 +328,7 @@ ended_failed piece left_before left_now left_next faults_before faults_now fault
     }
 
 -- the corpus has reached its limit
-pub ended_limit : (piece : Doc → List ℕ) (left_before left_now left_next : Option (List ℕ)) (faults_before faults_now faults_next : ℕ) (held_before held_now : Option (List ℕ)) (reading next_reading : Reading) (pending line : List ℕ) (number : ℕ)
+unfoldable pub ended_limit : (piece : Doc → List ℕ) (left_before left_now left_next : Option (List ℕ)) (faults_before faults_now faults_next : ℕ) (held_before held_now : Option (List ℕ)) (reading next_reading : Reading) (pending line : List ℕ) (number : ℕ)
     → Stands piece (source_ends left_before left_now faults_before faults_now) held_before held_now reading pending number
     → NextLine left_now left_next faults_now faults_next reading next_reading line Limit
     → Finished piece (source_ends left_before left_next faults_before faults_next) held_before held_now pending (Corpus CorpusLarge)
@@ -351,7 +351,7 @@ ended_limit piece left_before left_now left_next faults_before faults_now faults
     }
 
 -- memory was wanting for the next line, of which some bytes were taken
-pub part_of_taken : (piece : Doc → List ℕ) (left_before left_now left_next : Option (List ℕ)) (faults_before faults_now faults_next : ℕ) (held_before held_now : Option (List ℕ)) (ready : List ℕ) (taken : ℕ) (last : Option Step) (pending : List ℕ) (number : ℕ)
+unfoldable pub part_of_taken : (piece : Doc → List ℕ) (left_before left_now left_next : Option (List ℕ)) (faults_before faults_now faults_next : ℕ) (held_before held_now : Option (List ℕ)) (ready : List ℕ) (taken : ℕ) (last : Option Step) (pending : List ℕ) (number : ℕ)
     → Stands piece (source_ends left_before left_now faults_before faults_now) held_before held_now (record { ready = ready; taken = taken; last = last }) pending number
     → last ≡ None
     → Took left_now left_next
@@ -413,7 +413,7 @@ pub short_is : (line : List ℕ) → length line ≤ line_limit → is_too_long 
 short_is line short = le-ltb line_limit (length line) short
 
 -- at the beginning nothing was taken, looked at, sent or pending
-pub begins : (piece : Doc → List ℕ) (left held : Option (List ℕ)) (faults : ℕ) → Stands piece (source_ends left left faults faults) held held (record { ready = []; taken = 0; last = None }) [] 0
+unfoldable pub begins : (piece : Doc → List ℕ) (left held : Option (List ℕ)) (faults : ℕ) → Stands piece (source_ends left left faults faults) held held (record { ready = []; taken = 0; last = None }) [] 0
 begins piece left held faults =
     record {
       given = [];

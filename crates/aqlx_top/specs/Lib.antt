@@ -19,6 +19,9 @@ pub mod ProgramFaults
 pub mod Plans
 -- what is written in the modes that read no corpus
 pub mod Modes
+-- what is handed to the pool, and how it runs a program
+pub mod Handing
+pub mod PoolRuns
 -- what the top call promises
 pub mod Outcome
 -- Laws of what is written for lines, and of a corpus in pieces
@@ -35,6 +38,7 @@ pub mod Programs
 pub mod Prefixes
 pub mod Progress
 pub mod Turns
+pub mod PoolTurns
 pub mod Windows
 -- what the stages of a call come to
 pub mod Stages

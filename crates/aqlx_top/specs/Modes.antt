@@ -4,8 +4,6 @@ use Rattle.span_token.specs.Documents.{Doc}
 use Rattle.algebra.specs.Nodes.{IsPlan}
 use Rattle.algebra.specs.Plans.{Parts, AreOutputs}
 use Rattle.plan_maker.specs.PlanTexts.{text_of}
-use Rattle.demo_corpus.specs.declared.demo.TheConstants.{DEMO}
-use Rattle.demo_corpus.specs.Generator.{first_documents}
 use Rattle.demo_corpus.specs.Summaries.{summary_of}
 use Rattle.demo_corpus.specs.Totals.{tally_of}
 use Rattle.aqlx_top.specs.Plans.{IsPlanOf}
@@ -29,9 +27,3 @@ pub record GivesPlan (text bytes : List ℕ) : Type 0 where
 -- the summary of a program on documents: how many they are, and how many rows each output has over all of them
 abbrev pub summary_on : Program → List Doc → List ℕ
 summary_on program docs = summary_of program.outputs (tally_of (length program.outputs) (map (rows_for program) docs))
-
--- for the demonstration on so many generated documents: the summary of its program on them
-pub record GivesSummary (count : ℕ) (bytes : List ℕ) : Type 0 where
-  pub program : Program
-  pub holds : HoldsProgram DEMO.now program
-  pub bytes_are : bytes ≡ summary_on program (first_documents count)

@@ -8,9 +8,11 @@ use Rattle.aqlx_top.specs.declared.status.Status.{Status}
 use Rattle.aqlx_top.specs.declared.status.Status.TheVariants.{Done, Program as Refused, Usage, Corpus, ReadFault, WriteFault}
 use Rattle.aqlx_top.specs.declared.status.ProgramFault.{ProgramFault}
 use Rattle.aqlx_top.specs.Devices.{FilesEnds, SourceEnds, SinkEnds, FilesFailed, SourceFailed, SinkFailed, FilesNeverFailed, SourceNeverFailed, SinkNeverFailed, Gained, GainedFront, HasSent, IsUntouched, IsUnread}
-use Rattle.aqlx_top.specs.Modes.{GivesOk, GivesPlan, GivesSummary}
+use Rattle.aqlx_top.specs.Handing.{PoolEnds, IsUnasked}
+use Rattle.aqlx_top.specs.Modes.{GivesOk, GivesPlan}
+use Rattle.aqlx_top.specs.PoolRuns.{Ran, RanInPart, GivesSummary, IsCountedInPart}
 use Rattle.aqlx_top.specs.ProgramFaults.{HasFault, HasOnlyFault, AreOneFault, IsFaultless, HoldsProgram}
-use Rattle.aqlx_top.specs.Run.{Program, Ran, RanInPart}
+use Rattle.aqlx_top.specs.Run.{Program}
 use Rattle.aqlx_top.specs.Statuses.{HasLine, HasLinePart, message_of}
 use Rattle.aqlx_top.specs.Taken.{HasNoBadLine}
 use Rattle.aqlx_top.specs.Words.{Order, to_run, to_check, to_plan, to_generate, to_demonstrate, IsOrder, IsNoRun, IsNoOrder, IsFileOrder}
@@ -19,12 +21,13 @@ use Rattle.aqlx_top.specs.Words.{Order, to_run, to_check, to_plan, to_generate, 
 pub record Call : Type 0 where
   pub words : List (List ℕ)
   pub files : FilesEnds
+  pub pool : PoolEnds
   pub corpus : SourceEnds
   pub out : SinkEnds
 
 -- the call of these words over these objects
-abbrev pub call_of : List (List ℕ) → FilesEnds → SourceEnds → SinkEnds → Call
-call_of words files corpus out = record { words = words; files = files; corpus = corpus; out = out }
+abbrev pub call_of : List (List ℕ) → FilesEnds → PoolEnds → SourceEnds → SinkEnds → Call
+call_of words files pool corpus out = record { words = words; files = files; pool = pool; corpus = corpus; out = out }
 
 -- the file of this name was read without a failed call, and holds this text, where the files tell what they hold
 pub record IsReadAs (files : FilesEnds) (name text : List ℕ) : Type 0 where
@@ -39,17 +42,17 @@ pub record IsCalledFor (call : Call) (program : Program) : Type 0 where
   pub file : IsReadAs call.files name text
   pub holds : HoldsProgram text program
 
--- the called program ran to this status, and all that it means before it is written and flushed
+-- the pool ran the called program to this status, and all of its lines are written and flushed
 pub record RanTo (call : Call) (status : Status) : Type 0 where
   pub program : Program
   pub called : IsCalledFor call program
-  pub ran : Ran program call.corpus call.out status
+  pub ran : Ran call.pool called.text program call.corpus call.out status
 
--- the called program ran, and a prefix of what it means is written
+-- the pool ran the called program, and a prefix of its lines is written
 pub record RanTowards (call : Call) : Type 0 where
   pub program : Program
   pub called : IsCalledFor call program
-  pub ran : RanInPart program call.corpus call.out
+  pub ran : RanInPart call.pool called.text program call.corpus call.out
 
 -- the file of this name holds a text that gives these bytes
 pub record IsGivenBy (files : FilesEnds) (name : List ℕ) (Gives : List ℕ → List ℕ → Type 0) (bytes : List ℕ) : Type 0 where
@@ -58,12 +61,20 @@ pub record IsGivenBy (files : FilesEnds) (name : List ℕ) (Gives : List ℕ →
   pub given : Gives text bytes
 
 -- these bytes are to be written for an order that reads no corpus
-abbrev pub IsMeant : FilesEnds → Order → List ℕ → Type 0
-IsMeant files (to_run name) bytes = ⊥
-IsMeant files (to_check name) bytes = IsGivenBy files name GivesOk bytes
-IsMeant files (to_plan name) bytes = IsGivenBy files name GivesPlan bytes
-IsMeant files (to_generate count) bytes = bytes ≡ generated_corpus count
-IsMeant files (to_demonstrate count) bytes = GivesSummary count bytes
+abbrev pub IsMeant : FilesEnds → PoolEnds → Order → List ℕ → Type 0
+IsMeant files pool (to_run name) bytes = ⊥
+IsMeant files pool (to_check name) bytes = IsGivenBy files name GivesOk bytes
+IsMeant files pool (to_plan name) bytes = IsGivenBy files name GivesPlan bytes
+IsMeant files pool (to_generate count) bytes = bytes ≡ generated_corpus count
+IsMeant files pool (to_demonstrate count) bytes = GivesSummary pool count bytes
+
+-- the demonstration alone hands documents to the pool, of the orders that read no corpus
+abbrev pub IsAskedFor : PoolEnds → Order → Type 0
+IsAskedFor pool (to_run name) = ⊥
+IsAskedFor pool (to_check name) = IsUnasked pool
+IsAskedFor pool (to_plan name) = IsUnasked pool
+IsAskedFor pool (to_generate count) = IsUnasked pool
+IsAskedFor pool (to_demonstrate count) = ⊤
 
 -- the words ask for something that reads no corpus; all that is to be written for it is written and flushed, and no call of
 -- the files, the corpus and the output failed
@@ -71,7 +82,8 @@ pub record Wrote (call : Call) : Type 0 where
   pub order : Order
   pub words : IsOrder call.words order
   pub bytes : List ℕ
-  pub meant : IsMeant call.files order bytes
+  pub meant : IsMeant call.files call.pool order bytes
+  pub asked : IsAskedFor call.pool order
   pub unfailed : FilesNeverFailed call.files
   pub unread : IsUnread call.corpus
   pub sent : HasSent call.out bytes
@@ -81,12 +93,14 @@ pub record WroteInPart (call : Call) : Type 0 where
   pub order : Order
   pub words : IsOrder call.words order
   pub bytes : List ℕ
-  pub meant : IsMeant call.files order bytes
+  pub meant : IsMeant call.files call.pool order bytes
+  pub asked : IsAskedFor call.pool order
   pub unread : IsUnread call.corpus
   pub front : GainedFront call.out bytes
 
--- the corpus and the output are as they were
-pub record IsIdle (corpus : SourceEnds) (out : SinkEnds) : Type 0 where
+-- nothing is handed to the pool, and the corpus and the output are as they were
+pub record IsIdle (pool : PoolEnds) (corpus : SourceEnds) (out : SinkEnds) : Type 0 where
+  pub unasked : IsUnasked pool
   pub unread : IsUnread corpus
   pub untouched : IsUntouched out
 
@@ -94,15 +108,26 @@ pub record IsIdle (corpus : SourceEnds) (out : SinkEnds) : Type 0 where
 abbrev pub WroteTowards : Call → Type 0
 WroteTowards call = RanTowards call ⊎ WroteInPart call
 
+-- the words ask for the demonstration, which is under way
+pub record CountsTowards (call : Call) : Type 0 where
+  pub count : ℕ
+  pub words : IsOrder call.words (to_demonstrate count)
+  pub counted : IsCountedInPart call.pool count
+
+-- nothing is written, and nothing is handed to the pool but by the demonstration
+pub record WroteNothing (call : Call) : Type 0 where
+  pub gained : Gained call.out []
+  pub handed : IsUnasked call.pool ⊎ CountsTowards call
+
 -- whatever a call answers: what it wrote is nothing, or a prefix of what is asked for
 abbrev pub WroteFront : Call → Type 0
-WroteFront call = Gained call.out [] ⊎ WroteTowards call
+WroteFront call = WroteNothing call ⊎ WroteTowards call
 
 -- the words name a program file, and nothing is read of the corpus and written
 pub record StoppedBefore (call : Call) : Type 0 where
   pub name : List ℕ
   pub words : IsFileOrder call.words name
-  pub idle : IsIdle call.corpus call.out
+  pub idle : IsIdle call.pool call.corpus call.out
 
 -- the words name a file whose text has this fault and no other, and nothing is read of the corpus and written
 pub record RefusedFor (call : Call) (fault : ProgramFault) : Type 0 where
@@ -111,13 +136,13 @@ pub record RefusedFor (call : Call) (fault : ProgramFault) : Type 0 where
   pub words : IsFileOrder call.words name
   pub file : IsReadAs call.files name text
   pub cause : HasOnlyFault text fault
-  pub idle : IsIdle call.corpus call.out
+  pub idle : IsIdle call.pool call.corpus call.out
 
 -- the words ask for nothing, no call of the files failed, and the corpus and the output are as they were
 pub record AsksForNothing (call : Call) : Type 0 where
   pub words : IsNoOrder call.words
   pub unfailed : FilesNeverFailed call.files
-  pub idle : IsIdle call.corpus call.out
+  pub idle : IsIdle call.pool call.corpus call.out
 
 -- the cause of each status, before its line is written
 abbrev pub HasCauseOf : Call → Status → Type 0

@@ -1,12 +1,8 @@
 -- What a plan gives for a document. Only private clauses cite this.
 use Rattle.std.specs.Prelude.{ℕ, List, length, map}
 use Rattle.span_token.specs.Documents.{Doc}
-use Rattle.row_values.specs.Datums.{Datum}
-use Rattle.row_values.specs.Outputs.{OutputNames}
-use Rattle.corpus_json.specs.Outputs.{output_line}
 use Rattle.algebra.specs.Plans.{Parts}
-use Rattle.algebra.specs.Values.{val}
-pub use Rattle.window_lines.specs.Lines.{names_in, rows_by, line_by}
+pub use Rattle.run_pool.specs.Lines.{names_in, rows_by, line_by}
 use Rattle.demo_corpus.specs.Summaries.{summary_of}
 use Rattle.demo_corpus.specs.Totals.{tally_of}
 

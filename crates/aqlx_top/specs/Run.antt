@@ -1,4 +1,4 @@
--- What a program means on a corpus, and how a run of it ends.
+-- What a program means on a document.
 use Rattle.std.specs.Prelude.{ℕ, List, map, Option}
 use Rattle.span_token.specs.Documents.{Doc}
 use Rattle.row_values.specs.Datums.{Datum}
@@ -11,9 +11,6 @@ use Rattle.aql_typed.specs.Trees.{Query}
 use Rattle.aql_typed.specs.Views.{body_of}
 use Rattle.aql_typed.specs.Programs.{names_of}
 use Rattle.aql_typed.specs.Meaning.{output_rows}
-use Rattle.aqlx_top.specs.declared.status.Status.{Status}
-use Rattle.aqlx_top.specs.Devices.{SourceEnds, SinkEnds}
-use Rattle.aqlx_top.specs.Endings.{Came, InPart}
 
 -- a program: its outputs with their columns, the view that each of them shows, or the document, the bodies of its views,
 -- and its patterns and dictionaries
@@ -46,11 +43,3 @@ rows_for program document = map (output_rows program.lists document program.bodi
 -- the line that a program means on a document
 abbrev pub line_of : Program → Doc → List ℕ
 line_of program document = output_line document program.outputs (rows_for program document)
-
--- a run of a program that came to this status
-abbrev pub Ran : Program → SourceEnds → SinkEnds → Status → Type 0
-Ran program corpus out status = Came (line_of program) corpus out status
-
--- a run of a program at any moment
-abbrev pub RanInPart : Program → SourceEnds → SinkEnds → Type 0
-RanInPart program corpus out = InPart (line_of program) corpus out.held_before out.held_after

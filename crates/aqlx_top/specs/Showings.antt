@@ -9,8 +9,10 @@ use Rattle.aqlx_top.specs.declared.status.ProgramFault.{ProgramFault}
 use Rattle.aqlx_top.specs.declared.modes.Shown.{Shown}
 use Rattle.aqlx_top.specs.declared.modes.Shown.TheVariants.{Check, Plan}
 use Rattle.aqlx_top.specs.Devices.{FilesEnds, SinkEnds, FilesFailed, SinkFailed, GainedFront, HasSent, IsUntouched}
-use Rattle.aqlx_top.specs.Modes.{GivesOk, GivesPlan, GivesSummary}
+use Rattle.aqlx_top.specs.Handing.{PoolEnds}
+use Rattle.aqlx_top.specs.Modes.{GivesOk, GivesPlan}
 use Rattle.aqlx_top.specs.Outcome.{IsReadAs}
+use Rattle.aqlx_top.specs.PoolRuns.{GivesSummary}
 use Rattle.aqlx_top.specs.ProgramFaults.{HasOnlyFault}
 
 -- what is shown of a program's text
@@ -50,9 +52,9 @@ IsFileShown Gives name files out status =
     ⊎ ((text : List ℕ) × IsReadAs files name text × IsTextShown Gives text out status)
 
 -- the demonstration's summary is written, or its writing failed
-pub record IsSummarySent (count : ℕ) (out : SinkEnds) (status : Status) : Type 0 where
+pub record IsSummarySent (pool : PoolEnds) (count : ℕ) (out : SinkEnds) (status : Status) : Type 0 where
   pub bytes : List ℕ
-  pub given : GivesSummary count bytes
+  pub given : GivesSummary pool count bytes
   pub sent : IsSent out bytes status
 
 -- the rows of the outputs, so many, on one document more are counted

@@ -25,6 +25,7 @@ mod top;
 mod type_line;
 mod windows;
 mod words;
+mod workers;
 
 pub use aql_lexer::LexFault;
 pub use aql_parser::SyntaxFault;

@@ -66,7 +66,7 @@ fn show_text<O: Sink>(
 }
 
 /// Nothing is done: it says what holds of every plan.
-fn told_of(plan: &Plan)
+pub(crate) fn told_of(plan: &Plan)
     ensures nodes { IsPlan plan.now.nodes }
     ensures outputs { AreOutputs plan.now.nodes plan.now.outputs }
 {

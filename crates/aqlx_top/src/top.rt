@@ -1,5 +1,6 @@
 ghost use Rattle.std.specs.Prelude.{◌≡◌, map, string_bytes, ◌≤◌, ℕ, List, IfOk, OnErr};
 ghost use Rattle.aqlx_top.specs.Devices.{files_between, source_between, sink_between, IsUnread};
+ghost use Rattle.aqlx_top.specs.Handing.{pool_between};
 ghost use Rattle.aqlx_top.specs.Outcome.{Outcome, call_of, HasCauseOf, WroteFront};
 ghost use Rattle.aqlx_top.specs.Orders.{asked_told, IsForWorkers};
 ghost use Rattle.aqlx_top.specs.Words.{to_run, IsOrder, IsNoRun};
@@ -8,13 +9,14 @@ ghost use Rattle.aqlx_top.specs.Stages.{IsFileRunTo, IsFileInPart, IsTextRunTo, 
 use crate::Status;
 use crate::demonstration::demonstrate;
 use crate::limits::MOST_READ;
-use crate::modes::{Shown, generate, show_file};
+use crate::modes::{Shown, generate, show_file, told_of};
 use crate::program::compile;
 use crate::program_file::read_file;
 use crate::status_line::report;
-use crate::windows::run_by;
 use crate::words::{Asked, Order, order_of};
+use crate::workers::run_by;
 use aql_io::{Files, Sink, Source};
+use run_pool::Pool;
 use span_token::{Failure, OutOfMemory};
 use std::alloc::Global;
 use std::thread::Threads;
@@ -32,12 +34,16 @@ use std::thread::Threads;
 /// failed read; with 5 and after want of memory a prefix is written. `run` holds one line of the corpus, and
 /// one piece of output beyond the lines of one document; `plan` and `demo` hold their text.
 ///
+/// `run` and `demo` hand each document to `pool`, in order and once, with a plan whose text `plan` writes, and write or
+/// count the rows that it answered. The program's pool is `Workers`; a sound pool's lines are those that the program
+/// means.
+///
 /// With `--workers N`, N from 2 on, `run` answers the lines that are ready by N workers, each in a thread of
 /// its own but for the first one, and holds what one read brought, or a window of large documents, and its
 /// lines; no byte of what is written depends on N. All other calls start no thread.
 ///
 /// Meaning: `Outcome`, `specs/Outcome.antt`; docs/FORMATS.md, "Exit status and standard error".
-pub fn aqlx<R: Threads + Sync, F: Files, S: Source, O: Sink, E: Sink>(
+pub fn aqlx<R: Threads + Sync, F: Files, S: Source, O: Sink, E: Sink, P: Pool>(
     rt: &R,
     alloc: Global,
     words: &Vec<String>,
@@ -45,124 +51,142 @@ pub fn aqlx<R: Threads + Sync, F: Files, S: Source, O: Sink, E: Sink>(
     corpus: &mut S,
     out: &mut O,
     err: &mut E,
+    pool: &mut P,
 ) -> Result<Status, OutOfMemory>
     ensures { Outcome
         (call_of (map string_bytes words.now.items) (files_between F.told F.faults files.old files.new)
+        (pool_between P.means P.told pool.old pool.new)
         (source_between S.left S.faults corpus.old corpus.new)
         (sink_between O.held O.flushed O.faults out.old out.new))
         (sink_between E.held E.flushed E.faults err.old err.new)
         result }
 {
-    let status = carry_out(rt, alloc, words, files, corpus, out)?;
+    let status = carry_out(rt, alloc, words, files, pool, corpus, out)?;
     report(alloc, err, status)
 }
 
 /// Does what the words ask for, and tells how it ended.
-fn carry_out<R: Threads + Sync, F: Files, S: Source, O: Sink>(
+fn carry_out<R: Threads + Sync, F: Files, S: Source, O: Sink, P: Pool>(
     rt: &R,
     alloc: Global,
     words: &Vec<String>,
     files: &mut F,
+    pool: &mut P,
     corpus: &mut S,
     out: &mut O,
 ) -> Result<Status, OutOfMemory>
     ensures cause { IfOk result (HasCauseOf
         (call_of (map string_bytes words.now.items) (files_between F.told F.faults files.old files.new)
+        (pool_between P.means P.told pool.old pool.new)
         (source_between S.left S.faults corpus.old corpus.new)
         (sink_between O.held O.flushed O.faults out.old out.new))) }
     ensures front { OnErr result (WroteFront
         (call_of (map string_bytes words.now.items) (files_between F.told F.faults files.old files.new)
+        (pool_between P.means P.told pool.old pool.new)
         (source_between S.left S.faults corpus.old corpus.new)
         (sink_between O.held O.flushed O.faults out.old out.new))) }
     ensures unread { IsNoRun (map string_bytes words.now.items) → IsUnread (source_between S.left S.faults corpus.old corpus.new) }
 {
     match order_of(words) {
-        Some(asked) => follow(rt, alloc, asked, files, corpus, out),
+        Some(asked) => follow(rt, alloc, asked, files, pool, corpus, out),
         None => Ok(Status::Usage),
     }
 }
 
 /// Does what is asked for.
-fn follow<R: Threads + Sync, F: Files, S: Source, O: Sink>(
+fn follow<R: Threads + Sync, F: Files, S: Source, O: Sink, P: Pool>(
     rt: &R,
     alloc: Global,
     asked: Asked<'_>,
     files: &mut F,
+    pool: &mut P,
     corpus: &mut S,
     out: &mut O,
 ) -> Result<Status, OutOfMemory>
     requires workers { IsForWorkers asked }
     ensures cause { IfOk result (λ status. (words : List (List ℕ)) → IsOrder words (asked_told asked.entry) → HasCauseOf
         (call_of words (files_between F.told F.faults files.old files.new)
+        (pool_between P.means P.told pool.old pool.new)
         (source_between S.left S.faults corpus.old corpus.new)
         (sink_between O.held O.flushed O.faults out.old out.new)) status) }
     ensures front { OnErr result ((words : List (List ℕ)) → IsOrder words (asked_told asked.entry) → WroteFront
         (call_of words (files_between F.told F.faults files.old files.new)
+        (pool_between P.means P.told pool.old pool.new)
         (source_between S.left S.faults corpus.old corpus.new)
         (sink_between O.held O.flushed O.faults out.old out.new))) }
     ensures unread { ((name : List ℕ) → ¬ (asked_told asked.entry ≡ to_run name)) → IsUnread (source_between S.left S.faults corpus.old corpus.new) }
 {
     let Asked { order, workers } = asked;
     match order {
-        Order::Run(name) => run_file(rt, alloc, workers, name, files, corpus, out),
+        Order::Run(name) => run_file(rt, alloc, workers, name, files, pool, corpus, out),
         Order::Check(name) => show_file(alloc, Shown::Check, name, files, out),
         Order::Plan(name) => show_file(alloc, Shown::Plan, name, files, out),
         Order::Gen(count) => generate(alloc, count, out),
-        Order::Demo(count) => demonstrate(alloc, count, out),
+        Order::Demo(count) => demonstrate(alloc, count, pool, out),
     }
 }
 
 /// Reads a program file and runs its program.
-fn run_file<R: Threads + Sync, F: Files, S: Source, O: Sink>(
+fn run_file<R: Threads + Sync, F: Files, S: Source, O: Sink, P: Pool>(
     rt: &R,
     alloc: Global,
     workers: u32,
     name: &str,
     files: &mut F,
+    pool: &mut P,
     corpus: &mut S,
     out: &mut O,
 ) -> Result<Status, OutOfMemory>
     requires some { 1 ≤ workers }
     ensures ran { IfOk result (IsFileRunTo name.now (files_between F.told F.faults files.old files.new)
+        (pool_between P.means P.told pool.old pool.new)
         (source_between S.left S.faults corpus.old corpus.new)
         (sink_between O.held O.flushed O.faults out.old out.new)) }
     ensures part { OnErr result (IsFileInPart name.now (files_between F.told F.faults files.old files.new)
+        (pool_between P.means P.told pool.old pool.new)
         (source_between S.left S.faults corpus.old corpus.new)
         (sink_between O.held O.flushed O.faults out.old out.new)) }
 {
     match read_file(alloc, files, name, MOST_READ)? {
-        Some(bytes) => run_text(rt, alloc, workers, &bytes, corpus, out),
+        Some(bytes) => run_text(rt, alloc, workers, &bytes, pool, corpus, out),
         None => Ok(Status::ReadFault),
     }
 }
 
 /// Runs the program that a file's bytes hold.
-fn run_text<R: Threads + Sync, S: Source, O: Sink>(
+fn run_text<R: Threads + Sync, S: Source, O: Sink, P: Pool>(
     rt: &R,
     alloc: Global,
     workers: u32,
     bytes: &[u8],
+    pool: &mut P,
     corpus: &mut S,
     out: &mut O,
 ) -> Result<Status, OutOfMemory>
     requires some { 1 ≤ workers }
     ensures ran { IfOk result (IsTextRunTo bytes.now
+        (pool_between P.means P.told pool.old pool.new)
         (source_between S.left S.faults corpus.old corpus.new)
         (sink_between O.held O.flushed O.faults out.old out.new)) }
     ensures part { OnErr result (IsTextInPart bytes.now
+        (pool_between P.means P.told pool.old pool.new)
         (source_between S.left S.faults corpus.old corpus.new)
         (sink_between O.held O.flushed O.faults out.old out.new)) }
 {
     match compile(alloc, bytes) {
-        Ok(program) => run_by(
-            rt,
-            alloc,
-            workers,
-            &program.plan,
-            &program.outputs,
-            corpus,
-            out,
-        ),
+        Ok(program) => {
+            told_of(&program.plan);
+            run_by(
+                rt,
+                alloc,
+                workers,
+                &program.plan,
+                &program.outputs,
+                pool,
+                corpus,
+                out,
+            )
+        }
         Err(Failure::Fault(fault)) => Ok(Status::Program(fault)),
         Err(Failure::OutOfMemory) => Err(OutOfMemory),
     }

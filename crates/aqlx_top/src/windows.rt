@@ -17,7 +17,7 @@ ghost use Rattle.window_lines.specs.Lines.{AreShort};
 
 use crate::asks::asks_for_tokens;
 use crate::put::put;
-use crate::run::{PIECE, Turn, finish, run};
+use crate::run::{PIECE, Turn, finish};
 use crate::{CorpusFault, Status};
 use algebra::Plan;
 use aql_io::{Failed, Sink, Source};
@@ -25,6 +25,7 @@ use corpus_json::{DocumentReader, Input, Layout, LineBuffer, NotDocument, Step};
 use memchr::memchr;
 use plan_operators::Schedule;
 use row_values::Output;
+use run_pool::Workers;
 use span_token::{Failure, OutOfMemory};
 use std::alloc::Global;
 use std::thread::Threads;
@@ -65,34 +66,8 @@ pub(crate) struct Windowed<'p> {
     pub pending: Vec<u8>,
 }
 
-/// Runs a plan over a corpus by so many workers: one evaluates line by line, and several in windows.
-pub(crate) fn run_by<R: Threads + Sync, S: Source, O: Sink>(
-    rt: &R,
-    alloc: Global,
-    workers: u32,
-    plan: &Plan,
-    outputs: &[Output],
-    corpus: &mut S,
-    out: &mut O,
-) -> Result<Status, OutOfMemory>
-    requires some { 1 ≤ workers }
-    requires outputs { outputs.now ≡ names_in plan.now }
-    ensures ran { IfOk result (IsRunTo (line_by plan.now)
-        (source_between S.left S.faults corpus.old corpus.new)
-        (sink_between O.held O.flushed O.faults out.old out.new)) }
-    ensures part { OnErr result (InPart (line_by plan.now)
-        (source_between S.left S.faults corpus.old corpus.new)
-        (O.held out.old) (O.held out.new)) }
-{
-    if workers > 1 {
-        run_in_windows(rt, alloc, workers, plan, outputs, corpus, out)
-    } else {
-        run(alloc, plan, outputs, corpus, out)
-    }
-}
-
 /// Runs a plan over a corpus as `run` does, with the documents evaluated in windows by so many workers.
-fn run_in_windows<R: Threads + Sync, S: Source, O: Sink>(
+pub(crate) fn run_in_windows<R: Threads + Sync, S: Source, O: Sink>(
     rt: &R,
     alloc: Global,
     workers: u32,
@@ -432,6 +407,7 @@ fn evaluate_window<R: Threads + Sync>(
         &work.layout,
         &mut work.crew,
         work.workers,
+        &mut Workers,
         &work.window,
         &mut work.pending,
     )?;

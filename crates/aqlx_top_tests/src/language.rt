@@ -1,5 +1,5 @@
 //! What programs of the whole language write: worked rows, each compared byte for byte.
-use crate::setup::{run, usual};
+use crate::setup::{PERSONS, PERSONS_DOCUMENT, PERSONS_LINE, run, usual};
 use std::test::Fail;
 
 /// Each row: a program, a document, and the line that is written for it.
@@ -59,11 +59,7 @@ const LANGUAGE: [(&str, &str, &str); 24] = [
         r#"{"label":"a","views":{"P":[{"num":{"begin":2,"end":4,"text":"12"}},{"num":{"begin":5,"end":8,"text":"345"}}]}}"#,
     ),
     // persons and phones
-    (
-        r#"create dictionary FirstNames as ('Ann','John','Maria'); create view FirstName as extract dictionary 'FirstNames' on D.text as name from Document D; create view Caps as extract regex /[A-Z][a-z]+/ on 1 tokens in D.text as word from Document D; create view Person as select CombineSpans(F.name, C.word) as name from FirstName F, Caps C where FollowsTok(F.name, C.word, 0, 0) consolidate on name using 'ContainedWithin'; create view Phone as extract regex /\d{3}-\d{4}/ on D.text as number from Document D; create view PersonPhone as select P.name as person, N.number as phone from Person P, Phone N where Follows(P.name, N.number, 0, 20) order by person; output view PersonPhone; output view Person;"#,
-        r#"{"label":"m1","text":"Call John Smith at 555-0134 or Ann Lee, 555-0199."}"#,
-        r#"{"label":"m1","views":{"Person":[{"name":{"begin":5,"end":15,"text":"John Smith"}},{"name":{"begin":31,"end":38,"text":"Ann Lee"}}],"PersonPhone":[{"person":{"begin":5,"end":15,"text":"John Smith"},"phone":{"begin":19,"end":27,"text":"555-0134"}},{"person":{"begin":31,"end":38,"text":"Ann Lee"},"phone":{"begin":40,"end":48,"text":"555-0199"}}]}}"#,
-    ),
+    (PERSONS, PERSONS_DOCUMENT, PERSONS_LINE),
     // a total beyond the range
     (
         r#"create view P as extract regex /[0-9]+/ on D.text as num from Document D; create view S as select Sum(9223372036854775807) as total from P; output view S;"#,

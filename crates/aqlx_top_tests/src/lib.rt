@@ -12,6 +12,8 @@ mod language;
 #[cfg(test)]
 mod modes;
 #[cfg(test)]
+mod pools;
+#[cfg(test)]
 mod programs;
 #[cfg(test)]
 mod setup;

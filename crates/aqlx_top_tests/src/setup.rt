@@ -1,6 +1,7 @@
 //! A run of the top call over files, a source and sinks in memory.
 use aql_io::{MemFiles, MemSink, MemSource};
 use aqlx_top::aqlx;
+use run_pool::{Pool, Workers};
 use std::alloc::Global;
 use std::collections::BTreeMap;
 use std::test::Fail;
@@ -9,6 +10,18 @@ use std::thread::Threads;
 /// The program of one view that finds numbers.
 pub const NUMBERS: &str =
     "create view P as extract regex /[0-9]+/ on D.text as num from Document D; output view P;";
+
+/// A program of persons and their telephone numbers, of two outputs.
+pub const PERSONS: &str =
+    r#"create dictionary FirstNames as ('Ann','John','Maria'); create view FirstName as extract dictionary 'FirstNames' on D.text as name from Document D; create view Caps as extract regex /[A-Z][a-z]+/ on 1 tokens in D.text as word from Document D; create view Person as select CombineSpans(F.name, C.word) as name from FirstName F, Caps C where FollowsTok(F.name, C.word, 0, 0) consolidate on name using 'ContainedWithin'; create view Phone as extract regex /\d{3}-\d{4}/ on D.text as number from Document D; create view PersonPhone as select P.name as person, N.number as phone from Person P, Phone N where Follows(P.name, N.number, 0, 20) order by person; output view PersonPhone; output view Person;"#;
+
+/// A document of two persons.
+pub const PERSONS_DOCUMENT: &str =
+    r#"{"label":"m1","text":"Call John Smith at 555-0134 or Ann Lee, 555-0199."}"#;
+
+/// Its line.
+pub const PERSONS_LINE: &str =
+    r#"{"label":"m1","views":{"Person":[{"name":{"begin":5,"end":15,"text":"John Smith"}},{"name":{"begin":31,"end":38,"text":"Ann Lee"}}],"PersonPhone":[{"person":{"begin":5,"end":15,"text":"John Smith"},"phone":{"begin":19,"end":27,"text":"555-0134"}},{"person":{"begin":31,"end":38,"text":"Ann Lee"},"phone":{"begin":40,"end":48,"text":"555-0199"}}]}}"#;
 
 /// A corpus of one document without a number.
 pub const NO_NUMBERS: &str = "{\"text\":\"none\"}\n";
@@ -56,6 +69,16 @@ pub(crate) fn run<R: Threads + Sync>(
     alloc: Global,
     setup: &Setup<'_>,
 ) -> Result<Ran, Fail> {
+    run_by(rt, alloc, setup, &mut Workers)
+}
+
+/// Runs it by a pool.
+pub(crate) fn run_by<R: Threads + Sync, P: Pool>(
+    rt: &R,
+    alloc: Global,
+    setup: &Setup<'_>,
+    pool: &mut P,
+) -> Result<Ran, Fail> {
     let mut words = Vec::new(alloc);
     for word in setup.words {
         words.push(String::from_str(alloc, word)?)?;
@@ -87,6 +110,7 @@ pub(crate) fn run<R: Threads + Sync>(
         &mut corpus,
         &mut out,
         &mut err,
+        pool,
     )?;
     Ok(Ran {
         code: status.code(),

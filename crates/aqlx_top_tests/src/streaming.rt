@@ -4,6 +4,7 @@ ghost use Rattle.std.specs.Prelude.{Some};
 use crate::setup::NUMBERS;
 use aql_io::{Failed, MemFiles, MemSink, MemSource, Sink, Source};
 use aqlx_top::aqlx;
+use run_pool::Workers;
 use std::alloc::Global;
 use std::cell::Cell;
 use std::collections::BTreeMap;
@@ -92,6 +93,7 @@ fn seen_at_reads<R: Threads + Sync>(
         &mut source,
         &mut out,
         &mut err,
+        &mut Workers,
     )?;
     if status.code() == 0 {
         Ok(source.seen)

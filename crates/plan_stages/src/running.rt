@@ -8,6 +8,7 @@ use anyhow::{Result, bail};
 use aql_io::Source;
 use corpus_json::{DocumentReader, LINE_LIMIT, Layout, LineBuffer, Step};
 use plan_operators::Schedule;
+use run_pool::Workers;
 use scalar_ops::Tools;
 use std::alloc::Global;
 use std::io::Write;
@@ -109,6 +110,7 @@ fn append_line(
             true,
             layout,
             tools,
+            &mut Workers,
             input,
             &mut lines.room,
             &mut lines.pending,

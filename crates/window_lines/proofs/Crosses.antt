@@ -14,13 +14,14 @@ use Rattle.corpus_json.proofs.write.layout.Layout.TheSendSync as layout
 use Rattle.scalar_ops.proofs.Crosses.{tools}
 use Rattle.plan_operators.specs.contracts.schedule.Schedule as Schedule
 use Rattle.worker_pool.proofs.Crosses.{Plan-sync}
+use Rattle.run_pool.specs.declared.pool.Pool.{Ghosts}
 use Rattle.window_lines.specs.contracts.lines.Writing as Writing
 use Rattle.window_lines.specs.contracts.hands.Hand as Hand
 use Rattle.window_lines.specs.contracts.ready.Ready as Ready
 
--- what they share may be shared
-pub Writing-sync : (a l d : NamedLft) → IsSync (Writing.the_row a l d)
-Writing-sync a l d = search (Plan-sync, layout.the_sync, document.the_sync, vec.the_sync, crosses, sendable) depth 60 fits 20000
+-- what they share may be shared, with a pool that may be
+pub Writing-sync : (a l d : NamedLft) (P : RattleType) (ghosts : Ghosts P.Denot) → IsSync P → IsSync (Writing.the_row a l d P ghosts)
+Writing-sync a l d P ghosts shared = search (Plan-sync, layout.the_sync, document.the_sync, vec.the_sync, crosses, sendable) depth 60 fits 20000
 
 pub one_captured_sync : (ν : Sym) (A : RattleType) → IsSync A → IsSync (TupleAt ν (A ∷ []))
 one_captured_sync ν A a = search sendable depth 20

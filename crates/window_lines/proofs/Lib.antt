@@ -1,5 +1,7 @@
 -- what the outputs of a plan show, by rows that are theirs
 pub mod Sharing
+-- what was handed to a pool
+pub mod Handing
 -- stretches of lists
 pub mod Stretches
 -- parts of bytes, whose lines were answered

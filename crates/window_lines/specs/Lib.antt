@@ -7,8 +7,6 @@ pub mod Answered
 -- threads that answer lines by themselves
 pub mod Hands
 -- Laws
--- lines of lists of rows that are the same bags
-pub mod LineLaws
 -- the documents of lines, from the first one on
 pub mod DocumentLaws
 -- lines that are answered, and more lines behind them

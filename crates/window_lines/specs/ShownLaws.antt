@@ -1,15 +1,20 @@
 -- What the outputs of a plan show, by the rows that its nodes have.
-use Rattle.std.proofs.Common.{◌≡◌, ℕ, List, [], ◌∷◌, map, length, refl, sym, ap₂, ◌∙◌, All, Option, Some, None, slice_index_or}
+use Rattle.std.proofs.Common.{◌≡◌, ℕ, List, [], ◌∷◌, map, length, refl, sym, subst, ap₂, ◌∙◌, All, Option, Some, None, slice_index_or}
 use Rattle.std.specs.List.{AllZip}
+use Rattle.std.proofs.lemmas.Simd.{map-map}
 use Rattle.std.proofs.lemmas.List.Elements.{All-nil, All-cons, All-head, All-tail}
 use Rattle.aql_base.specs.Bags.{SameBag}
 use Rattle.span_token.specs.Documents.{Doc}
+use Rattle.row_values.specs.Datums.{Datum}
+use Rattle.row_values.specs.Outputs.{OutputNames}
 use Rattle.row_values.specs.Rows.{RowList, RowsLieIn}
 use Rattle.algebra.specs.declared.output.PlanOut.{PlanOut}
 use Rattle.algebra.specs.Plans.{Parts, IsOutput}
 use Rattle.algebra.specs.Shapes.{shapes_of}
 use Rattle.algebra.specs.Values.{val}
 use Rattle.plan_operators.specs.Boards.{Holds, rows_there}
+use Rattle.run_pool.specs.Answers.{IsAnswer}
+use Rattle.run_pool.specs.Lines.{AreSameBags, rows_by}
 
 -- the list of an output
 abbrev pub list_of : List (Option RowList) → PlanOut → RowList
@@ -51,3 +56,13 @@ module _ (plan : Parts) (doc : Doc) (board : List (Option RowList)) where
   rows_lie (out ∷ outs) all =
       All-cons (RowsLieIn doc) (list_of board out).rows (map (λ (out : PlanOut). (list_of board out).rows) outs)
       (lies (slice_index_or board out.node None) out.node (All-head IsShown out outs all)) (rows_lie outs (All-tail IsShown out outs all))
+
+  -- so the lists are an answer with what was found
+  pub shown_answer : All IsShown plan.outputs → All (IsOutput (shapes_of plan.nodes)) plan.outputs → IsAnswer rows_by plan doc (map (list_of board) plan.outputs)
+  shown_answer all valid = record {
+    bags = subst (λ (lists : List (List (List Datum))). AreSameBags lists (rows_by plan doc))
+        (sym (map-map (λ (list : RowList). list.rows) (list_of board) plan.outputs)) (same_bags plan.outputs all);
+    wide = map-map (λ (list : RowList). list.width) (list_of board) plan.outputs ∙ widths_shown plan.outputs all valid
+        ∙ sym (map-map (λ (output : OutputNames). length output.columns) (λ (out : PlanOut). out.names) plan.outputs);
+    lies = subst (All (RowsLieIn doc)) (sym (map-map (λ (list : RowList). list.rows) (list_of board) plan.outputs)) (rows_lie plan.outputs all);
+  }

@@ -1,16 +1,21 @@
 //! The line of one document, by one thread.
 
 ghost use Rattle.std.specs.Prelude.{◌≡◌, ◌≤◌, ◌++◌, ◌∷◌, [], not, All, IfOk, OnOk, IsSome, None, ◌<◌, length, map, slice_index_or};
-ghost use Rattle.corpus_json.specs.Documents.{is_bad_line};
+ghost use Rattle.corpus_json.specs.Documents.{documents, is_bad_line};
 ghost use Rattle.corpus_json.specs.Inputs.{doc_of, doc_of_ref};
+ghost use Rattle.corpus_json.specs.Outputs.{output_line, rows_of, width_of};
 ghost use Rattle.plan_operators.specs.Boards.{Holds, rows_there};
+ghost use Rattle.row_values.specs.Rows.{RowsLieIn};
+ghost use Rattle.run_pool.specs.Answers.{IsAnswer};
+ghost use Rattle.run_pool.specs.Entries.{entry_of, AreHanded};
+ghost use Rattle.run_pool.specs.Lines.{line_from, names_in, rows_by};
 ghost use Rattle.window_lines.specs.Answered.{answer_to};
-ghost use Rattle.window_lines.specs.Lines.{line_by, names_in};
 
 use algebra::{Plan, PlanOut};
 use corpus_json::{DocumentReader, Input, InputRef, Layout, NotDocument, append_document};
 use plan_operators::{Schedule, evaluate, rows_shown};
 use row_values::Rows;
+use run_pool::{Answered, Pool};
 use scalar_ops::Tools;
 use span_token::{Document, Failure, OutOfMemory};
 use std::alloc::Global;
@@ -33,18 +38,20 @@ impl Room {
     }
 }
 
-/// Puts what is written for a line of the corpus, without its LF, behind what is pending: an output line for a
-/// document, and nothing for a blank line. False where the line is neither, and nothing is put.
+/// Hands the document of a line of the corpus, without its LF, to a pool, and puts what is written for the line
+/// behind what is pending: the line that the pool answers, and nothing for a blank line. False where the line is
+/// neither, and nothing is put or handed over.
 ///
 /// `schedule` is the plan's, `layout` has its outputs, and `tools` are made of its tables. `with_tokens` says
 /// whether the document keeps its tokens, and changes no byte.
-pub fn answer_line(
+pub fn answer_line<P: Pool>(
     alloc: Global,
     schedule: &Schedule<'_>,
     with_tokens: bool,
     layout: &Layout<'_>,
     tools: &mut Tools<'_>,
     room: &mut Room,
+    pool: &mut P,
     line: &[u8],
     pending: &mut Vec<u8>,
 ) -> Result<bool, OutOfMemory>
@@ -52,7 +59,9 @@ pub fn answer_line(
     requires tables { tools.old ≡ schedule.now.lists }
     requires short { length line.now ≤ 16777216 }
     ensures good { IfOk result (λ good. is_bad_line line.now ≡ not good) }
-    ensures bytes { IfOk result (λ good. pending.new.items ≡ pending.old.items ++ answer_to (line_by schedule.now) (line.now ∷ [])) }
+    ensures bytes { IfOk result (λ good. pending.new.items ≡ pending.old.items ++ answer_to (line_from (P.means pool.old) schedule.now) (line.now ∷ [])) }
+    ensures handed { AreHanded (P.told pool.old) (P.told pool.new) (map (entry_of (P.means pool.old) schedule.now) (documents (line.now ∷ []))) result }
+    ensures means { P.means pool.new ≡ P.means pool.old }
     ensures same { tools.new ≡ tools.old }
 {
     match room.reader.read(line) {
@@ -63,6 +72,7 @@ pub fn answer_line(
                 with_tokens,
                 layout,
                 tools,
+                pool,
                 input,
                 &mut room.line,
                 pending,
@@ -75,18 +85,20 @@ pub fn answer_line(
     }
 }
 
-/// Puts the line of a document behind what is pending; `line` is room for it.
+/// Hands a document to a pool, with the rows that are found, and puts the line that the pool answers behind what
+/// is pending; `line` is room for it.
 ///
 /// `schedule` is the plan's, `layout` has its outputs, and `tools` are made of its tables. `with_tokens` says
 /// whether the document keeps its tokens, and changes no byte. The text is no longer than a line of the corpus.
 ///
-/// Meaning: `line_by`, `specs/Lines.antt`.
-pub fn append_answer(
+/// Meaning: `line_from`, `specs/Lines.antt` of `run_pool`.
+pub fn append_answer<P: Pool>(
     alloc: Global,
     schedule: &Schedule<'_>,
     with_tokens: bool,
     layout: &Layout<'_>,
     tools: &mut Tools<'_>,
+    pool: &mut P,
     input: InputRef<'_>,
     line: &mut Vec<u8>,
     pending: &mut Vec<u8>,
@@ -94,7 +106,9 @@ pub fn append_answer(
     requires layout { layout.now ≡ names_in schedule.now }
     requires tables { tools.old ≡ schedule.now.lists }
     requires short { length input.text.now ≤ 16777216 }
-    ensures bytes { OnOk result (pending.new.items ≡ pending.old.items ++ line_by schedule.now (doc_of_ref input.entry)) }
+    ensures bytes { OnOk result (pending.new.items ≡ pending.old.items ++ line_from (P.means pool.old) schedule.now (doc_of_ref input.entry)) }
+    ensures handed { AreHanded (P.told pool.old) (P.told pool.new) (entry_of (P.means pool.old) schedule.now (doc_of_ref input.entry) ∷ []) result }
+    ensures means { P.means pool.new ≡ P.means pool.old }
     ensures same { tools.new ≡ tools.old }
 {
     let document = document_of(alloc, with_tokens, input)?;
@@ -103,6 +117,7 @@ pub fn append_answer(
         alloc,
         schedule.plan(),
         layout,
+        pool,
         &document,
         board.as_slice(),
         line,
@@ -126,12 +141,13 @@ pub fn document_of<'d>(
     }
 }
 
-/// Puts the line of a document after what is pending; `board` has the rows of each output's node,
-/// and `line` is room for the line.
-fn append_rows<'d>(
+/// Hands a document to a pool, and puts the line that it answers behind what is pending; `board` has the rows of
+/// each output's node, and `line` is room for the line.
+fn append_rows<'d, P: Pool>(
     alloc: Global,
     plan: &Plan,
     layout: &Layout<'_>,
+    pool: &mut P,
     document: &Document<'d>,
     board: &[Option<Rows<'d>>],
     line: &mut Vec<u8>,
@@ -140,14 +156,82 @@ fn append_rows<'d>(
     requires layout { layout.now ≡ names_in plan.now }
     requires long { length board.now ≡ length plan.now.nodes }
     requires shown { All (λ out. Holds plan.now.lists document.now plan.now.nodes out.node (slice_index_or board.now out.node None)) plan.now.outputs }
-    ensures bytes { OnOk result (pending.new.items ≡ pending.old.items ++ line_by plan.now document.now) }
+    ensures bytes { OnOk result (pending.new.items ≡ pending.old.items ++ line_from (P.means pool.old) plan.now document.now) }
+    ensures handed { AreHanded (P.told pool.old) (P.told pool.new) (entry_of (P.means pool.old) plan.now document.now ∷ []) result }
+    ensures means { P.means pool.new ≡ P.means pool.old }
 {
     let shown = all_shown(alloc, plan.outputs(), board)?;
+    append_answered(
+        alloc,
+        plan,
+        layout,
+        pool,
+        document,
+        shown.as_slice(),
+        line,
+        pending,
+    )
+}
+
+/// Hands a document to a pool with the rows that were found, and puts the line that it answers behind what is
+/// pending; `line` is room for the line.
+fn append_answered<'d, P: Pool>(
+    alloc: Global,
+    plan: &Plan,
+    layout: &Layout<'_>,
+    pool: &mut P,
+    document: &Document<'d>,
+    found: &[&Rows<'d>],
+    line: &mut Vec<u8>,
+    pending: &mut Vec<u8>,
+) -> Result<(), OutOfMemory>
+    requires layout { layout.now ≡ names_in plan.now }
+    requires found { IsAnswer rows_by plan.now document.now (map (λ list. list.now) found.now) }
+    ensures bytes { OnOk result (pending.new.items ≡ pending.old.items ++ line_from (P.means pool.old) plan.now document.now) }
+    ensures handed { AreHanded (P.told pool.old) (P.told pool.new) (entry_of (P.means pool.old) plan.now document.now ∷ []) result }
+    ensures means { P.means pool.new ≡ P.means pool.old }
+{
+    match pool.answer(alloc, plan, layout, document, found)? {
+        Answered::AsFound => append_line(alloc, layout, document, found, line, pending),
+        Answered::Instead(rows) => {
+            let lent = all_lent(alloc, rows.as_slice())?;
+            append_line(alloc, layout, document, lent.as_slice(), line, pending)
+        }
+    }
+}
+
+/// Puts the line of a document with these rows behind what is pending; `line` is room for it.
+pub(crate) fn append_line(
+    alloc: Global,
+    layout: &Layout<'_>,
+    document: &Document<'_>,
+    rows: &[&Rows<'_>],
+    line: &mut Vec<u8>,
+    pending: &mut Vec<u8>,
+) -> Result<(), OutOfMemory>
+    requires columns { map width_of rows.now ≡ map (λ output. length output.columns) layout.now }
+    requires in_document { All (RowsLieIn document.now) (map rows_of rows.now) }
+    ensures bytes { OnOk result (pending.new.items ≡ pending.old.items ++ output_line document.now layout.now (map rows_of rows.now)) }
+{
     line.clear();
     let empty = mem::replace(line, Vec::new(alloc));
-    *line = append_document(alloc, empty, document, layout, shown.as_slice())?;
+    *line = append_document(alloc, empty, document, layout, rows)?;
     pending.extend_from_slice(line)?;
     Ok(())
+}
+
+/// Lists of rows, borrowed.
+pub fn all_lent<'r, 'd>(
+    alloc: Global,
+    rows: &'r [Rows<'d>],
+) -> Result<Vec<&'r Rows<'d>>, OutOfMemory>
+    ensures { IfOk result (λ lent. map (λ list. list.now) lent.items ≡ rows.now) }
+{
+    let mut lent = Vec::with_capacity(alloc, rows.len())?;
+    for list in rows {
+        lent.push(list)?;
+    }
+    Ok(lent)
 }
 
 /// The rows that each output shows.

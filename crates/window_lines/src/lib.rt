@@ -8,6 +8,7 @@
 #![tactic(auto)]
 
 mod answer;
+mod answers;
 mod documents;
 mod hands;
 mod lines;
@@ -15,7 +16,7 @@ mod ready;
 mod stretch;
 mod window;
 
-pub use answer::{Room, all_shown, answer_line, append_answer, document_of, lent};
+pub use answer::{Room, all_lent, all_shown, answer_line, append_answer, document_of, lent};
 pub use hands::Hands;
 pub use ready::{Answered, append_ready};
 pub use window::append_window;

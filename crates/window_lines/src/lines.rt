@@ -4,26 +4,28 @@ ghost use Rattle.std.specs.Prelude.{◌≡◌, ◌<◌, ◌≤◌, ◌*◌, ◌+
 ghost use Rattle.std.specs.Arc.{arc_value};
 ghost use Rattle.std.specs.Fork.{slice_chunk};
 ghost use Rattle.std.specs.List.{flat_map};
-ghost use Rattle.algebra.specs.Plans.{Parts};
-ghost use Rattle.span_token.specs.Documents.{Doc};
-ghost use Rattle.worker_pool.specs.Evaluations.{AreAnswers, AreOutputRows};
-ghost use Rattle.window_lines.specs.Lines.{line_by, names_in};
+ghost use Rattle.std.specs.Thread.{IsSync};
+ghost use Rattle.run_pool.specs.Answers.{AreAllAnswers, IsAnswer};
+ghost use Rattle.run_pool.specs.Lines.{line_from, names_in};
 
+use crate::answer::append_line;
 use crate::stretch::{stretch, stretch_count, stretch_size};
 use algebra::Plan;
-use corpus_json::{Layout, append_document};
+use corpus_json::Layout;
 use row_values::Rows;
+use run_pool::Pool;
 use span_token::{Document, OutOfMemory};
 use std::alloc::Global;
-use std::mem;
 use std::ops::Deref;
 use std::sync::Arc;
 use std::thread::{self, Threads};
 
-/// What the threads that write lines share; `answers` has for each document the rows of each output.
+/// What the threads that write lines share; `answers` has for each document the rows of each output, as the pool
+/// answered them.
 #[derive(Drop)]
-struct Writing<'a, 'l, 'd> {
+struct Writing<'a, 'l, 'd, P: Pool> {
     alloc: Global,
+    pool: &'a P,
     plan: &'a Plan,
     layout: &'a Layout<'l>,
     size: usize,
@@ -33,16 +35,17 @@ struct Writing<'a, 'l, 'd> {
     ghost of_plan: { layout.now ≡ names_in plan.now },
 }
 
-impl<'a, 'l, 'd> Writing<'a, 'l, 'd> {
+impl<'a, 'l, 'd, P: Pool> Writing<'a, 'l, 'd, P> {
     /// The lines of the stretch of number `n`.
     fn part(&self, n: usize) -> Result<Vec<u8>, OutOfMemory>
         requires begun { n * self.now.size < length self.now.docs.now }
-        requires shown { AreAnswers self.now.plan.now self.now.docs.now (map (λ rows. map arc_value rows.items) self.now.answers.now) }
-        ensures { IfOk result (λ lines. lines.items ≡ flat_map (line_by self.now.plan.now) (slice_chunk self.now.docs.now self.now.size n)) }
+        requires shown { AreAllAnswers (P.means self.now.pool.now) self.now.plan.now self.now.docs.now (map (λ rows. map arc_value rows.items) self.now.answers.now) }
+        ensures { IfOk result (λ lines. lines.items ≡ flat_map (line_from (P.means self.now.pool.now) self.now.plan.now) (slice_chunk self.now.docs.now self.now.size n)) }
     {
         let mut lines = Vec::new(self.alloc);
         append_answers(
             self.alloc,
+            self.pool,
             self.plan,
             self.layout,
             stretch(self.docs, self.size, n),
@@ -54,11 +57,12 @@ impl<'a, 'l, 'd> Writing<'a, 'l, 'd> {
 }
 
 /// Puts the lines of documents behind what is pending, in their order, made in so many threads at most;
-/// `answers` has for each document the rows of each output.
-pub(crate) fn append_lines<'d, R: Threads + Sync>(
+/// `answers` has for each document the rows of each output, as the pool answered them.
+pub(crate) fn append_lines<'d, R: Threads + Sync, P: Pool>(
     rt: &R,
     alloc: Global,
     threads: usize,
+    pool: &P,
     plan: &Plan,
     layout: &Layout<'_>,
     docs: &[Document<'d>],
@@ -67,15 +71,16 @@ pub(crate) fn append_lines<'d, R: Threads + Sync>(
 ) -> Result<(), OutOfMemory>
     requires some { 0 < threads }
     requires layout { layout.now ≡ names_in plan.now }
-    requires answers { AreAnswers plan.now docs.now (map (λ rows. map arc_value rows.items) answers.now) }
-    ensures bytes { OnOk result (pending.new.items ≡ pending.old.items ++ flat_map (line_by plan.now) docs.now) }
+    requires answers { AreAllAnswers (P.means pool.now) plan.now docs.now (map (λ rows. map arc_value rows.items) answers.now) }
+    ensures bytes { OnOk result (pending.new.items ≡ pending.old.items ++ flat_map (line_from (P.means pool.now) plan.now) docs.now) }
 {
     if threads == 1 {
-        return append_answers(alloc, plan, layout, docs, answers, pending);
+        return append_answers(alloc, pool, plan, layout, docs, answers, pending);
     }
     let size = stretch_size(docs.len(), threads);
     let writing = Writing {
         alloc,
+        pool,
         plan,
         layout,
         size,
@@ -83,30 +88,31 @@ pub(crate) fn append_lines<'d, R: Threads + Sync>(
         answers,
     };
     let parts = parts_of(rt, &writing)?;
-    append_parts(plan, docs, size, parts, pending)
+    append_parts(pool, plan, docs, size, parts, pending)
 }
 
 /// The lines of each stretch.
-fn parts_of<R: Threads + Sync>(
+fn parts_of<R: Threads + Sync, P: Pool>(
     rt: &R,
-    writing: &Writing<'_, '_, '_>,
+    writing: &Writing<'_, '_, '_, P>,
 ) -> Result<Vec<Result<Vec<u8>, OutOfMemory>>, OutOfMemory>
-    requires shown { AreAnswers writing.now.plan.now writing.now.docs.now (map (λ rows. map arc_value rows.items) writing.now.answers.now) }
+    requires shown { AreAllAnswers (P.means writing.now.pool.now) writing.now.plan.now writing.now.docs.now (map (λ rows. map arc_value rows.items) writing.now.answers.now) }
     ensures all { IfOk result (λ parts. length writing.now.docs.now ≤ vec_len parts * writing.now.size) }
     ensures each { IfOk result (λ parts. (n : ℕ) (d : _) → n < vec_len parts →
-        IfOk (slice_index_or parts.items n d) (λ lines. lines.items ≡ flat_map (line_by writing.now.plan.now) (slice_chunk writing.now.docs.now writing.now.size n))) }
+        IfOk (slice_index_or parts.items n d) (λ lines. lines.items ≡ flat_map (line_from (P.means writing.now.pool.now) writing.now.plan.now) (slice_chunk writing.now.docs.now writing.now.size n))) }
 {
     let count = stretch_count(writing.docs.len(), writing.size);
     let job = |n: usize| -> Result<Vec<u8>, OutOfMemory>
-        requires { (n * writing.now.size < length writing.now.docs.now) × AreAnswers writing.now.plan.now writing.now.docs.now (map (λ rows. map arc_value rows.items) writing.now.answers.now) }
-        ensures { IfOk result (λ lines. lines.items ≡ flat_map (line_by writing.entry.now.plan.now) (slice_chunk writing.entry.now.docs.now writing.entry.now.size n)) }
+        requires { IsSync P.row × (n * writing.now.size < length writing.now.docs.now) × AreAllAnswers (P.means writing.now.pool.now) writing.now.plan.now writing.now.docs.now (map (λ rows. map arc_value rows.items) writing.now.answers.now) }
+        ensures { IfOk result (λ lines. lines.items ≡ flat_map (line_from (P.means writing.entry.now.pool.now) writing.entry.now.plan.now) (slice_chunk writing.entry.now.docs.now writing.entry.now.size n)) }
     { writing.part(n) };
     let parts = thread::map_indices(rt, writing.alloc, count, &job)?;
     Ok(parts)
 }
 
 /// Puts the lines of all stretches behind what is pending.
-fn append_parts(
+fn append_parts<P: Pool>(
+    pool: &P,
     plan: &Plan,
     docs: &[Document<'_>],
     size: usize,
@@ -115,9 +121,10 @@ fn append_parts(
 ) -> Result<(), OutOfMemory>
     requires all { length docs.now ≤ vec_len parts * size }
     requires each { (n : ℕ) (d : _) → n < vec_len parts →
-        IfOk (slice_index_or parts.items n d) (λ lines. lines.items ≡ flat_map (line_by plan.now) (slice_chunk docs.now size n)) }
-    ensures bytes { OnOk result (pending.new.items ≡ pending.old.items ++ flat_map (line_by plan.now) docs.now) }
+        IfOk (slice_index_or parts.items n d) (λ lines. lines.items ≡ flat_map (line_from (P.means pool.now) plan.now) (slice_chunk docs.now size n)) }
+    ensures bytes { OnOk result (pending.new.items ≡ pending.old.items ++ flat_map (line_from (P.means pool.now) plan.now) docs.now) }
 {
+    let _ = pool;
     let _ = plan;
     let _ = docs;
     let _ = size;
@@ -129,8 +136,9 @@ fn append_parts(
 }
 
 /// Puts the lines of documents behind what is pending, one after another.
-fn append_answers<'d>(
+fn append_answers<'d, P: Pool>(
     alloc: Global,
+    pool: &P,
     plan: &Plan,
     layout: &Layout<'_>,
     docs: &[Document<'d>],
@@ -138,13 +146,14 @@ fn append_answers<'d>(
     pending: &mut Vec<u8>,
 ) -> Result<(), OutOfMemory>
     requires layout { layout.now ≡ names_in plan.now }
-    requires answers { AreAnswers plan.now docs.now (map (λ rows. map arc_value rows.items) answers.now) }
-    ensures bytes { OnOk result (pending.new.items ≡ pending.old.items ++ flat_map (line_by plan.now) docs.now) }
+    requires answers { AreAllAnswers (P.means pool.now) plan.now docs.now (map (λ rows. map arc_value rows.items) answers.now) }
+    ensures bytes { OnOk result (pending.new.items ≡ pending.old.items ++ flat_map (line_from (P.means pool.now) plan.now) docs.now) }
 {
     let mut line = Vec::new(alloc);
     for d in 0..docs.len() {
         append_shared(
             alloc,
+            pool,
             plan,
             layout,
             &docs[d],
@@ -158,8 +167,9 @@ fn append_answers<'d>(
 
 /// Puts the line of a document behind what is pending; `rows` are those of each output, and `line` is room
 /// for the line.
-fn append_shared<'d>(
+fn append_shared<'d, P: Pool>(
     alloc: Global,
+    pool: &P,
     plan: &Plan,
     layout: &Layout<'_>,
     document: &Document<'d>,
@@ -168,20 +178,17 @@ fn append_shared<'d>(
     pending: &mut Vec<u8>,
 ) -> Result<(), OutOfMemory>
     requires layout { layout.now ≡ names_in plan.now }
-    requires rows { AreOutputRows plan.now document.now (map arc_value rows.now) }
-    ensures bytes { OnOk result (pending.new.items ≡ pending.old.items ++ line_by plan.now document.now) }
+    requires rows { IsAnswer (P.means pool.now) plan.now document.now (map arc_value rows.now) }
+    ensures bytes { OnOk result (pending.new.items ≡ pending.old.items ++ line_from (P.means pool.now) plan.now document.now) }
 {
-    let _ = plan.outputs();
+    let _ = pool;
+    let _ = plan;
     let shown = all_lent(alloc, rows)?;
-    line.clear();
-    let empty = mem::replace(line, Vec::new(alloc));
-    *line = append_document(alloc, empty, document, layout, shown.as_slice())?;
-    pending.extend_from_slice(line)?;
-    Ok(())
+    append_line(alloc, layout, document, shown.as_slice(), line, pending)
 }
 
 /// Shared rows, borrowed.
-fn all_lent<'r, 'd>(
+pub(crate) fn all_lent<'r, 'd>(
     alloc: Global,
     rows: &'r [Arc<Rows<'d>, Global>],
 ) -> Result<Vec<&'r Rows<'d>>, OutOfMemory>

@@ -15,6 +15,7 @@ use crate::stretch::stretch_count;
 use corpus_json::{LINE_LIMIT, Layout};
 use memchr::memchr;
 use plan_operators::Schedule;
+use run_pool::Workers;
 use span_token::OutOfMemory;
 use std::alloc::Global;
 use std::mem;
@@ -285,6 +286,7 @@ impl<'a, 'l, 'p> Ready<'a, 'l, 'p> {
             self.layout,
             &mut hand.tools,
             &mut hand.room,
+            &mut Workers,
             line,
             text,
         )

@@ -1,13 +1,17 @@
 ghost use Rattle.std.specs.Prelude.{◌≡◌, ◌<◌, ◌*◌, ◌^◌, ◌++◌, OnOk, length, map};
 ghost use Rattle.std.specs.List.{flat_map};
 ghost use Rattle.corpus_json.specs.Inputs.{doc_of};
-ghost use Rattle.window_lines.specs.Lines.{line_by, names_in, AreShort};
+ghost use Rattle.run_pool.specs.Entries.{entry_of, AreHanded};
+ghost use Rattle.run_pool.specs.Lines.{line_from, names_in};
+ghost use Rattle.window_lines.specs.Lines.{AreShort};
 
+use crate::answers::answers_of;
 use crate::documents::documents_of;
 use crate::lines::append_lines;
 use algebra::Plan;
 use corpus_json::{Input, Layout};
 use row_values::Rows;
+use run_pool::Pool;
 use span_token::{Document, OutOfMemory};
 use std::alloc::Global;
 use std::sync::Arc;
@@ -20,15 +24,16 @@ const MANY_BYTES: usize = 131_072;
 /// How many rows pay for the threads that write them.
 const MANY_ROWS: usize = 2_048;
 
-/// Puts the output lines of a window's documents behind what is pending, in their order.
+/// Hands a window's documents to a pool, and puts the lines that it answers behind what is pending, in their
+/// order.
 ///
 /// The plan is evaluated by the workers of `crew`, and where the window is large enough its documents are
 /// made, and its lines written, in `threads` threads at most; the bytes are the same for every number.
 /// `with_tokens` says whether documents keep their tokens, and changes no byte. `layout` has the plan's
 /// outputs, and the texts are no longer than a line of the corpus.
 ///
-/// Meaning: `line_by`, `specs/Lines.antt`: for each output the value of its node on the document.
-pub fn append_window<R: Threads + Sync>(
+/// Meaning: `line_from`, `specs/Lines.antt` of `run_pool`: for each output the rows that the pool answers.
+pub fn append_window<R: Threads + Sync, P: Pool>(
     rt: &R,
     alloc: Global,
     plan: &Plan,
@@ -36,6 +41,7 @@ pub fn append_window<R: Threads + Sync>(
     layout: &Layout<'_>,
     crew: &mut Crew<'_>,
     threads: usize,
+    pool: &mut P,
     inputs: &[Input],
     pending: &mut Vec<u8>,
 ) -> Result<(), OutOfMemory>
@@ -44,7 +50,9 @@ pub fn append_window<R: Threads + Sync>(
     requires of_plan { crew.old ≡ plan.now.lists }
     requires few { length inputs.now * length plan.now.nodes < 2 ^ 32 }
     requires short { AreShort inputs.now }
-    ensures bytes { OnOk result (pending.new.items ≡ pending.old.items ++ flat_map (line_by plan.now) (map doc_of inputs.now)) }
+    ensures bytes { OnOk result (pending.new.items ≡ pending.old.items ++ flat_map (line_from (P.means pool.old) plan.now) (map doc_of inputs.now)) }
+    ensures handed { AreHanded (P.told pool.old) (P.told pool.new) (map (entry_of (P.means pool.old) plan.now) (map doc_of inputs.now)) result }
+    ensures means { P.means pool.new ≡ P.means pool.old }
     ensures same { crew.new ≡ crew.old }
 {
     if inputs.is_empty() {
@@ -63,19 +71,21 @@ pub fn append_window<R: Threads + Sync>(
         layout,
         crew,
         threads,
+        pool,
         docs.as_slice(),
         pending,
     )
 }
 
-/// Puts the lines of documents behind what is pending.
-fn append_documents<'d, R: Threads + Sync>(
+/// Hands documents to a pool, and puts the lines that it answers behind what is pending.
+fn append_documents<'d, R: Threads + Sync, P: Pool>(
     rt: &R,
     alloc: Global,
     plan: &'d Plan,
     layout: &Layout<'_>,
     crew: &mut Crew<'_>,
     threads: usize,
+    pool: &mut P,
     docs: &'d [Document<'d>],
     pending: &mut Vec<u8>,
 ) -> Result<(), OutOfMemory>
@@ -83,17 +93,24 @@ fn append_documents<'d, R: Threads + Sync>(
     requires layout { layout.now ≡ names_in plan.now }
     requires of_plan { crew.old ≡ plan.now.lists }
     requires few { length docs.now * length plan.now.nodes < 2 ^ 32 }
-    ensures bytes { OnOk result (pending.new.items ≡ pending.old.items ++ flat_map (line_by plan.now) docs.now) }
+    ensures bytes { OnOk result (pending.new.items ≡ pending.old.items ++ flat_map (line_from (P.means pool.old) plan.now) docs.now) }
+    ensures handed { AreHanded (P.told pool.old) (P.told pool.new) (map (entry_of (P.means pool.old) plan.now) docs.now) result }
+    ensures means { P.means pool.new ≡ P.means pool.old }
     ensures same { crew.new ≡ crew.old }
 {
-    let answer = evaluate(rt, alloc, plan, docs, crew, &Open)?.into_rows();
-    let answers = answer.docs.as_slice();
+    // the outputs have the columns of their nodes
+    let _outputs = plan.outputs();
+    let found = evaluate(rt, alloc, plan, docs, crew, &Open)?.into_rows();
+    let answers = answers_of(alloc, plan, layout, pool, docs, found.docs.as_slice())?;
+    let answers = answers.as_slice();
     let writers = if row_count(answers) >= MANY_ROWS {
         threads
     } else {
         1
     };
-    append_lines(rt, alloc, writers, plan, layout, docs, answers, pending)
+    append_lines(
+        rt, alloc, writers, pool, plan, layout, docs, answers, pending,
+    )
 }
 
 /// How many bytes of text there are.

@@ -1,33 +1,18 @@
-use Rattle.std.proofs.Common.{◌≡◌, ◌∙◌, ◌++◌, ◌∷◌, [], List, Option, length, map, sym, ap, subst}
-use Rattle.std.proofs.lemmas.List.{length-map}
-use Rattle.std.proofs.lemmas.Simd.{map-map}
-use Rattle.row_values.specs.Rows.{RowList}
-use Rattle.corpus_json.specs.Outputs.{rows_of}
-use Rattle.demo_corpus.specs.Totals.{Answer, answer_of, tally_of}
-use Rattle.algebra.specs.declared.output.PlanOut.{PlanOut}
-use Rattle.aqlx_top.specs.Planned.{rows_by}
-use Rattle.aqlx_top.proofs.Planning.{tally_alike}
-use Rattle.window_lines.specs.ShownLaws as law
+use Rattle.std.proofs.Common.{◌∙◌, ap, map, refl, subst, sym}
+use Rattle.std.proofs.lemmas.Result.{err_from_is_err_and}
+use Rattle.run_pool.specs.Answers.{IsAnswer}
+use Rattle.run_pool.specs.Lines.{rows_by}
+use Rattle.run_pool.specs.PoolLaws.{part_none}
+use Rattle.window_lines.specs.ShownLaws.{list_of, shown_answer}
 use Rattle.aqlx_top.proofs.demonstration.count_shown.Goals as goal
 
-pub returns : goal.returns
-returns c =
-    let board : List (Option RowList) = c.args.board.now in
-    let outs : List PlanOut = c.args.plan.now.outputs in
-    let rows = c.as_slice.result.now in
-    let shown : Answer = map (λ (out : PlanOut). (law.list_of board out).rows) outs in
-    let are : answer_of rows ≡ shown =
-    ap (map rows_of) c.as_slice.ensures.value ∙ sym (map-map (λ (list : RowList). list.rows) (λ list. list.now) c.in_ok-shown.shown.items)
-    ∙ ap (map (λ (list : RowList). list.rows)) (c.in_ok-shown.ensures ∙ ap (map (law.list_of board)) c.outputs.ensures.outputs)
-    ∙ map-map (λ (list : RowList). list.rows) (law.list_of board) outs in
-    let many : length rows ≡ length outs = sym (length-map rows rows_of) ∙ ap length are ∙ length-map outs (λ (out : PlanOut). (law.list_of board out).rows) in
-    record {
-      counted = record {
-        counted = λ answers is.
-            subst (λ n. c.args.totals.now ≡ tally_of n answers → c.add.new.self ≡ tally_of n (answers ++ answer_of rows ∷ [])) many (c.add.ensures.counted answers) is
-            ∙ ap (λ (answer : Answer). tally_of (length outs) (answers ++ answer ∷ [])) are
-            ∙ tally_alike (length outs) answers shown (rows_by c.args.plan.now c.args.document.now) (law.same_bags c.args.plan.now c.args.document.now board outs c.requires.shown);
-        documents = c.add.ensures.documents;
-        as_many = c.add.ensures.outputs;
-      };
-    }
+pub count_answered-requires-clause-found : goal.count_answered-requires-clause-found
+count_answered-requires-clause-found g c = λ κs within.
+    subst (IsAnswer rows_by c.args.plan.now c.args.document.now)
+    (sym (ap (map (λ list. list.now)) c.as_slice.ensures.value ∙ c.in_ok-shown.ensures ∙ ap (map (list_of c.args.board.now)) c.outputs.ensures.outputs))
+    (shown_answer c.args.plan.now c.args.document.now c.args.board.now c.requires.shown c.outputs.ensures.valid.each)
+
+pub returns-in_err-shown-clause-handed : goal.returns-in_err-shown-clause-handed
+returns-in_err-shown-clause-handed g c =
+    let p = err_from_is_err_and c.from_residual.result c.from_residual.ensures.1 in
+    rw p.1 (part_none (g.P.Pool.told c.args.pool.now) (g.P.Pool.told c.args.pool.now) _ refl)

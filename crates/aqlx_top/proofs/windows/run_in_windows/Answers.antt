@@ -84,5 +84,5 @@ returns-in-Ended-clause-ran g c =
     let empty = c.in_ok-turn_in_window.ensures.ended (λ e. let other = sym c.in-Ended.is ∙ e in absurd (cc)) in
     let ended = more.finished_with (line_by c.args.plan.now) (source_ends (g.S.Source.left c.args.corpus.now) (g.S.Source.left c.turn_in_window.new.corpus) (g.S.Source.faults c.args.corpus.now) (g.S.Source.faults c.turn_in_window.new.corpus)) (g.O.Sink.held c.args.out.now) (g.O.Sink.held c.send_between.new.out) (meant_by (line_by c.args.plan.now) c.turn_in_window.new.work.pending.items c.turn_in_window.new.work.window.items) c.turn_in_window.new.work.pending.items c.in-Ended.status
     (more.meant_alone (line_by c.args.plan.now) c.turn_in_window.new.work.pending.items c.turn_in_window.new.work.window.items empty) own in
-    let finish = rw c.deref.ensures.value at c.finish.ensures in
+    let finish = rw c.deref.ensures.value at c.finish.ensures.run in
     finish (line_by c.args.plan.now) (source_ends (g.S.Source.left c.args.corpus.now) (g.S.Source.left c.turn_in_window.new.corpus) (g.S.Source.faults c.args.corpus.now) (g.S.Source.faults c.turn_in_window.new.corpus)) (g.O.Sink.held c.args.out.now) (g.O.Sink.flushed c.args.out.now) (g.O.Sink.faults c.args.out.now) (c.in-Ok.ensures.stands ∙ c.lines.invariant.unfailed) ended

@@ -3,15 +3,15 @@ use Rattle.std.proofs.lemmas.Iterator.Adapters.{YieldsList-from_vec}
 use Rattle.std.proofs.lemmas.Iterator.Consumers.{YieldsList-turn}
 use Rattle.std.specs.Fork.{slice_chunk}
 use Rattle.std.specs.List.{flat_map}
-use Rattle.window_lines.specs.Lines.{line_by}
+use Rattle.run_pool.specs.Lines.{line_from}
 use Rattle.window_lines.proofs.Stretches.{joined-turn}
 use Rattle.window_lines.proofs.lines.append_parts.Goals as goal
 
 pub loop-part-preserved : goal.loop-part-preserved
-loop-part-preserved c =
+loop-part-preserved g c =
     let list = YieldsList-from_vec {Z = Global} c.args.parts.items (search rules) (search rules) in
     let turn = YieldsList-turn list c.loop-part.yielded c.loop-part.part-iterator c.loop-part.yielded_by c.next.result c.next.new.self c.in-Some.part c.in-Some.is c.next.ensures.steps in
-    let told : IfOk c.in-Some.part (λ lines. lines.items ≡ flat_map (line_by c.args.plan.now) (slice_chunk c.args.docs.now c.args.size (length c.loop-part.yielded))) =
-    subst (λ part. IfOk part (λ lines. lines.items ≡ flat_map (line_by c.args.plan.now) (slice_chunk c.args.docs.now c.args.size (length c.loop-part.yielded)))) (sym turn.1) (c.requires.each (length c.loop-part.yielded) c.in-Some.part (omega (arith, turn.0, c.args.parts.ok.0))) in
-    joined-turn (line_by c.args.plan.now) c.args.docs.now c.args.size c.loop-part.yielded c.in-Some.part c.args.pending.now.items c.loop-part.pending.items c.in_ok-lines.lines.items c.extend_from_slice.new.self.items
+    let told : IfOk c.in-Some.part (λ lines. lines.items ≡ flat_map (line_from (g.P.Pool.means c.args.pool.now) c.args.plan.now) (slice_chunk c.args.docs.now c.args.size (length c.loop-part.yielded))) =
+    subst (λ part. IfOk part (λ lines. lines.items ≡ flat_map (line_from (g.P.Pool.means c.args.pool.now) c.args.plan.now) (slice_chunk c.args.docs.now c.args.size (length c.loop-part.yielded)))) (sym turn.1) (c.requires.each (length c.loop-part.yielded) c.in-Some.part (omega (arith, turn.0, c.args.parts.ok.0))) in
+    joined-turn (line_from (g.P.Pool.means c.args.pool.now) c.args.plan.now) c.args.docs.now c.args.size c.loop-part.yielded c.in-Some.part c.args.pending.now.items c.loop-part.pending.items c.in_ok-lines.lines.items c.extend_from_slice.new.self.items
     c.loop-part.invariant (search rules) (search rules)

@@ -1,6 +1,6 @@
 -- The line of a document is written alike of lists of rows that are the same bags.
 use Rattle.std.proofs.Common.{◌≡◌, ◌++◌, ℕ, List, [], ◌∷◌, map, refl, ap, ap₂}
-use Rattle.std.specs.List.{AllZip, zip}
+use Rattle.std.specs.List.{zip}
 use Rattle.aql_base.specs.Bags.{SameBag}
 use Rattle.span_token.specs.Documents.{Doc}
 use Rattle.row_values.specs.Datums.{Datum}
@@ -10,10 +10,7 @@ use Rattle.corpus_json.specs.Outputs.{array_of, object_of, row_data, rows_data, 
 use Rattle.serde_json.specs.Data.{Data}
 use Rattle.serde_json.specs.Written.{compact_text}
 use Rattle.std.specs.Prelude.{codes}
-
--- lists that are the same bags, one by one
-abbrev pub AreSameBags : List (List (List Datum)) → List (List (List Datum)) → Type 0
-AreSameBags xs ys = AllZip SameBag xs ys
+use Rattle.run_pool.specs.Lines.{AreSameBags}
 
 -- an output's rows are written alike where they are the same bag
 rows_alike : (doc : Doc) (output : OutputNames) (xs ys : List (List Datum)) → SameBag xs ys → rows_data doc output xs ≡ rows_data doc output ys

@@ -1,0 +1,2 @@
+-- lists without rows, and entries
+pub mod Empty
