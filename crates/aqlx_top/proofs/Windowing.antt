@@ -96,9 +96,9 @@ read_past : (left : Option (List ℕ)) (given : List ℕ) (lines more : List (Li
     → IsReadTo left given (lines ++ more) (past n (record { ready = ready; taken = taken; last = last }))
 read_past left given lines more ready taken n None read going whole no_lf = (
   read.0
-  ∙ ap (λ (b : List ℕ). joined lines ++ b) (sym (take-append-drop n ready) ∙ ap (λ (b : List ℕ). b ++ drop n ready) whole)
-  ∙ sym (append_assoc (joined lines) (joined more) (drop n ready))
-  ∙ ap (λ (b : List ℕ). b ++ drop n ready) (sym (flat_map-append (λ (line : List ℕ). line ++ 10 ∷ []) lines more)),
+      ∙ ap (λ (b : List ℕ). joined lines ++ b) (sym (take-append-drop n ready) ∙ ap (λ (b : List ℕ). b ++ drop n ready) whole)
+      ∙ sym (append_assoc (joined lines) (joined more) (drop n ready))
+      ∙ ap (λ (b : List ℕ). b ++ drop n ready) (sym (flat_map-append (λ (line : List ℕ). line ++ 10 ∷ []) lines more)),
   All-append HasNoLf lines more read.1 no_lf,
 )
 read_past left given lines more ready taken n (Some last) read (inl going) whole no_lf = absurd (let e : Some last ≡ None = going in cc)

@@ -280,7 +280,8 @@ fn is_for_window(work: &Windowed<'_>) -> bool
     ensures { result ≡ false → work.now.window.items ≡ [] }
 {
     !work.window.is_empty()
-        || work.line.len() >= LARGE && !has_lines(work.reader.ready(), work.workers.saturating_mul(2))
+        || work.line.len() >= LARGE
+            && !has_lines(work.reader.ready(), work.workers.saturating_mul(2))
 }
 
 /// Whether so many lines are there with their LF.
