@@ -5,13 +5,14 @@ ghost use Rattle.std.specs.Thread.{IsSync};
 ghost use Rattle.corpus_json.specs.Documents.{is_bad_line};
 ghost use Rattle.corpus_json.specs.Lines.{HasNoLf, FirstLfAt};
 ghost use Rattle.span_token.specs.Documents.{Doc};
+ghost use Rattle.window_lines.specs.declared.hands.First.TheVariants as declared_first;
 ghost use Rattle.window_lines.specs.declared.hands.Hand as declared_hand;
 ghost use Rattle.window_lines.specs.Answered.{answer_to, AreAnswered, IsAnswered};
 ghost use Rattle.window_lines.specs.Hands.{AreParts, HasAnswered, HaveAnswered, HaveTools, IsAnsweredBehind, IsHead, IsPart};
 ghost use Rattle.window_lines.specs.Lines.{line_by, names_in, rows_by};
 
 use crate::answer::answer_line;
-use crate::hands::{Hand, Hands, Part};
+use crate::hands::{First, Hand, Hands, Part};
 use crate::stretch::stretch_count;
 use corpus_json::{LINE_LIMIT, Layout};
 use memchr::memchr;
@@ -70,8 +71,7 @@ struct Ready<'a, 'l, 'p, P: Pool> {
 /// `first` is the line, without its LF, and `bytes` are those behind it. What is answered of them is told in
 /// bytes and in lines: where there are many, each thread of `hands` answers pieces of them by itself, which
 /// pays where there are more lines than threads, and otherwise one does, without a thread. A bad line ends
-/// what is answered. `None` where the first line is bad, or memory is wanting for its answer, and nothing is
-/// put then.
+/// what is answered. `None` where the first line is bad, and nothing is put then.
 ///
 /// Each document is handed to a part of the pool by the thread that evaluates it, and what the part answers is
 /// written. The pool answers what is found and keeps no list, so nothing is gathered of its parts.
@@ -99,7 +99,7 @@ pub fn append_ready<R: Threads + Sync, P: Pool>(
     requires as_found { P.means pool.now ≡ rows_by }
     requires untold { P.told pool.now ≡ None }
     ensures taken { IfOk result (λ told. MatchOption told
-        (pending.new.items ≡ pending.old.items)
+        ((is_bad_line first.now ≡ true) × (pending.new.items ≡ pending.old.items))
         (λ taken. IsAnswered (line_by schedule.now) first.now bytes.now taken pending.old.items pending.new.items)) }
     ensures same { hands.new ≡ hands.old }
 {
@@ -143,7 +143,7 @@ fn answer_in_threads<R: Threads + Sync, P: Pool>(
     ensures answered { HaveAnswered (line_by ready.now.schedule.now) ready.now.first.now ready.now.bytes.now hands.new }
 {
     let threads = if ready.bytes.len() >= MANY {
-        hands.len()
+        hands.len().min(ready.count).max(1)
     } else {
         1
     };
@@ -164,20 +164,21 @@ impl<'a, 'l, 'p, P: Pool> Ready<'a, 'l, 'p, P> {
     {
         hand.clear();
         let mut pool = self.pool.part(self.alloc);
-        let headed = if place == 0 {
+        let first = if place == 0 {
             self.answer_first(hand, &mut pool)
         } else {
-            false
+            First::Unknown
         };
         self.answer_pieces(hand, &mut pool);
-        hand.headed = headed;
+        hand.first = first;
     }
 
-    /// Answers the first line. False where it is bad, or memory is wanting.
-    fn answer_first(&self, hand: &mut Hand<'_>, pool: &mut P) -> bool
+    /// Answers the first line, and tells what came of it.
+    fn answer_first(&self, hand: &mut Hand<'_>, pool: &mut P) -> First
         requires tools { hand.old.tools ≡ self.now.schedule.now.lists }
         requires as_found { P.means pool.old ≡ rows_by }
-        ensures head { result ≡ true → IsHead (line_by self.now.schedule.now) self.now.first.now hand.new.head.items }
+        ensures good { result ≡ declared_first.Good → IsHead (line_by self.now.schedule.now) self.now.first.now hand.new.head.items }
+        ensures bad { result ≡ declared_first.Bad → is_bad_line self.now.first.now ≡ true }
         ensures tools { hand.new.tools ≡ hand.old.tools }
         ensures parts { hand.new.parts ≡ hand.old.parts }
         ensures as_found { P.means pool.new ≡ P.means pool.old }
@@ -187,8 +188,9 @@ impl<'a, 'l, 'p, P: Pool> Ready<'a, 'l, 'p, P> {
         let old = mem::replace(&mut hand.head, text);
         hand.keep(old);
         match answered {
-            Ok(good) => good,
-            Err(OutOfMemory) => false,
+            Ok(true) => First::Good,
+            Ok(false) => First::Bad,
+            Err(OutOfMemory) => First::Unknown,
         }
     }
 
@@ -306,6 +308,7 @@ impl<'a, 'l, 'p, P: Pool> Ready<'a, 'l, 'p, P> {
         requires tools { hand.old.tools ≡ self.now.schedule.now.lists }
         requires as_found { P.means pool.old ≡ rows_by }
         ensures good { IfOk result (λ good. good ≡ true → is_bad_line line.now ≡ false) }
+        ensures bad { IfOk result (λ good. good ≡ false → is_bad_line line.now ≡ true) }
         ensures put { IfOk result (λ good. good ≡ true → text.new.items ≡ text.old.items ++ answer_to (line_by self.now.schedule.now) (line.now ∷ [])) }
         ensures none { IfOk result (λ good. good ≡ false → text.new.items ≡ text.old.items) }
         ensures tools { hand.new.tools ≡ hand.old.tools }
@@ -314,9 +317,10 @@ impl<'a, 'l, 'p, P: Pool> Ready<'a, 'l, 'p, P> {
         ensures as_found { P.means pool.new ≡ P.means pool.old }
     {
         if line.len() > LINE_LIMIT {
+            self.stop();
             return Ok(false);
         }
-        answer_line(
+        let good = answer_line(
             self.alloc,
             self.schedule,
             self.with_tokens,
@@ -326,7 +330,16 @@ impl<'a, 'l, 'p, P: Pool> Ready<'a, 'l, 'p, P> {
             pool,
             line,
             text,
-        )
+        )?;
+        if !good {
+            self.stop();
+        }
+        Ok(good)
+    }
+
+    /// Lets nobody take another piece, since nothing that stands behind a bad line is written.
+    fn stop(&self) {
+        self.next.store(self.count, Ordering::Relaxed);
     }
 }
 
@@ -340,16 +353,19 @@ fn append_answered<P: Pool>(
     requires some { 0 < length hands.now }
     requires answered { HaveAnswered (line_by ready.now.schedule.now) ready.now.first.now ready.now.bytes.now hands.now }
     ensures taken { IfOk result (λ told. MatchOption told
-        (pending.new.items ≡ pending.old.items)
+        ((is_bad_line ready.now.first.now ≡ true) × (pending.new.items ≡ pending.old.items))
         (λ taken. IsAnswered (line_by ready.now.schedule.now) ready.now.first.now ready.now.bytes.now taken pending.old.items pending.new.items)) }
 {
     let hand = &hands[0];
-    if !hand.headed {
-        return Ok(None);
+    match hand.first {
+        First::Unknown => Err(OutOfMemory),
+        First::Bad => Ok(None),
+        First::Good => {
+            pending.extend_from_slice(hand.head.as_slice())?;
+            let taken = append_parts(ready, hands, pending)?;
+            Ok(Some(taken))
+        }
     }
-    pending.extend_from_slice(hand.head.as_slice())?;
-    let taken = append_parts(ready, hands, pending)?;
-    Ok(Some(taken))
 }
 
 /// Puts the parts of the hands behind what is pending.
