@@ -40,6 +40,11 @@ returns-in-Plan-clause-front g c =
     rw c.in-Plan.is
     (law.untouched_front (files_ends (g.F.Files.told c.args.files.now) (g.F.Files.faults c.args.files.now) (g.F.Files.faults c.show_file-in-Plan.new.files)) (pool_ends (g.P.Pool.means c.args.pool.now) (g.P.Pool.told c.args.pool.now) (g.P.Pool.told c.args.pool.now)) (source_ends (g.S.Source.left c.args.corpus.now) (g.S.Source.left c.args.corpus.now) (g.S.Source.faults c.args.corpus.now) (g.S.Source.faults c.args.corpus.now)) (sink_ends (g.O.Sink.held c.args.out.now) (g.O.Sink.held c.show_file-in-Plan.new.out) (g.O.Sink.flushed c.args.out.now) (g.O.Sink.flushed c.show_file-in-Plan.new.out) (g.O.Sink.faults c.args.out.now) (g.O.Sink.faults c.show_file-in-Plan.new.out)) (record { left = refl; faults = refl }) (to_plan c.in-Plan.name.now) c.show_file-in-Plan.result refl c.show_file-in-Plan.ensures.untouched)
 
+pub returns-in-Demo-clause-cause : goal.returns-in-Demo-clause-cause
+returns-in-Demo-clause-cause g c =
+    rw c.in-Demo.is
+    (law.demo_cause (files_ends (g.F.Files.told c.args.files.now) (g.F.Files.faults c.args.files.now) (g.F.Files.faults c.args.files.now)) (pool_ends (g.P.Pool.means c.args.pool.now) (g.P.Pool.told c.args.pool.now) (g.P.Pool.told c.demonstrate.new.pool)) (source_ends (g.S.Source.left c.args.corpus.now) (g.S.Source.left c.args.corpus.now) (g.S.Source.faults c.args.corpus.now) (g.S.Source.faults c.args.corpus.now)) (sink_ends (g.O.Sink.held c.args.out.now) (g.O.Sink.held c.demonstrate.new.out) (g.O.Sink.flushed c.args.out.now) (g.O.Sink.flushed c.demonstrate.new.out) (g.O.Sink.faults c.args.out.now) (g.O.Sink.faults c.demonstrate.new.out)) (record { left = refl; faults = refl }) c.in-Demo.count c.demonstrate.result refl c.demonstrate.ensures.sent)
+
 pub returns-in-Demo-clause-front : goal.returns-in-Demo-clause-front
 returns-in-Demo-clause-front g c =
     rw c.in-Demo.is
