@@ -29,7 +29,7 @@ fn a_document_is_handed_over_with_the_plan_that_is_shown(rt: HostRuntime) -> Res
         assert_eq!(rt; handed.plan.as_bytes(), shown.out.bytes());
         assert_eq!(rt; handed.text.as_str(), "Call John Smith at 555-0134 or Ann Lee, 555-0199.");
         assert_eq!(rt; handed.line.as_slice(), ran.out.bytes());
-        assert_eq!(rt; handed.sizes.as_slice(), &[2, 2]);
+        assert_eq!(rt; handed.sizes.as_slice(), [2, 2].as_slice());
     }
     let line = format!(in alloc; "{PERSONS_LINE}\n")?;
     assert_eq!(rt; ran.out.bytes(), line.as_bytes());
