@@ -37,6 +37,7 @@ use Rattle.aqlx_top.proofs.ProgramLaws.{only_large}
 -- the text's plan is one that is shown, and a sound pool's lines by it are those that the program means
 run_with : (means : Meaning) (text : List ℕ) (plan : Parts) (planned : IsPlanOf text plan) → IsPlan plan.nodes → AreOutputs plan.nodes plan.outputs → IsRunWith means text planned.program plan
 run_with means text plan planned nodes outputs = record {
+  planned = planned;
   shown = record { plan = plan; nodes = nodes; outputs = outputs; planned = planned; bytes_are = refl };
   meant = λ sound doc. sound_line means sound plan doc ∙ plan_means text plan planned doc;
 }

@@ -41,6 +41,7 @@ summary_given pool count plan nodes outputs planned handed = record {
   program = planned.program;
   holds = planned.holds;
   plan = plan;
+  planned = planned;
   shown = plan_shown DEMO.now plan nodes outputs planned;
   handed = handed;
   bytes_are = refl;
@@ -149,7 +150,7 @@ summary_sent pool count plan out status bytes nodes outputs planned handed is se
 -- and memory was wanting while its documents were handed over
 pub counted_in_part : (pool : PoolEnds) (count : ℕ) (plan : Parts) → IsPlan plan.nodes → AreOutputs plan.nodes plan.outputs → IsPlanOf DEMO.now plan
     → IsHandedFront pool plan (first_documents count) → IsUnasked pool ⊎ IsCountedInPart pool count
-counted_in_part pool count plan nodes outputs planned handed = inr (record { plan = plan; shown = plan_shown DEMO.now plan nodes outputs planned; handed = handed })
+counted_in_part pool count plan nodes outputs planned handed = inr (record { plan = plan; planned = planned; shown = plan_shown DEMO.now plan nodes outputs planned; handed = handed })
 
 -- of nothing a beginning is nothing
 take_none : (n : ℕ) → take {A = ℕ} n [] ≡ []

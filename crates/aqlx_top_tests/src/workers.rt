@@ -73,7 +73,7 @@ fn each_number_of_workers_writes_each_line_in_the_order_of_the_corpus(
 }
 
 #[test]
-fn a_bad_line_in_mid_window_is_told_behind_the_lines_before_it(
+fn a_bad_line_between_others_is_told_behind_the_lines_before_it(
     rt: HostRuntime,
 ) -> Result<(), Fail> {
     let alloc = rt.alloc();
@@ -162,10 +162,11 @@ fn long(alloc: Global, documents: u32, words: u32) -> Result<String, Fail> {
 }
 
 #[test]
-fn windows_of_every_size_give_the_same_lines(rt: HostRuntime) -> Result<(), Fail> {
+fn documents_of_every_size_give_the_same_lines(rt: HostRuntime) -> Result<(), Fail> {
     let alloc = rt.alloc();
-    // short documents, in more than one window, and long ones with many rows
-    for (documents, words) in &[(1_030u32, 5u32), (12, 2_000)] {
+    // short documents, pieces of which each worker takes; long ones with many rows, one after another by each;
+    // and a few large ones, in a window
+    for (documents, words) in &[(1_030u32, 5u32), (12, 2_000), (3, 9_000)] {
         let mut text = long(alloc, *documents, *words)?;
         text.push_str("[]\n{\"text\":\"1\"}\n")?;
         let alone = run(&rt, alloc, &usual(TOKENS, text.as_str()))?;

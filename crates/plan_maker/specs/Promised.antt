@@ -4,6 +4,7 @@ use Rattle.algebra.specs.Items.{output_nodes}
 use Rattle.algebra.specs.Plans.{Parts}
 use Rattle.push_select.specs.Pushed.{ArePushed, AreUnrestricted}
 use Rattle.share_plan.specs.Sharing.{AreDistinct, AreMerged}
+use Rattle.share_plan.specs.Ordering.{IsInOrder}
 use Rattle.share_plan.specs.Pruning.{AreRead, IsDropped}
 use Rattle.restrict_eval.specs.Rebuilding.{IsRestrictedFrom}
 use Rattle.restrict_eval.specs.Restricting.{AreConditional, AreRestricted}
@@ -26,12 +27,14 @@ pub record IsMadeOf (before plan : Parts) : Type 0 where
   pub dropped : IsDropped between.nodes (output_nodes between) plan.nodes (output_nodes plan)
 
 -- nothing is done twice and nothing for nobody, every join asks for its right input only where it needs it, what can be looked
--- for near left rows is, and the plan is made of one in which conditions stand as low as they can
+-- for near left rows is, what only right sides of one left side need stands behind it, and the plan is made of one in which
+-- conditions stand as low as they can
 pub record IsNormal (plan : Parts) : Type 0 where
   pub distinct : AreDistinct plan.nodes
   pub merged : AreMerged plan.nodes
   pub conditional : AreConditional plan.nodes
   pub restricted : AreRestricted plan.nodes (output_nodes plan)
   pub read : AreRead plan
+  pub ordered : IsInOrder plan.nodes (output_nodes plan)
   pub before : Parts
   pub made : IsMadeOf before plan

@@ -19,7 +19,8 @@ use std::alloc::Global;
 /// The program is lowered; of a product whose left side can be looked for near rows the sides are turned;
 /// conditions are pushed down, what nobody reads then is dropped, what stands twice is shared, and again is
 /// dropped what nobody reads. Then joins become conditional and look near their left rows, and what they
-/// read no more is dropped.
+/// read no more is dropped. The nodes stand in the order in which they are needed, so that a left side that
+/// has no row is known before what only right sides behind it need.
 ///
 /// Meaning: `ShowsProgram`, `specs/Shown.antt`; `IsNormal`, `specs/Promised.antt`.
 pub fn make_plan(alloc: Global, typed: Typed) -> Result<Plan, OutOfMemory>

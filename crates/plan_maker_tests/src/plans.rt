@@ -84,10 +84,10 @@ out far away 6
 
 /// Programs and the plans by which they are run: products become joins, what stands twice stands once, and
 /// views that nobody reads aren't there; conditions go through a projection, also where an output shows it
-/// too, and to both sides of a union; three views are joined from where a predicate connects them; a
-/// selection stands right behind its product. A token-bounded pattern is looked for near the other side, on
+/// too, and to both sides of a union; of three views those are joined first that a predicate
+/// connects, also where their product is turned; a selection stands right behind its product. A token-bounded pattern is looked for near the other side, on
 /// whichever side of the query it stands.
-static MADE: [(&str, &str); 9] = [
+static MADE: [(&str, &str); 10] = [
     (
         "create view Word as extract regex /[a-z]+/ on d.text as word from Document d;
          create view Unread as select w.word as w from Word w;
@@ -168,12 +168,12 @@ out S 6
          output view F;",
         "0 Doc
 1 Regex 0
-2 Regex 0
-3 Select 1
-4 Project 3
-5 Select 2
+2 Select 1
+3 Project 2
+4 Regex 0
+5 Select 4
 6 Project 5
-7 Union 4 6
+7 Union 3 6
 8 Project 7
 out F 8
 ",
@@ -211,13 +211,13 @@ out T 9
 2 Project 1
 3 Regex 0
 4 Project 3
-5 Consolidate 2
-6 Project 5
-7 Cross 2 4
-8 Select 7
+5 Cross 2 4
+6 Select 5
+7 Project 6
+8 Consolidate 2
 9 Project 8
-out S 9
-out W 6
+out S 7
+out W 9
 ",
     ),
     (
@@ -246,6 +246,25 @@ out C 5
 4 Project 3
 5 Project 4
 out C 5
+",
+    ),
+    (
+        "create view A as extract regex /a/ on between 1 and 2 tokens in d.text as x from Document d;
+         create view B as extract regex /b/ on d.text as y from Document d;
+         create view C as extract regex /c/ on d.text as z from Document d;
+         create view T as select a.x, b.y, c.z from A a, B b, C c where FollowsTok(c.z, a.x, 0, 2);
+         output view T;",
+        "0 Doc
+1 Regex 0
+2 Project 1
+3 TokenRegex 0
+4 Project 3
+5 Regex 0
+6 Project 5
+7 SpanJoin 4 6
+8 Cross 2 7
+9 Project 8
+out T 9
 ",
     ),
 ];

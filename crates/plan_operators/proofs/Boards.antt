@@ -1,6 +1,6 @@
 -- The rows of nodes, made of those of their inputs.
 use Rattle.std.proofs.Common.{◌≡◌, ◌∙◌, ◌<◌, ◌≤◌, ◌+◌, ◌^◌, ◌++◌, ◌∷◌, ℕ, List, [], Option, Some, None, length, refl, sym, ap, ap₂, subst, arith, ⊎_elim, Bool}
-use Rattle.std.specs.Prelude.{slice_index_or, IfSome, IsSome, map, true, ◌⊎◌, Contains}
+use Rattle.std.specs.Prelude.{slice_index_or, IfSome, IfNone, IsSome, map, true, ◌⊎◌, Contains}
 use Rattle.std.proofs.Common.{inl, inr}
 use Rattle.std.proofs.lemmas.Bool.{cases_lt, true≢false}
 use Rattle.std.proofs.lemmas.List.{length-append, length-map, get_or-map}
@@ -33,7 +33,7 @@ use Rattle.algebra.specs.OperatorLaws.{op-SameBag}
 use Rattle.algebra.specs.Operators.{op}
 use Rattle.algebra.specs.Shapes.{no_shape, shapes_of, shape_by}
 use Rattle.algebra.specs.Values.{all_values, val}
-use Rattle.plan_operators.specs.Boards.{IsOf, Holds, HasAsked, HasNeeded, IsBoard, IsEmptyInput, IsInput, IsOnBoard, IsRightThere, IsSpared, IsTaken, IsThere, input_on, no_rows, read_until, rows_or_none}
+use Rattle.plan_operators.specs.Boards.{IsOf, Holds, HasAsked, HasNeeded, IsBoard, IsEmptyInput, IsInput, IsOnBoard, IsRightInput, IsSpared, IsTaken, IsThere, input_on, no_rows, read_until, rows_found, rows_or_none}
 use Rattle.plan_operators.specs.Given.{MayRead}
 
 none_of : (xs : Rows) → length xs ≡ 0 → xs ≡ []
@@ -77,21 +77,21 @@ module _ (lists : Lists) (doc : Doc) (nodes : List Node) where
     fit None among = (refl, All-nil (All (IsOfDocument doc)))
     fit (Some i) among = fits i (slice_index_or board i None) (has.each i among)
 
-    -- what a node asks for is there
-    pub right_there : (node : Node) → IsAmong (length board) (right_input node) → HasAsked board node → IsRightThere lists doc nodes board node
+    -- the right input of a node that is asked for is there
+    pub right_there : (node : Node) → IsAmong (length board) (right_input node) → HasAsked board node → IsRightInput lists doc nodes node (input_on nodes board (right_input node))
     right_there node among asked =
-        ⊎_elim (λ (present : IsThere board (right_input node)). inl (on_board (right_input node) among present))
+        ⊎_elim (λ (present : IsThere board (right_input node)). inl (on_board (right_input node) among present).has)
         (λ (spared : (is_conditional node ≡ true) × IsEmptyInput board (left_input node)).
         let fitting = fit (right_input node) among in
-        inr (record { conditional = spared.0; none = empty_none (left_input node) spared.1; among = among; wide = fitting.0; lies = fitting.1 }))
+        inr (record { conditional = spared.0; none = empty_none (left_input node) spared.1; wide = fitting.0; lies = fitting.1 }))
         asked.right
 
     -- rows that were taken off it are those of their input
-    pub taken_is : (left right : Option ℕ) (rows : RowList) → IsAmong (length board) left → IsTaken left right rows board → IsInput lists doc nodes left rows
-    taken_is left right rows among taken =
-        let below : taken.place < length board = subst (IsAmong (length board)) taken.is_left among in
+    pub taken_is : (input other_input : Option ℕ) (rows : RowList) → IsAmong (length board) input → IsTaken input other_input rows board → IsInput lists doc nodes input rows
+    taken_is input other_input rows among taken =
+        let below : taken.place < length board = subst (IsAmong (length board)) taken.is_input among in
         let is : IsOf lists doc nodes taken.place rows = subst (λ (o : Option RowList). IfSome o (IsOf lists doc nodes taken.place)) taken.rows_are (has.each taken.place below) in
-        subst (λ (o : Option ℕ). IsInput lists doc nodes o rows) (sym taken.is_left) (record { same = is.same; wide = is.wide; lies = is.lies })
+        subst (λ (o : Option ℕ). IsInput lists doc nodes o rows) (sym taken.is_input) (record { same = is.same; wide = is.wide; lies = is.lies })
 
     -- and what is left of it is right as well
     pub board_less : (new : List (Option RowList)) → length new ≡ length board
@@ -117,41 +117,56 @@ module _ (lists : Lists) (doc : Doc) (nodes : List Node) where
           (cases_lt m (length board));
     }
 
-  -- an input whose rows stand as they stood is on the board
-  pub still_there : (old new : List (Option RowList)) (o : Option ℕ) → length new ≡ length old
-      → ((m : ℕ) → o ≡ Some m → slice_index_or new m None ≡ slice_index_or old m None) → IsOnBoard lists doc nodes old o → IsOnBoard lists doc nodes new o
-  still_there old new None long same on = record { among = tt; present = tt; has = on.has }
-  still_there old new (Some i) long same on =
-      let e = same i refl in
-      record {
-        among = subst (λ (k : ℕ). i < k) (sym long) on.among;
-        present = subst IsSome (sym e) on.present;
-        has = subst (λ (o : Option RowList). IsInput lists doc nodes (Some i) (rows_or_none (width_of i) o)) (sym e) on.has;
-      }
-
+  -- an input whose rows stand as they stood
   same_input : (old new : List (Option RowList)) (o : Option ℕ) → ((m : ℕ) → o ≡ Some m → slice_index_or new m None ≡ slice_index_or old m None) → input_on nodes new o ≡ input_on nodes old o
   same_input old new None same = refl
   same_input old new (Some i) same = ap (rows_or_none (width_of i)) (same i refl)
 
-  among_still : (old new : List (Option RowList)) (o : Option ℕ) → length new ≡ length old → IsAmong (length old) o → IsAmong (length new) o
-  among_still old new o long among = subst (λ (k : ℕ). IsAmong k o) (sym long) among
+  -- a board that gives up rows of one input, and then of the other
+  module _ (old mid new : List (Option RowList)) (left right : Option ℕ) (of_left of_right : Option RowList)
+      (left_given : IfSome of_left (λ rows. IsTaken left right rows old)) (left_none : IfNone of_left ((m : ℕ) → slice_index_or mid m None ≡ slice_index_or old m None))
+      (left_others : (m : ℕ) → (left ≡ Some m → ⊥) → slice_index_or mid m None ≡ slice_index_or old m None)
+      (right_given : IfSome of_right (λ rows. IsTaken right left rows mid)) (right_none : IfNone of_right ((m : ℕ) → slice_index_or new m None ≡ slice_index_or mid m None))
+      (right_others : (m : ℕ) → (right ≡ Some m → ⊥) → slice_index_or new m None ≡ slice_index_or mid m None) where
+    -- the right one stands as it stood when the left one was given up
+    right_at_first : (m : ℕ) → right ≡ Some m → slice_index_or mid m None ≡ slice_index_or old m None
+    right_at_first m is = by of_left left_given left_none
+      where
+        by : (o : Option RowList) → IfSome o (λ rows. IsTaken left right rows old) → IfNone o ((k : ℕ) → slice_index_or mid k None ≡ slice_index_or old k None) → slice_index_or mid m None ≡ slice_index_or old m None
+        by None given none = none m
+        by (Some rows) given none = left_others m (λ other. given.other (is ∙ sym other))
 
-  -- and so is the right input of a node, or it isn't asked for
-  pub right_still : (old new : List (Option RowList)) (node : Node) → length new ≡ length old
-      → ((m : ℕ) → right_input node ≡ Some m → slice_index_or new m None ≡ slice_index_or old m None) → IsRightThere lists doc nodes old node → IsRightThere lists doc nodes new node
-  right_still old new node long same right =
-      let e = same_input old new (right_input node) same in
-      ⊎_elim (λ (on : IsOnBoard lists doc nodes old (right_input node)). inl (still_there old new (right_input node) long same on))
-      (λ (spared : IsSpared lists doc nodes old node).
-      inr
-      (record {
-        conditional = spared.conditional;
-        none = spared.none;
-        among = among_still old new (right_input node) long spared.among;
-        wide = ap (λ (list : RowList). list.width) e ∙ spared.wide;
-        lies = subst (λ (list : RowList). RowsLieIn doc list.rows) (sym e) spared.lies;
-      }))
-      right
+    -- and the left one when the right one was
+    left_at_last : (m : ℕ) → left ≡ Some m → slice_index_or new m None ≡ slice_index_or mid m None
+    left_at_last m is = by of_right right_given right_none
+      where
+        by : (o : Option RowList) → IfSome o (λ rows. IsTaken right left rows mid) → IfNone o ((k : ℕ) → slice_index_or new k None ≡ slice_index_or mid k None) → slice_index_or new m None ≡ slice_index_or mid m None
+        by None given none = none m
+        by (Some rows) given none = right_others m (λ other. given.other (is ∙ sym other))
+
+    module _ (has : IsBoard lists doc nodes old) where
+      -- what is found of the left input is what it has
+      pub left_found : IsAmong (length old) left → IsThere old left → IsInput lists doc nodes left (rows_found nodes new left of_left)
+      left_found among present = by of_left left_given left_none
+        where
+          by : (o : Option RowList) → IfSome o (λ rows. IsTaken left right rows old) → IfNone o ((k : ℕ) → slice_index_or mid k None ≡ slice_index_or old k None) → IsInput lists doc nodes left (rows_found nodes new left o)
+          by None given none =
+              subst (IsInput lists doc nodes left) (sym (same_input old new left (λ m is. left_at_last m is ∙ none m))) (on_board old has left among present).has
+          by (Some rows) given none = taken_is old has left right rows among given
+
+      -- and of the right one, or that isn't asked for
+      pub right_found : (node : Node) → right ≡ right_input node → IsAmong (length old) right → HasAsked old node → IsRightInput lists doc nodes node (rows_found nodes new right of_right)
+      right_found node is among asked = by of_right right_given right_none
+        where
+          by : (o : Option RowList) → IfSome o (λ rows. IsTaken right left rows mid) → IfNone o ((k : ℕ) → slice_index_or new k None ≡ slice_index_or mid k None) → IsRightInput lists doc nodes node (rows_found nodes new right o)
+          by None given none =
+              subst (IsRightInput lists doc nodes node)
+              (ap (input_on nodes old) (sym is) ∙ sym (same_input old new right (λ m at. none m ∙ right_at_first m at)))
+              (right_there old has node (subst (IsAmong (length old)) is among) asked)
+          by (Some rows) given none =
+              inl (subst (λ (o : Option ℕ). IsInput lists doc nodes o rows) is
+              (taken_is old has right left rows among
+              (record { place = given.place; is_input = given.is_input; rows_are = sym (right_at_first given.place given.is_input) ∙ given.rows_are; other = given.other })))
 
   module _ (n : ℕ) (node : Node) (at : IsAt nodes n node) (left right : RowList) (l : IsInput lists doc nodes (left_input node) left) where
     abbrev left_worth : Rows
@@ -196,18 +211,13 @@ module _ (lists : Lists) (doc : Doc) (nodes : List Node) where
         ∙ (conditional-nil lists doc node right.rows conditional
         ∙ (sym (conditional-nil lists doc node right_worth conditional) ∙ ap (λ (rows : Rows). op lists doc node rows right_worth) (sym none))))
 
-  -- the rows on the right, by what the board has
-  module _ (board : List (Option RowList)) (n : ℕ) (node : Node) (at : IsAt nodes n node) (left right : RowList) (l : IsInput lists doc nodes (left_input node) left)
-      (is : right ≡ input_on nodes board (right_input node)) (there : IsRightThere lists doc nodes board node) where
+  -- the rows on the right, or what stands for them
+  module _ (n : ℕ) (node : Node) (at : IsAt nodes n node) (left right : RowList) (l : IsInput lists doc nodes (left_input node) left) (r : IsRightInput lists doc nodes node right) where
     pub right_wide : right.width ≡ (of_input no_shape (shapes_of nodes) (right_input node)).width
-    right_wide =
-        ap (λ (list : RowList). list.width) is
-        ∙ ⊎_elim (λ (on : IsOnBoard lists doc nodes board (right_input node)). on.has.wide) (λ (spared : IsSpared lists doc nodes board node). spared.wide) there
+    right_wide = ⊎_elim (λ (is : IsInput lists doc nodes (right_input node) right). is.wide) (λ (spared : IsSpared lists doc nodes node right). spared.wide) r
 
     pub right_lies : RowsLieIn doc right.rows
-    right_lies =
-        subst (λ (list : RowList). RowsLieIn doc list.rows) (sym is)
-        (⊎_elim (λ (on : IsOnBoard lists doc nodes board (right_input node)). on.has.lies) (λ (spared : IsSpared lists doc nodes board node). spared.lies) there)
+    right_lies = ⊎_elim (λ (is : IsInput lists doc nodes (right_input node) right). is.lies) (λ (spared : IsSpared lists doc nodes node right). spared.lies) r
 
     pub may_read : MayRead node left right
     may_read = may_read_wide n node at left right l right_wide
@@ -215,9 +225,8 @@ module _ (lists : Lists) (doc : Doc) (nodes : List Node) where
     pub rows_are : (out : RowList) → SameBag out.rows (op lists doc node left.rows right.rows)
         → out.width ≡ (shape_by node (of_input no_shape (shapes_of nodes) (left_input node)) (of_input no_shape (shapes_of nodes) (right_input node))).width → RowsLieIn doc out.rows → IsOf lists doc nodes n out
     rows_are out same wide lies =
-        ⊎_elim
-        (λ (on : IsOnBoard lists doc nodes board (right_input node)). node_is n node at left right l (subst (IsInput lists doc nodes (right_input node)) (sym is) on.has) out same wide lies)
-        (λ (spared : IsSpared lists doc nodes board node). is_of n node at left right l right_wide out (spared_same n node at left right l spared.conditional spared.none) same wide lies) there
+        ⊎_elim (λ (is : IsInput lists doc nodes (right_input node) right). node_is n node at left right l is out same wide lies)
+        (λ (spared : IsSpared lists doc nodes node right). is_of n node at left right l right_wide out (spared_same n node at left right l spared.conditional spared.none) same wide lies) r
 
   -- a selection on a product has those of the pairs of the product's sides on which its conditions hold
   pub narrowed_is : (n : ℕ) (p s : Node) (l r i : ℕ) (c : Bool) (conds : List Term) → p ≡ Cross l r c → s ≡ Select i conds → left_input s ≡ Some n → IsAt nodes n p → IsAt nodes (n + 1) s

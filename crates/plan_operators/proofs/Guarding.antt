@@ -178,7 +178,7 @@ module _ (lists : Lists) (doc : Doc) (nodes : List Node) (outs untils : List ℕ
   needed-read _ (needs.output n listed) = All-contains (λ (k : ℕ). 0 < read_until untils k) outs n shown listed
   needed-read _ (needs.input k n node at asks needed) = let late = asked_read k n node at asks (needed-read k needed) in omega (arith, late)
 
-  module _ (asked : List Asked) (are : AreAsked 0 nodes outs untils asked) (g : ℕ) (none : val lists doc nodes g ≡ []) where
+  module _ (asked : List Asked) (are : AreAsked 0 nodes outs untils asked) (g : ℕ) where
     known_behind : (n : ℕ) → IsBehind g (asked_at asked n) → IsAsked 0 nodes outs untils asked n (Behind g)
     known_behind n behind = subst (IsAsked 0 nodes outs untils asked n) (behind_is g (asked_at asked n) behind) (are n)
 
@@ -187,11 +187,14 @@ module _ (lists : Lists) (doc : Doc) (nodes : List Node) (outs untils : List ℕ
         (known_behind n behind).1 k node (omega arith)
         (record { there = slice_get_within nodes k node at; is = sym (get_or_from_slice_get nodes k node node at); read = needed-read k needed })
 
-    -- what is asked for behind a node without a row isn't needed
-    pub unneeded : (n : ℕ) → IsNeeded lists doc nodes outs n → IsBehind g (asked_at asked n) → ⊥
-    unneeded _ (needs.output n listed) behind = (known_behind n behind).0 listed
-    unneeded _ (needs.input k n node at (inl left) needed) behind = unneeded k needed ((asks_of k n node at needed behind).left left)
-    unneeded _ (needs.input k n node at (inr right) needed) behind =
-        ⊎_elim (λ (b : IsBehind g (asked_at asked k)). unneeded k needed b)
-        (λ (join : (is_conditional node ≡ true) × (left_input node ≡ Some g)). right.1 join.0 (ap (of_input [] (all_values lists doc nodes)) join.1 ∙ none))
+    -- what is asked for behind a node is needed only where that one is, and has a row
+    pub guard-needed : (n : ℕ) → IsNeeded lists doc nodes outs n → IsBehind g (asked_at asked n) → IsNeeded lists doc nodes outs g × (val lists doc nodes g ≡ [] → ⊥)
+    guard-needed _ (needs.output n listed) behind = absurd ((known_behind n behind).0 listed)
+    guard-needed _ (needs.input k n node at (inl left) needed) behind = guard-needed k needed ((asks_of k n node at needed behind).left left)
+    guard-needed _ (needs.input k n node at (inr right) needed) behind =
+        ⊎_elim (λ (b : IsBehind g (asked_at asked k)). guard-needed k needed b)
+        (λ (join : (is_conditional node ≡ true) × (left_input node ≡ Some g)). (
+          needs.input k g node at (inl join.1) needed,
+          λ none. right.1 join.0 (ap (of_input [] (all_values lists doc nodes)) join.1 ∙ none),
+        ))
         ((asks_of k n node at needed behind).right right.0)

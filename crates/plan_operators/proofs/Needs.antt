@@ -17,9 +17,9 @@ use Rattle.algebra.specs.Needed.{Asks, IsNeeded}
 use Rattle.algebra.specs.Values.{all_values, val}
 use Rattle.plan_operators.specs.declared.guards.Asked.{Asked}
 use Rattle.plan_operators.specs.Boards.{IsOf, IsBoard, HasAsked, HasNeeded, IsClosedFrom, IsEmptyOn, IsEmptyInput, IsThere, read_until}
-use Rattle.plan_operators.specs.Guards.{asked_at, AreAsked, IsIdle}
+use Rattle.plan_operators.specs.Guards.{asked_at, AreAsked, IsIdle, IsLeftOut}
 use Rattle.plan_operators.proofs.Boards.{empty_none, same_none}
-use Rattle.plan_operators.proofs.Guarding.{asked_read, needed-read, unneeded}
+use Rattle.plan_operators.proofs.Guarding.{asked_read, needed-read, guard-needed}
 
 module _ (lists : Lists) (doc : Doc) (nodes : List Node) (outs untils : List ℕ) where
   -- a longer board, on which what was there stays as long as it is read
@@ -65,10 +65,13 @@ module _ (lists : Lists) (doc : Doc) (nodes : List Node) (outs untils : List ℕ
       (cases_lt m (length (board ++ None ∷ []))))
 
   module _ (closed : IsClosedFrom 0 nodes untils) (shown : All (λ (n : ℕ). 0 < read_until untils n) outs) (board : List (Option RowList)) (has : IsBoard lists doc nodes board) where
-    -- a node that is asked for behind one without a row isn't needed
-    pub idle_unneeded : (asked : List Asked) (n : ℕ) → AreAsked 0 nodes outs untils asked → IsIdle (asked_at asked n) board → IsNeeded lists doc nodes outs n → ⊥
-    idle_unneeded asked n are idle needed =
-        unneeded lists doc nodes outs untils closed shown asked are idle.guard (empty_none lists doc nodes board has (Some idle.guard) idle.empty) n needed idle.behind
+    -- a node that is asked for behind one that has no row, or was left out, isn't needed
+    pub idle_unneeded : (asked : List Asked) (n : ℕ) → AreAsked 0 nodes outs untils asked → HasNeeded lists doc nodes outs untils board → IsIdle (asked_at asked n) untils board → IsNeeded lists doc nodes outs n → ⊥
+    idle_unneeded asked n are needs_are idle needed =
+        let guard = guard-needed lists doc nodes outs untils closed shown asked are idle.guard n needed idle.behind in
+        ⊎_elim (λ (empty : IsEmptyOn board idle.guard). guard.1 (empty_none lists doc nodes board has (Some idle.guard) empty))
+        (λ (out : IsLeftOut board untils idle.guard). true≢false (sym (subst IsSome out.none (needs_are.each idle.guard out.there out.read guard.0))))
+        idle.without
 
     module _ (needs_are : HasNeeded lists doc nodes outs untils board) (node : Node) (at : slice_get nodes (length board) ≡ Some node) (needed : IsNeeded lists doc nodes outs (length board))
         (left_lower : IsAmong (length board) (left_input node)) (right_lower : IsAmong (length board) (right_input node)) where

@@ -87,25 +87,29 @@ pub record IsOnBoard (lists : Lists) (doc : Doc) (nodes : List Node) (board : Li
   pub present : IsThere board input
   pub has : IsInput lists doc nodes input (input_on nodes board input)
 
--- the right input of a node isn't asked for, as the node is a conditional join whose left input has no row; what stands for it
--- has its columns
-pub record IsSpared (lists : Lists) (doc : Doc) (nodes : List Node) (board : List (Option RowList)) (node : Node) : Type 0 where
+-- the right input of a node isn't asked for, as the node is a conditional join whose left input has no row; the list, which
+-- stands for it, has its columns
+pub record IsSpared (lists : Lists) (doc : Doc) (nodes : List Node) (node : Node) (list : RowList) : Type 0 where
   pub conditional : is_conditional node ≡ true
   pub none : of_input [] (all_values lists doc nodes) (left_input node) ≡ []
-  pub among : IsAmong (length board) (right_input node)
-  pub wide : (input_on nodes board (right_input node)).width ≡ (of_input no_shape (shapes_of nodes) (right_input node)).width
-  pub lies : RowsLieIn doc (input_on nodes board (right_input node)).rows
+  pub wide : list.width ≡ (of_input no_shape (shapes_of nodes) (right_input node)).width
+  pub lies : RowsLieIn doc list.rows
 
--- the right input of a node is on the board, or not asked for
-abbrev pub IsRightThere : Lists → Doc → List Node → List (Option RowList) → Node → Type 0
-IsRightThere lists doc nodes board node = IsOnBoard lists doc nodes board (right_input node) ⊎ IsSpared lists doc nodes board node
+-- the list is what the right input of a node has, or that isn't asked for
+abbrev pub IsRightInput : Lists → Doc → List Node → Node → RowList → Type 0
+IsRightInput lists doc nodes node list = IsInput lists doc nodes (right_input node) list ⊎ IsSpared lists doc nodes node list
 
--- rows that were taken off a board: those of the left input, which the right one isn't
-pub record IsTaken (left right : Option ℕ) (rows : RowList) (board : List (Option RowList)) : Type 0 where
+-- rows that were taken off a board: those of an input, which the other one isn't
+pub record IsTaken (input other_input : Option ℕ) (rows : RowList) (board : List (Option RowList)) : Type 0 where
   pub place : ℕ
-  pub is_left : left ≡ Some place
+  pub is_input : input ≡ Some place
   pub rows_are : slice_index_or board place None ≡ Some rows
-  pub other : right ≡ left → ⊥
+  pub other : other_input ≡ input → ⊥
+
+-- the rows of an input: those that were given up, and else those that it has on the board
+abbrev pub rows_found : List Node → List (Option RowList) → Option ℕ → Option RowList → RowList
+rows_found nodes board input None = input_on nodes board input
+rows_found nodes board input (Some list) = list
 
 -- node n has its rows on the board, and they are none
 pub record IsEmptyOn (board : List (Option RowList)) (n : ℕ) : Type 0 where

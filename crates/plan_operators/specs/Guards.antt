@@ -51,11 +51,17 @@ IsAsked first nodes outs untils asked n Always = Unit {0}
 abbrev pub AreAsked : ℕ → List Node → List ℕ → List ℕ → List Asked → Type 0
 AreAsked first nodes outs untils asked = (n : ℕ) → IsAsked first nodes outs untils asked n (asked_at asked n)
 
--- a node is asked for behind another one alone, which has no row on the board
-pub record IsIdle (asked : Asked) (board : List (Option RowList)) : Type 0 where
+-- node n stands on the board without rows, though nodes behind the next one read it
+pub record IsLeftOut (board : List (Option RowList)) (untils : List ℕ) (n : ℕ) : Type 0 where
+  pub there : n < length board
+  pub none : slice_index_or board n None ≡ None
+  pub read : length board < read_until untils n
+
+-- a node is asked for behind another one alone, which has no row on the board, or was left out
+pub record IsIdle (asked : Asked) (untils : List ℕ) (board : List (Option RowList)) : Type 0 where
   pub guard : ℕ
   pub behind : IsBehind guard asked
-  pub empty : IsEmptyOn board guard
+  pub without : IsEmptyOn board guard ⊎ IsLeftOut board untils guard
 
 -- so far are the nodes of a plan read, and asked for only behind others
 pub record IsSchedule (plan : Parts) (untils : List ℕ) (asked : List Asked) : Type 0 where

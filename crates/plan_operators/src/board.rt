@@ -1,10 +1,9 @@
-ghost use Rattle.std.specs.Prelude.{◌≡◌, ◌↔◌, ℕ, ◌+◌, ◌<◌, ◌≤◌, ◌⊎◌, ◌^◌, IfOk, IfSome, IfNone, OnOk, IsTrue, IsFalse, IsSome, All, List, Some, None, true, length, map, slice_index_or, vec_len};
+ghost use Rattle.std.specs.Prelude.{◌≡◌, ◌↔◌, ℕ, ◌+◌, ◌<◌, ◌≤◌, ◌⊎◌, ◌^◌, IfOk, IfSome, IfNone, OnOk, IsTrue, IsFalse, IsSome, All, List, Some, None, true, length, slice_index_or, vec_len};
 ghost use Rattle.algebra.specs.declared.node.Node as declared_node;
 ghost use Rattle.algebra.specs.Inputs.{left_input, right_input, IsAmong};
-ghost use Rattle.algebra.specs.Needed.{IsNeeded};
 ghost use Rattle.plan_operators.specs.Given.{input_rows};
-ghost use Rattle.plan_operators.specs.Boards.{IsOf, Holds, IsBoard, HasAsked, HasNeeded, IsClosedFrom, IsEmptyInput, IsEmptyOn, IsInput, IsNarrowed, IsOnBoard, IsRightThere, IsTaken, IsThere, is_product, is_selection, read_until, input_on};
-ghost use Rattle.plan_operators.specs.Guards.{AreAsked, IsIdle};
+ghost use Rattle.plan_operators.specs.Boards.{IsOf, Holds, IsBoard, HasAsked, HasNeeded, IsClosedFrom, IsEmptyInput, IsEmptyOn, IsNarrowed, IsOnBoard, IsTaken, IsThere, is_product, is_selection, read_until, input_on, rows_found};
+ghost use Rattle.plan_operators.specs.Guards.{AreAsked, IsIdle, IsLeftOut};
 
 use crate::guards::Asked;
 use crate::select::selected_pairs;
@@ -17,11 +16,12 @@ use std::alloc::Global;
 
 /// The rows of the nodes that the outputs of a plan need on a document, by the nodes' numbers.
 ///
-/// A node is evaluated once, in the order of the numbers, where an output shows it or a node that is evaluated
-/// reads it, but the right side of a conditional join, what nobody else reads of it, only where the left one has
-/// a row. Rows are given up to the last node that reads them as its left input, so that what only
-/// passes through isn't copied; what is given up and what nobody needs has no rows here. `tools` are made of
-/// the plan's tables.
+/// Nodes are evaluated in the order of their numbers, each at most once, where an output shows it or a node
+/// that is evaluated reads it. What is only asked for by right sides of conditional joins with one left side is
+/// left out where that one stands before it, and has no row or was left out too: it isn't known before whether
+/// a later node has a row. Rows are given up to the last node that reads them, so that what only passes
+/// through isn't copied; what is given up and what is left out has no rows here. `tools` are made of the plan's
+/// tables.
 ///
 /// Meaning: `val`, `specs/Values.antt` of `algebra`.
 pub fn evaluate<'d>(
@@ -104,7 +104,7 @@ fn push_next<'d>(
     let _number = nodes.len();
     let n = board.len() as u32;
     let _node = nodes.get(n);
-    if is_idle(asked[n as usize], board.as_slice()) {
+    if is_idle(asked[n as usize], untils, board.as_slice()) {
         board.push(None)?;
     } else if is_narrowed(nodes, n, untils) && has_both(nodes, n, board.as_slice()) {
         let rows = rows_of_narrowed(alloc, tools, doc, nodes, n, board.as_slice())?;
@@ -117,14 +117,24 @@ fn push_next<'d>(
     Ok(())
 }
 
-/// Whether a node is asked for behind another one alone, which has no row.
-fn is_idle(asked: Asked, board: &[Option<Rows<'_>>]) -> bool
-    ensures { IsTrue result → IsIdle asked board.now }
+/// Whether a node is asked for behind another one alone, which has no row, or was left out.
+fn is_idle(asked: Asked, untils: &[u64], board: &[Option<Rows<'_>>]) -> bool
+    requires long { length board.now ≤ length untils.now }
+    ensures { IsTrue result → IsIdle asked untils.now board.now }
 {
     match asked {
-        Asked::Behind(g) => is_empty(board, g),
+        Asked::Behind(g) => is_empty(board, g) || is_left_out(board, g, untils),
         Asked::Never | Asked::Always => false,
     }
+}
+
+/// Whether node `n` has no rows on the board, on which it stands, though nodes behind the next one read it.
+fn is_left_out(board: &[Option<Rows<'_>>], n: u32, untils: &[u64]) -> bool
+    requires long { length board.now ≤ length untils.now }
+    ensures { IsTrue result → IsLeftOut board.now untils.now n }
+{
+    let place = n as usize;
+    place < board.len() && board[place].is_none() && untils[place] > board.len() as u64
 }
 
 /// Whether node `n` has its rows on the board, and they are none.
@@ -249,7 +259,7 @@ fn rows_of_narrowed<'d>(
 }
 
 /// The rows of a node, where the board has what it asks for, and somebody reads it; the board gives up those of
-/// its left input where nobody reads them later.
+/// its inputs where nobody reads them later.
 fn rows_if_asked<'d>(
     alloc: Global,
     tools: &mut Tools<'_>,
@@ -274,40 +284,37 @@ fn rows_if_asked<'d>(
     if untils[n as usize] == 0 || !has_asked(nodes, n, board.as_slice()) {
         return Ok(None);
     }
-    let (left, right) = nodes.get(n).inputs();
-    match given_up(board, left, right, n, untils) {
-        Some(rows) => {
-            let rows = rows_of_given(alloc, tools, doc, nodes, n, rows, board.as_slice())?;
-            Ok(Some(rows))
-        }
-        None => {
-            let rows = rows_of_lent(alloc, tools, doc, nodes, n, board.as_slice())?;
-            Ok(Some(rows))
-        }
-    }
+    let node = nodes.get(n);
+    let (left, right) = node.inputs();
+    let left_given = given_up(board, left, right, n, untils);
+    let right_given = given_up(board, right, left, n, untils);
+    let left_rows = found(alloc, nodes, board.as_slice(), left, left_given);
+    let right_rows = found(alloc, nodes, board.as_slice(), right, right_given);
+    let rows = apply(alloc, tools, doc, node, left_rows, right_rows)?;
+    Ok(Some(rows))
 }
 
-/// Takes the rows of the left input of node `n` off the board, where no later node reads them and the
-/// right input is another one.
+/// Takes the rows of an input of node `n` off the board, where no later node reads them and the other input is
+/// another one.
 fn given_up<'d>(
     board: &mut Vec<Option<Rows<'d>>>,
-    left: Option<u32>,
-    right: Option<u32>,
+    input: Option<u32>,
+    other: Option<u32>,
     n: u32,
     untils: &[u64],
 ) -> Option<Rows<'d>>
-    requires among { IsAmong (vec_len board.old) left }
+    requires among { IsAmong (vec_len board.old) input }
     requires long { vec_len board.old ≤ length untils.now }
-    ensures given { IfSome result (λ rows. IsTaken left right rows board.old.items) }
+    ensures given { IfSome result (λ rows. IsTaken input other rows board.old.items) }
     ensures none { IfNone result ((m : ℕ) → slice_index_or board.new.items m None ≡ slice_index_or board.old.items m None) }
     ensures long { vec_len board.new ≡ vec_len board.old }
-    ensures others { (m : ℕ) → (left ≡ Some m → ⊥) → slice_index_or board.new.items m None ≡ slice_index_or board.old.items m None }
+    ensures others { (m : ℕ) → (input ≡ Some m → ⊥) → slice_index_or board.new.items m None ≡ slice_index_or board.old.items m None }
     ensures less { (m : ℕ) → (slice_index_or board.new.items m None ≡ None) ⊎ (slice_index_or board.new.items m None ≡ slice_index_or board.old.items m None) }
     ensures kept { (m : ℕ) → n + 1 < read_until untils.now m → slice_index_or board.new.items m None ≡ slice_index_or board.old.items m None }
 {
-    match left {
+    match input {
         Some(i) => {
-            if untils[i as usize] == u64::from(n) + 1 && !is_node(right, i) {
+            if untils[i as usize] == u64::from(n) + 1 && !is_node(other, i) {
                 board[i as usize].take()
             } else {
                 None
@@ -327,52 +334,22 @@ fn is_node(input: Option<u32>, i: u32) -> bool
     }
 }
 
-/// The rows of a node whose left input is given up; its right one has its rows on the board, where it is asked for.
-fn rows_of_given<'d>(
+/// The rows of an input: those that were given up, and else those on the board, which are lent.
+fn found<'r, 'd>(
     alloc: Global,
-    tools: &mut Tools<'_>,
-    doc: &Document<'d>,
-    nodes: &'d Nodes,
-    n: u32,
-    left: Rows<'d>,
-    board: &[Option<Rows<'d>>],
-) -> Result<Rows<'d>, OutOfMemory>
-    requires there { n < length nodes.now }
-    requires before { length board.now ≡ n }
-    requires left { (node : declared_node.Node) → node ≡ slice_index_or nodes.now n node → IsInput tools.old doc.now nodes.now (left_input node) left }
-    requires right { (node : declared_node.Node) → node ≡ slice_index_or nodes.now n node → IsRightThere tools.old doc.now nodes.now board.now node }
-    ensures rows { IfOk result (IsOf tools.old doc.now nodes.now n) }
-    ensures same { tools.new ≡ tools.old }
+    nodes: &Nodes,
+    board: &'r [Option<Rows<'d>>],
+    input: Option<u32>,
+    given: Option<Rows<'d>>,
+) -> Input<'r, 'd>
+    requires among { IsAmong (length board.now) input }
+    requires below { IsAmong (length nodes.now) input }
+    ensures { input_rows result ≡ rows_found nodes.now board.now input given.entry }
 {
-    let node = nodes.get(n);
-    let (_left, right) = node.inputs();
-    let right_rows = lent(alloc, nodes, board, right);
-    let rows = apply(alloc, tools, doc, node, Input::Given(left), right_rows)?;
-    Ok(rows)
-}
-
-/// The rows of a node whose inputs have their rows on the board, the right one where it is asked for.
-fn rows_of_lent<'d>(
-    alloc: Global,
-    tools: &mut Tools<'_>,
-    doc: &Document<'d>,
-    nodes: &'d Nodes,
-    n: u32,
-    board: &[Option<Rows<'d>>],
-) -> Result<Rows<'d>, OutOfMemory>
-    requires there { n < length nodes.now }
-    requires before { length board.now ≡ n }
-    requires left { (node : declared_node.Node) → node ≡ slice_index_or nodes.now n node → IsOnBoard tools.old doc.now nodes.now board.now (left_input node) }
-    requires right { (node : declared_node.Node) → node ≡ slice_index_or nodes.now n node → IsRightThere tools.old doc.now nodes.now board.now node }
-    ensures rows { IfOk result (IsOf tools.old doc.now nodes.now n) }
-    ensures same { tools.new ≡ tools.old }
-{
-    let node = nodes.get(n);
-    let (left, right) = node.inputs();
-    let left_rows = lent(alloc, nodes, board, left);
-    let right_rows = lent(alloc, nodes, board, right);
-    let rows = apply(alloc, tools, doc, node, left_rows, right_rows)?;
-    Ok(rows)
+    match given {
+        Some(rows) => Input::Given(rows),
+        None => lent(alloc, nodes, board, input),
+    }
 }
 
 /// The rows of an input, which are lent; none, of its columns, where it has no rows on the board, and of no column

@@ -288,6 +288,33 @@ fn rows_are_there_for_all_who_read_them(rt: HostRuntime) -> Result<(), Fail> {
     Ok(())
 }
 
+/// The union of words with the late ones of them.
+fn words_and_late(alloc: Global, shown: &[u32]) -> Result<Plan, Fail> {
+    let mut nodes = Nodes::new(alloc);
+    put_words(alloc, &mut nodes, SMALL)?;
+    let conds = alone(alloc, begins_behind(alloc, 9)?)?;
+    put(&mut nodes, Node::Select { input: 2, conds })?;
+    put(&mut nodes, Node::Union { left: 2, right: 3 })?;
+    showing(alloc, nodes, tables_of(alloc)?, shown)
+}
+
+#[test]
+fn both_sides_are_given_up_to_their_last_reader(rt: HostRuntime) -> Result<(), Fail> {
+    let alloc = rt.alloc();
+    let late = "1:[15-19][20-23]";
+    let both = "1:[1-3][4-7][9-10][15-19][15-19][20-23][20-23]";
+    let table: [(&[u32], String); 2] = [
+        (&[4], format!(in alloc; "2 -\n3 -\n4 {both}\n")?),
+        (&[3, 4], format!(in alloc; "2 -\n3 {late}\n4 {both}\n")?),
+    ];
+    for (shown, want) in &table {
+        let plan = words_and_late(alloc, shown)?;
+        let got = evaluated(alloc, &plan, &[2, 3, 4])?;
+        assert_eq!(rt; got.as_str(), want.as_str(), "{shown:?}");
+    }
+    Ok(())
+}
+
 /// The pairs of great words of which the second follows the first, and what `others` gives of all pairs.
 fn pairs(alloc: Global, shown: &[u32]) -> Result<Plan, Fail> {
     let mut nodes = Nodes::new(alloc);
@@ -381,5 +408,53 @@ fn joins_without_a_left_row_have_none_and_leave_their_right_side(
     let plan = empty_left(alloc)?;
     let got = evaluated(alloc, &plan, &[2, 3, 4, 5, 6])?;
     assert_eq!(rt; got.as_str(), "2 -\n3 -\n4 3:\n5 3:\n6 3:\n");
+    Ok(())
+}
+
+/// A join whose left side, node 2, has no row; its right side is a join too, node 5, of node 3 with node 4.
+fn empty_far_left(alloc: Global, shown: &[u32]) -> Result<Plan, Fail> {
+    let mut nodes = Nodes::new(alloc);
+    put_words(alloc, &mut nodes, NONE)?;
+    for pattern in [SMALL, GREAT] {
+        let groups = numbers(alloc, &[0])?;
+        put(
+            &mut nodes,
+            Node::Regex {
+                input: 0,
+                column: 0,
+                pattern,
+                groups,
+            },
+        )?;
+    }
+    for (left, right) in [(3, 4), (2, 5)] {
+        put(
+            &mut nodes,
+            Node::Cross {
+                left,
+                right,
+                conditional: true,
+            },
+        )?;
+    }
+    showing(alloc, nodes, tables_of(alloc)?, shown)
+}
+
+#[test]
+fn what_waits_for_a_node_that_is_left_out_is_left_out_too(rt: HostRuntime) -> Result<(), Fail> {
+    let alloc = rt.alloc();
+    let found = "2:[0-24 0-3][0-24 8-10]";
+    let table: [(&[u32], String); 2] = [
+        (&[6], String::from_str(alloc, "2 -\n3 -\n4 -\n5 -\n6 5:\n")?),
+        (
+            &[4, 6],
+            format!(in alloc; "2 -\n3 -\n4 {found}\n5 -\n6 5:\n")?,
+        ),
+    ];
+    for (shown, want) in &table {
+        let plan = empty_far_left(alloc, shown)?;
+        let got = evaluated(alloc, &plan, &[2, 3, 4, 5, 6])?;
+        assert_eq!(rt; got.as_str(), want.as_str(), "{shown:?}");
+    }
     Ok(())
 }

@@ -28,7 +28,7 @@ use Rattle.push_select.specs.Pushed.{width_at, MayStand, ArePushed}
 use Rattle.push_select.proofs.Placing.{node_there, shape_there}
 
 -- the number of column n below a projection of these columns
-abbrev name_in : List ℕ → ℕ → ℕ
+abbrev pub name_in : List ℕ → ℕ → ℕ
 name_in shown n = get_or shown n 0
 
 -- a node of a plan stands where it may
@@ -38,7 +38,7 @@ may-at nodes pushed n node below is = subst (MayStand nodes) (sym is) (pushed n 
 -- ---- below a projection of plain columns
 
 module _ (w : ℕ) where
-  column_below : (shown : List ℕ) → All (ReadsBelow w) (map column shown) → (n : ℕ) → n < length shown → name_in shown n < w
+  pub column_below : (shown : List ℕ) → All (ReadsBelow w) (map column shown) → (n : ℕ) → n < length shown → name_in shown n < w
   column_below [] all n below = absurd (omega (arith, below))
   column_below (x ∷ shown) all zero below = (All-head (ReadsBelow w) (column x) (map column shown) all) 0 0 (omega arith)
   column_below (x ∷ shown) all (suc n) below = column_below shown (All-tail (ReadsBelow w) (column x) (map column shown) all) n (omega (arith, below))
@@ -49,7 +49,7 @@ module _ (w : ℕ) where
       subst (All (λ n. n < w)) (sym (columns-renamed (name_in shown) t))
       (All-map (λ n. n < w) (name_in shown) (columns_of t) (λ k d at. column_below shown all (get_or (columns_of t) k d) (reads k d at)))
 
-  all_below : (shown : List ℕ) → All (ReadsBelow w) (map column shown) → (ts : List Term) → All (ReadsBelow (length shown)) ts → All (ReadsBelow w) (map (renamed (name_in shown)) ts)
+  pub all_below : (shown : List ℕ) → All (ReadsBelow w) (map column shown) → (ts : List Term) → All (ReadsBelow (length shown)) ts → All (ReadsBelow w) (map (renamed (name_in shown)) ts)
   all_below shown all ts reads = All-map (ReadsBelow w) (renamed (name_in shown)) ts (λ k d at. read_below shown all (get_or ts k d) (reads k d at))
 
 module _ (lists : Lists) (doc : Document) where

@@ -20,5 +20,9 @@ pub mod Standing
 pub mod Going
 -- products of three nodes
 pub mod Reordering
+-- rows of which columns are shown
+pub mod ShownRows
+-- left nodes that show columns
+pub mod Showing
 -- joins that look near their left rows
 pub mod Searching

@@ -18,15 +18,16 @@ use Rattle.algebra.specs.declared.node.Node.{Node}
 use Rattle.algebra.specs.declared.shape.Shape.{Shape}
 use Rattle.algebra.specs.Growth.{IsAt}
 use Rattle.algebra.specs.GrowthLaws.{grows-trans, grows-length, shape-kept, val-kept}
-use Rattle.algebra.specs.Nodes.{IsNode}
+use Rattle.algebra.specs.Nodes.{IsNode, IsPlan}
 use Rattle.algebra.specs.SelectionLaws.{selected-product}
 use Rattle.algebra.specs.Shapes.{IsOpen, columns, no_shape, shapes_of}
 use Rattle.algebra.specs.Values.{val}
 use Rattle.algebra.specs.WidthLaws.{val-wide}
 use Rattle.push_select.specs.declared.below.Pair.{Pair}
+use Rattle.push_select.specs.declared.below.Three.{Three}
 use Rattle.push_select.specs.declared.turning.Turns.{Turns}
 use Rattle.push_select.specs.Conditions.{IsApart, AreTurns}
-use Rattle.push_select.specs.Places.{all_pairs, cross_of, joint_width, Combines}
+use Rattle.push_select.specs.Places.{all_pairs, cross_of, front_of, behind_of, joint_width, three_width, Combines, CombinesThree}
 use Rattle.push_select.specs.ProductLaws.{product-assoc}
 use Rattle.push_select.specs.Pushed.{width_at, ReadsBoth}
 use Rattle.push_select.proofs.JoiningRows.{selected-none}
@@ -48,7 +49,7 @@ later_of w cs = map (renamed (less w)) (filter (does_read_from w) cs)
 abbrev pub others_of : ℕ → List Term → List Term
 others_of w cs = filter (λ c. not (does_read_from w c)) cs
 
-unmapped : {X Y : Type 0} (P : Y → Type 0) (f : X → Y) (xs : List X) → All P (map f xs) → All (λ x. P (f x)) xs
+pub unmapped : {X Y : Type 0} (P : Y → Type 0) (f : X → Y) (xs : List X) → All P (map f xs) → All (λ x. P (f x)) xs
 unmapped P f xs all k d below = subst P (get_or-map f xs k d (f d) below) (all k (f d) (omega (arith, below, length-map xs f)))
 
 module _ (w v : ℕ) (t : Term) (behind : ReadsFrom w t) where
@@ -66,7 +67,7 @@ module _ (w v : ℕ) (t : Term) (behind : ReadsFrom w t) where
   shifted_both : ReadsBoth (w + v) t → ReadsBoth v (renamed (less w) t)
   shifted_both both = record { left = λ reads. both.left (shifted_from reads); right = λ reads. both.right (shifted_below reads) }
 
-apart_renamed : (f : ℕ → ℕ) (t : Term) → IsApart t → IsApart (renamed f t)
+pub apart_renamed : (f : ℕ → ℕ) (t : Term) → IsApart t → IsApart (renamed f t)
 apart_renamed f (column n) apart = tt
 apart_renamed f (number n) apart = tt
 apart_renamed f (string t) apart = tt
@@ -120,56 +121,44 @@ all_later w v (c ∷ cs) joint =
 
 -- ---- the three nodes
 
-module _ (old : List Node) (pair inner : Pair) (at : IsAt old pair.left (cross_of inner)) (both : IsNode (shapes_of old) (cross_of pair)) (cs : List Term)
-    (reads : All (ReadsBelow (joint_width old pair)) cs) (joint : All (ReadsBoth (width_at old pair.left)) cs) (apart : All IsApart cs) where
+module _ (old : List Node) (three : Three) (plan : IsPlan old) (first_two : IsNode (shapes_of old) (cross_of (front_of three))) (last_two : IsNode (shapes_of old) (cross_of (behind_of three))) (cs : List Term)
+    (reads : All (ReadsBelow (three_width old three)) cs) (joint : All (ReadsBoth (joint_width old (front_of three))) cs) (apart : All IsApart cs) where
   abbrev w : ℕ
-  w = width_at old inner.left
+  w = width_at old three.first
 
   abbrev v : ℕ
-  v = width_at old inner.right
+  v = width_at old three.second
 
   abbrev u : ℕ
-  u = width_at old pair.right
-
-  abbrev behind : Pair
-  behind = record { left = inner.right; right = pair.right }
-
-  left_width : width_at old pair.left ≡ w + v
-  left_width = ap (λ (s : Shape). s.width) at.stands.has.shaped
-
-  joint_here : All (ReadsBoth (w + v)) cs
-  joint_here = subst (λ (n : ℕ). All (ReadsBoth n) cs) left_width joint
+  u = width_at old three.third
 
   reads_here : All (ReadsBelow (w + (v + u))) cs
   reads_here = subst (λ (n : ℕ). All (ReadsBelow n) cs) sums reads
     where
-      sums : joint_width old pair ≡ w + (v + u)
-      sums = omega (arith, left_width)
+      sums : three_width old three ≡ w + (v + u)
+      sums = omega arith
 
-  pub behind-valid : IsNode (shapes_of old) (cross_of behind)
-  behind-valid = record { left_below = at.valid.right_below; right_below = both.right_below; made = (at.valid.made.1, both.made.1) }
-
-  pub behind-reads : All (ReadsBelow (joint_width old behind)) (later_of w cs)
+  pub behind-reads : All (ReadsBelow (joint_width old (behind_of three))) (later_of w cs)
   behind-reads = All-map (ReadsBelow (v + u)) (renamed (less w)) (filter (does_read_from w) cs) (shifted_read w (v + u) cs reads_here)
 
-  pub behind-joint : All (ReadsBoth (width_at old behind.left)) (later_of w cs)
-  behind-joint = later_both w v cs joint_here
+  pub behind-joint : All (ReadsBoth (width_at old three.second)) (later_of w cs)
+  behind-joint = later_both w v cs joint
 
   pub behind-apart : All IsApart (later_of w cs)
   behind-apart = All-map IsApart (renamed (less w)) (filter (does_read_from w) cs) (λ k d below.
       apart_renamed (less w) (get_or (filter (does_read_from w) cs) k d) (All-filter (does_read_from w) IsApart cs apart k d below))
 
-  module _ (mid : List Node) (r : ℕ) (near : Combines old mid behind r all_pairs (later_of w cs)) where
+  module _ (mid : List Node) (r : ℕ) (near : Combines old mid (behind_of three) r all_pairs (later_of w cs)) where
     abbrev front : Pair
-    front = record { left = inner.left; right = r }
+    front = record { left = three.first; right = r }
 
-    first_there : inner.left < length old
-    first_there = node_there old inner.left at.valid.left_below
+    first_there : three.first < length old
+    first_there = node_there old three.first first_two.left_below
 
-    first_shape : get_or (shapes_of mid) inner.left no_shape ≡ get_or (shapes_of old) inner.left no_shape
-    first_shape = shape-kept old mid inner.left near.grows first_there
+    first_shape : get_or (shapes_of mid) three.first no_shape ≡ get_or (shapes_of old) three.first no_shape
+    first_shape = shape-kept old mid three.first near.grows first_there
 
-    first_width : width_at mid inner.left ≡ w
+    first_width : width_at mid three.first ≡ w
     first_width = ap (λ (s : Shape). s.width) first_shape
 
     near_width : width_at mid r ≡ v + u
@@ -177,9 +166,9 @@ module _ (old : List Node) (pair inner : Pair) (at : IsAt old pair.left (cross_o
 
     pub front-valid : IsNode (shapes_of mid) (cross_of front)
     front-valid = record {
-      left_below = shape_there mid inner.left (omega (arith, first_there, grows-length old mid near.grows));
+      left_below = shape_there mid three.first (omega (arith, first_there, grows-length old mid near.grows));
       right_below = shape_there mid r near.has.there;
-      made = (subst (λ (s : Shape). IsOpen s) (sym first_shape) at.valid.made.0, subst (λ (s : Shape). IsOpen s) (sym near.has.shaped) tt);
+      made = (subst (λ (s : Shape). IsOpen s) (sym first_shape) first_two.made.0, subst (λ (s : Shape). IsOpen s) (sym near.has.shaped) tt);
     }
 
     pub front-reads : All (ReadsBelow (joint_width mid front)) (others_of w cs)
@@ -188,31 +177,31 @@ module _ (old : List Node) (pair inner : Pair) (at : IsAt old pair.left (cross_o
         (All-filter (λ c. not (does_read_from w c)) (ReadsBelow (w + (v + u))) cs reads_here)
 
     pub front-joint : All (ReadsBoth (width_at mid front.left)) (others_of w cs)
-    front-joint = subst (λ (n : ℕ). All (ReadsBoth n) (others_of w cs)) (sym first_width) (others_both w v cs joint_here)
+    front-joint = subst (λ (n : ℕ). All (ReadsBoth n) (others_of w cs)) (sym first_width) (others_both w v cs joint)
 
     pub front-apart : All IsApart (others_of w cs)
     front-apart = All-filter (λ c. not (does_read_from w c)) IsApart cs apart
 
     -- the rest of the conditions over the first node and what the others give are all of them over the three
     turned_same : (lists : Lists) (doc : Document)
-        → SameBag (selected lists doc (others_of w cs) (product (val lists doc mid inner.left) (val lists doc mid r))) (selected lists doc cs (product (val lists doc old pair.left) (val lists doc old pair.right)))
+        → SameBag (selected lists doc (others_of w cs) (product (val lists doc mid three.first) (val lists doc mid r)))
+        (selected lists doc cs (product (product (val lists doc old three.first) (val lists doc old three.second)) (val lists doc old three.third)))
     turned_same lists doc =
-        let a = val lists doc old inner.left in
-        let b = val lists doc old inner.right in
-        let c = val lists doc old pair.right in
-        let kept : val lists doc mid inner.left ≡ a = val-kept lists doc old mid inner.left near.grows first_there in
+        let a = val lists doc old three.first in
+        let b = val lists doc old three.second in
+        let c = val lists doc old three.third in
+        let kept : val lists doc mid three.first ≡ a = val-kept lists doc old mid three.first near.grows first_there in
         let sides : selected lists doc cs (product a (product b c)) ≡ selected lists doc (others_of w cs) (product a (selected lists doc (later_of w cs) (product b c))) =
-        selected-product lists doc w cs a (product b c) (val-wide lists doc old inner.left at.plan)
-        ∙ (ap₂ (λ (l : List Term) (p : List Term). selected lists doc (joint_conditions w cs) (product (selected lists doc l a) (selected lists doc p (product b c)))) (none_left w v cs joint_here)
-        (ap (λ (p : List Term). map (renamed (less w)) (filter (does_read_from w) p)) (all_later w v cs joint_here))
-        ∙ (ap (λ (p : List Term). selected lists doc (filter (λ x. not (does_read_from w x)) p) (product (selected lists doc [] a) (selected lists doc (later_of w cs) (product b c)))) (all_later w v cs joint_here)
+        selected-product lists doc w cs a (product b c) (val-wide lists doc old three.first plan)
+        ∙ (ap₂ (λ (l : List Term) (p : List Term). selected lists doc (joint_conditions w cs) (product (selected lists doc l a) (selected lists doc p (product b c)))) (none_left w v cs joint)
+        (ap (λ (p : List Term). map (renamed (less w)) (filter (does_read_from w) p)) (all_later w v cs joint))
+        ∙ (ap (λ (p : List Term). selected lists doc (filter (λ x. not (does_read_from w x)) p) (product (selected lists doc [] a) (selected lists doc (later_of w cs) (product b c)))) (all_later w v cs joint)
         ∙ ap (λ (rows : Rows). selected lists doc (others_of w cs) (product rows (selected lists doc (later_of w cs) (product b c)))) (selected-none lists doc a))) in
         SameBag-trans _ _ _
         (SameBag-filter (holding lists doc (others_of w cs)) _ _ (SameBag-product _ _ _ _ (SameBag-is _ _ kept) (near.has.same lists doc)))
-        (SameBag-trans _ _ _ (SameBag-is _ _ (sym sides ∙ ap (selected lists doc cs) (sym (product-assoc a b c))))
-        (SameBag-filter (holding lists doc cs) _ _ (SameBag-product _ _ _ _ (SameBag-sym _ _ (at.stands.has.same lists doc)) (SameBag-refl c))))
+        (SameBag-is _ _ (sym sides ∙ ap (selected lists doc cs) (sym (product-assoc a b c))))
 
-    pub turned-combines : (new : List Node) (n : ℕ) → Combines mid new front n all_pairs (others_of w cs) → Combines old new pair n all_pairs cs
+    pub turned-combines : (new : List Node) (n : ℕ) → Combines mid new front n all_pairs (others_of w cs) → CombinesThree old new three n cs
     turned-combines new n far = record {
       grows = grows-trans old mid new near.grows far.grows;
       has = record {
@@ -222,5 +211,34 @@ module _ (old : List Node) (pair inner : Pair) (at : IsAt old pair.left (cross_o
       };
     }
       where
-        widths : joint_width mid front ≡ joint_width old pair
-        widths = omega (arith, first_width, near_width, left_width)
+        widths : joint_width mid front ≡ three_width old three
+        widths = omega (arith, first_width, near_width)
+
+-- ---- a product and a third node
+
+module _ (old : List Node) (pair inner : Pair) (at : IsAt old pair.left (cross_of inner)) (both : IsNode (shapes_of old) (cross_of pair)) where
+  pub inner_width : width_at old pair.left ≡ joint_width old inner
+  inner_width = ap (λ (s : Shape). s.width) at.stands.has.shaped
+
+  pub three-behind : IsNode (shapes_of old) (cross_of (record { left = inner.right; right = pair.right }))
+  three-behind = record { left_below = at.valid.right_below; right_below = both.right_below; made = (at.valid.made.1, both.made.1) }
+
+  module _ (cs : List Term) where
+    pub three-reads : All (ReadsBelow (joint_width old pair)) cs → All (ReadsBelow (joint_width old inner + width_at old pair.right)) cs
+    three-reads reads = subst (λ (n : ℕ). All (ReadsBelow (n + width_at old pair.right)) cs) inner_width reads
+
+    pub three-joint : All (ReadsBoth (width_at old pair.left)) cs → All (ReadsBoth (joint_width old inner)) cs
+    three-joint joint = subst (λ (n : ℕ). All (ReadsBoth n) cs) inner_width joint
+
+    -- the rows of three nodes are those of the product and the third
+    pub three-combines : (new : List Node) (n : ℕ) → CombinesThree old new (record { first = inner.left; second = inner.right; third = pair.right }) n cs → Combines old new pair n all_pairs cs
+    three-combines new n combines = record {
+      grows = combines.grows;
+      has = record {
+        there = combines.has.there;
+        shaped = combines.has.shaped ∙ ap (λ (w : ℕ). columns (w + width_at old pair.right)) (sym inner_width);
+        same = λ lists doc.
+            SameBag-trans _ _ _ (combines.has.same lists doc)
+            (SameBag-filter (holding lists doc cs) _ _ (SameBag-product _ _ _ _ (SameBag-sym _ _ (at.stands.has.same lists doc)) (SameBag-refl (val lists doc old pair.right))));
+      };
+    }

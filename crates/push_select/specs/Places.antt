@@ -1,5 +1,6 @@
 -- What nodes that take the place of others have.
-use Rattle.std.specs.Prelude.{ℕ, ◌≡◌, ◌+◌, false, List, Some, map, All, slice_index_or}
+use Rattle.std.specs.Prelude.{ℕ, ◌≡◌, ◌+◌, false, List, ◌++◌, Some, map, All, slice_index_or}
+use Rattle.std.specs.List.{range_with_len}
 use Rattle.span_token.specs.Documents.{Doc as Document}
 use Rattle.row_values.specs.Datums.{Datum}
 use Rattle.row_values.specs.Rows.{product}
@@ -22,6 +23,7 @@ use Rattle.algebra.specs.Values.{val}
 use Rattle.push_select.specs.declared.below.Below.{Below}
 use Rattle.push_select.specs.declared.below.Below.TheVariants as below
 use Rattle.push_select.specs.declared.below.Pair.{Pair}
+use Rattle.push_select.specs.declared.below.Three.{Three}
 use Rattle.push_select.specs.declared.join.Join.{Join}
 use Rattle.push_select.specs.declared.selection.NarrowedPair.{NarrowedPair}
 use Rattle.push_select.specs.Conditions.{IsApart}
@@ -63,6 +65,21 @@ joined_by join doc left right = joined_where (does_join doc join.kind) left join
 abbrev pub joint_width : List Node → Pair → ℕ
 joint_width nodes pair = width_at nodes pair.left + width_at nodes pair.right
 
+-- of three nodes the first two, and the last two
+abbrev pub front_of : Three → Pair
+front_of three = record { left = three.first; right = three.second }
+
+abbrev pub behind_of : Three → Pair
+behind_of three = record { left = three.second; right = three.third }
+
+-- how many columns rows of three nodes have together
+abbrev pub three_width : List Node → Three → ℕ
+three_width nodes three = joint_width nodes (front_of three) + width_at nodes three.third
+
+-- the columns of a product, by the numbers that they have where its sides, of so many columns, are swapped
+abbrev pub columns_swapped : ℕ → ℕ → List ℕ
+columns_swapped first second = range_with_len second first ++ range_with_len 0 second
+
 -- rows of node n are any rows
 abbrev pub IsPlain : List Node → ℕ → Type 0
 IsPlain nodes n = slice_index_or (shapes_of nodes) n no_shape ≡ columns (width_at nodes n)
@@ -95,6 +112,11 @@ pub record NarrowsPair (old new : List Node) (pair : Pair) (conds : List Term) (
 pub record Combines (old new : List Node) (pair : Pair) (n : ℕ) (rows : Combination) (conds : List Term) : Type 0 where
   pub grows : Grows old new
   pub has : Has new n (columns (joint_width old pair)) (λ lists doc. selected lists doc conds (rows doc (val lists doc old pair.left) (val lists doc old pair.right)))
+
+-- node n of the new plan has the joined rows of three old nodes on which the conditions hold
+pub record CombinesThree (old new : List Node) (three : Three) (n : ℕ) (conds : List Term) : Type 0 where
+  pub grows : Grows old new
+  pub has : Has new n (columns (three_width old three)) (λ lists doc. selected lists doc conds (product (product (val lists doc old three.first) (val lists doc old three.second)) (val lists doc old three.third)))
 
 -- node n of the new plan has what is sought in the document, which is the row of node `source` of the old one
 pub record Searches (old new : List Node) (source n : ℕ) (sought : Local) : Type 0 where

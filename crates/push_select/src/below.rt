@@ -19,6 +19,14 @@ pub(crate) struct Pair {
     pub right: u32,
 }
 
+/// The numbers of three nodes that are combined, the first two of them first.
+#[derive(Clone, Copy, Debug, PartialEq, Eq)]
+pub(crate) struct Three {
+    pub first: u32,
+    pub second: u32,
+    pub third: u32,
+}
+
 /// What a node combines, or of which node it shows columns.
 #[derive(Debug, Drop)]
 pub(crate) enum Below {
@@ -68,6 +76,14 @@ pub(crate) fn below_of(alloc: Global, node: &Node) -> Result<Below, OutOfMemory>
             None => Ok(Below::Other),
         },
         _ => Ok(Below::Other),
+    }
+}
+
+/// Whether a node combines each left row with each right row.
+pub(crate) fn is_product(node: &Node) -> bool {
+    match node {
+        Node::Cross { .. } => true,
+        _ => false,
     }
 }
 

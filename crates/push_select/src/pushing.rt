@@ -17,8 +17,10 @@ use std::alloc::Global;
 /// it reads alone; one that reads no column goes to the left. An `And` is taken apart. A condition that is
 /// `Follows`, `FollowsTok`, `Overlaps` or `Contains` of two plain columns, one of each side, makes the
 /// product a join of its kind: the first that is a distance, else the first overlap, else the first
-/// containment. The others stay in a selection above it. No condition goes down past another node, and of
-/// projections of plain columns one above another one is left.
+/// containment. The others stay in a selection above it. Of a product of three those are joined first that
+/// such a condition connects, the last two before the first and the last; a projection gives columns their
+/// order back. No condition goes down past another node, and of projections of plain columns one above
+/// another one is left.
 ///
 /// Every join of the answer asks for both of its inputs: a conditional one is put as one that isn't, and one
 /// that looks near its left rows as the join of these with all that is found. What that saves is for a rewrite

@@ -10,10 +10,10 @@ ghost use Rattle.algebra.specs.Shapes.{shapes_of};
 ghost use Rattle.push_select.specs.Places.{cross_of, join_of_pair, joint_width, IsPushed, Narrows, NarrowsPair};
 
 use crate::below::{Below, Pair, below_of};
-use crate::copying::{Numbers, all_copied, all_renamed, columns_shown};
+use crate::copying::{Numbers, all_copied, all_renamed};
 use crate::join::Join;
 use crate::joining::{joined, paired};
-use crate::projecting::projected;
+use crate::projecting::shown_of;
 use crate::sides::by_side;
 use algebra::{Node, Nodes};
 use scalar_ops::{Expr, Exprs};
@@ -149,9 +149,7 @@ fn columns_selected(
     let below = all_renamed(alloc, conds.as_slice(), Numbers::Listed(shown.as_slice()))?;
     let below = Exprs::from(below);
     let narrower = selected(alloc, nodes, from, below)?;
-    let items = columns_shown(alloc, shown.as_slice())?;
-    let items = Exprs::from(items);
-    let n = projected(alloc, nodes, narrower, items)?;
+    let n = shown_of(alloc, nodes, narrower, shown.as_slice())?;
     Ok(n)
 }
 

@@ -5,12 +5,11 @@ use Rattle.std.proofs.lemmas.List.{length-append, length-set, get_or_at}
 use Rattle.std.proofs.lemmas.Option.{slice_get_within, slice_get-get_or}
 use Rattle.algebra.specs.declared.node.Node.{Node}
 use Rattle.algebra.specs.declared.node.Node.TheVariants.{Doc, Dict, DictPart}
-use Rattle.share_plan.specs.declared.kind.Kind.{Kind}
-use Rattle.share_plan.specs.declared.kind.Kind.TheVariants.{Source, Part, Plain}
+use Rattle.share_plan.specs.declared.kind.Kind.TheVariants.{Plain}
 use Rattle.share_plan.specs.Kinds.{kind_of}
 use Rattle.share_plan.specs.Placing.{Extends, IsPlaced}
 use Rattle.share_plan.proofs.Finding.{there_in_front, there_set_other, there_set_same}
-use Rattle.share_plan.proofs.KindLaws.{plain-source, plain-part, source-part}
+use Rattle.share_plan.proofs.KindLaws.{plain-source, plain-part}
 
 some_same : (a b : Node) → Some a ≡ Some b → a ≡ b
 some_same a b e = cc

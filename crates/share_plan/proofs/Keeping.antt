@@ -1,175 +1,32 @@
--- The marked nodes of a plan, put together anew: each is what it was, no two became equal, and each is read.
-use Rattle.std.proofs.Common.{◌≡◌, ◌≢◌, ◌∙◌, ℕ, ◌+◌, ◌<◌, ◌≤◌, ◌⊎◌, inl, inr, Bool, true, false, true≢false, cond, List, [], ◌∷◌, ◌++◌, length, map, get_or, slice_get, refl, sym, ap, ap₂, subst, arith, Option, Some, None, option_map}
-use Rattle.std.specs.List.{All, Contains}
+-- The marked nodes of a plan, put together anew: no two became equal, each is read, and they stand in the order in which
+-- they are needed.
+use Rattle.std.proofs.Common.{◌≡◌, ◌≢◌, ◌∙◌, ℕ, ◌<◌, ◌⊎◌, inl, inr, Bool, true, false, cond, List, [], ◌∷◌, length, map, take, get_or, slice_get, refl, sym, ap, ap₂, subst, arith, Option, Some, None, option_map}
+use Rattle.std.specs.List.{All, AllPairs, Contains}
 use Rattle.std.specs.Option.{IfSome}
 use Rattle.std.proofs.lemmas.Bool.{cases_lt}
-use Rattle.std.proofs.lemmas.List.{length-append, length-map, get_or-map, get_or_at, get_or_default}
+use Rattle.std.proofs.lemmas.List.{length-map, get_or-map, get_or_default}
 use Rattle.std.proofs.lemmas.List.Elements.{All-map}
 use Rattle.std.proofs.lemmas.Option.{slice_get_within, slice_get-get_or, get_or_from_slice_get}
 use Rattle.algebra.specs.declared.node.Node.{Node}
 use Rattle.algebra.specs.declared.node.Node.TheVariants.{Doc, Regex, TokenRegex, Dict, DictPart, Blocks, Select, Project, Cross, SpanJoin, Restricted, Union, Minus, Consolidate, Group, OrderLimit}
 use Rattle.algebra.specs.declared.output.PlanOut.{PlanOut}
-use Rattle.algebra.specs.FoldLaws.{length-each}
-use Rattle.algebra.specs.Growth.{Stands}
-use Rattle.algebra.specs.GrowthLaws.{is-at}
-use Rattle.algebra.specs.Inputs.{left_input, right_input, with_inputs, IsAmong}
+use Rattle.algebra.specs.Inputs.{left_input, right_input, with_inputs}
+use Rattle.algebra.specs.Items.{output_nodes}
 use Rattle.algebra.specs.Mapping.{new_number, renumbered, KeepsInputs}
-use Rattle.algebra.specs.MappingLaws.{node-renamed, mapped-none, mapped-push, mapped-skip}
-use Rattle.algebra.specs.NodeLaws.{plan-at, plan-front}
-use Rattle.algebra.specs.Nodes.{IsNode, IsPlan}
+use Rattle.algebra.specs.Nodes.{IsPlan}
 use Rattle.algebra.specs.OperatorLaws.{left-renamed, right-renamed}
 use Rattle.algebra.specs.Plans.{Parts, AreOutputs}
-use Rattle.algebra.specs.Shapes.{shape_by, no_shape, shapes_of}
-use Rattle.share_plan.specs.Marks.{IsMarked, AreClosedFrom, AreFounded, IsMovedBy, IsPruned}
+use Rattle.algebra.specs.Shapes.{no_shape, shapes_of}
+use Rattle.share_plan.specs.Marks.{IsMarked, AreClosed, AreFounded, IsMovedBy, IsArranged, IsPruned}
+use Rattle.share_plan.specs.Ordering.{AreRightOf, IsInOrder}
 use Rattle.share_plan.specs.Pruning.{Reads, IsRead, AreRead, IsDropped}
 use Rattle.share_plan.specs.Renumbering.{IsRenumbered}
-use Rattle.share_plan.specs.Sharing.{AreDistinct, AreMerged}
-use Rattle.share_plan.proofs.Extending.{front_or_last, front_stays, at_last, same_at}
-use Rattle.share_plan.proofs.MarkLaws.{marked_within}
-use Rattle.share_plan.proofs.Moving.{moved_itself, moved_later, number_before, number_last}
-use Rattle.share_plan.proofs.Parts.{is_node}
-
--- ---- one node more
-
-pub pruned-none : (marks : List Bool) → IsPruned marks [] [] []
-pruned-none marks = record {
-  mapped = mapped-none (IsMarked marks) [];
-  moved = λ i before at marked. absurd (nothing (slice_get_within [] i before at));
-  from = λ n below. absurd (nothing below);
-  in_order = λ i j low high a b. absurd (nothing high);
-}
-  where
-    nothing : {n : ℕ} → n < 0 → ⊥
-    nothing below = omega (arith, below)
-
--- the node behind those that were taken
-pub record IsNext (marks : List Bool) (yielded : List Node) (node : Node) : Type 0 where
-  pub plan : IsPlan yielded
-  pub valid : IsNode (shapes_of yielded) node
-  pub keeps : IsMarked marks (length yielded) → KeepsInputs (IsMarked marks) node
-
-pub next_node : (all yielded : List Node) (node : Node) (rest : List Node) → all ≡ yielded ++ node ∷ rest → IsPlan all → (marks : List Bool) → AreClosedFrom 0 all marks → IsNext marks yielded node
-next_node all yielded node rest whole plan marks closed =
-    let planned : IsPlan (yielded ++ node ∷ rest) = subst IsPlan whole plan in
-    let at : slice_get all (length yielded) ≡ Some node =
-    ap (λ (list : List Node). slice_get list (length yielded)) whole
-    ∙ (slice_get-get_or (yielded ++ node ∷ rest) (length yielded) Doc (omega (arith, length-append yielded (node ∷ rest)))
-    ∙ ap (λ (x : Node). Some x) (get_or_at yielded node rest Doc (length yielded) refl)) in
-    record {
-      plan = plan-front yielded (node ∷ rest) planned;
-      valid = plan-at yielded node rest planned;
-      keeps = λ marked. let both = closed (length yielded) node (omega arith) at marked in record { left = both.0; right = both.1 };
-    }
-
-module _ (marks : List Bool) (old new : List Node) (to : List ℕ) (so_far : IsPruned marks old new to) (plan : IsPlan old) (node : Node) (valid : IsNode (shapes_of old) node) where
-  long : length to ≡ length old
-  long = so_far.mapped.long
-
-  of_old : (o : Option ℕ) → IsAmong (length (shapes_of old)) o → IsAmong (length old) o
-  of_old o among = subst (λ (k : ℕ). IsAmong k o) (length-each no_shape shape_by old) among
-
-  -- the inputs of the node have numbers
-  pub left_numbered : IsAmong (length to) (left_input node)
-  left_numbered = subst (λ (k : ℕ). IsAmong k (left_input node)) (sym long) (of_old (left_input node) valid.left_below)
-
-  pub right_numbered : IsAmong (length to) (right_input node)
-  right_numbered = subst (λ (k : ℕ). IsAmong k (right_input node)) (sym long) (of_old (right_input node) valid.right_below)
-
-  abbrev after : Node
-  after = with_inputs (new_number to) node
-
-  -- nodes that had numbers keep them
-  module _ (later : List Node) (n : ℕ) (stay : (k : ℕ) (x : Node) → slice_get new k ≡ Some x → slice_get later k ≡ Some x) where
-    front_moved : (i : ℕ) (before : Node) → slice_get old i ≡ Some before → IsMarked marks i
-        → (after : Node) × (slice_get later (new_number (to ++ n ∷ []) i) ≡ Some after) × IsMovedBy (to ++ n ∷ []) before after
-    front_moved i before at marked =
-        let was = so_far.moved i before at marked in
-        let below : i < length old = slice_get_within old i before at in
-        let here = is-at old i before plan below (is_node old i before at) in (
-          was.0,
-          ap (λ (k : ℕ). slice_get later k) (number_before to n i (omega (arith, below, long))) ∙ stay (new_number to i) was.0 was.1,
-          moved_later to n i before was.0 (omega (arith, below, long)) here.left_lower here.right_lower was.2,
-        )
-
-    front_from : (k : ℕ) → k < length new → (i : ℕ) × (i < length (to ++ n ∷ [])) × IsMarked marks i × (new_number (to ++ n ∷ []) i ≡ k)
-    front_from k below =
-        let was = so_far.from k below in
-        (was.0, omega (arith, was.1, length-append to (n ∷ [])), was.2, number_before to n was.0 was.1 ∙ was.3)
-
-    front_order : (i j : ℕ) → i < j → j < length to → IsMarked marks i → IsMarked marks j → new_number (to ++ n ∷ []) i < new_number (to ++ n ∷ []) j
-    front_order i j low high a b =
-        omega (arith, number_before to n i (omega (arith, low, high)), number_before to n j high, so_far.in_order i j low high a b)
-
-  among_last : (j : ℕ) (n : ℕ) → j < length (to ++ n ∷ []) → (j < length to) ⊎ (j ≡ length to)
-  among_last j n below = elim (cases_lt j (length to)) [
-    | inl h ↦ inl h
-    | inr h ↦ inr (omega (arith, h, below, length-append to (n ∷ [])))
-  ]
-
-  -- a marked node is put behind the others
-  pub pruned-push : IsMarked marks (length old) → KeepsInputs (IsMarked marks) node → (later : List Node) (n : ℕ) → n ≡ length new → later ≡ new ++ with_inputs (new_number to) node ∷ []
-      → Stands new later n (with_inputs (new_number to) node) → IsPruned marks (old ++ node ∷ []) later (to ++ n ∷ [])
-  pruned-push marked keeps later n last is stands = record {
-    mapped = mapped-push (IsMarked marks) old new to so_far.mapped node later n valid keeps stands;
-    moved = λ i before at m. elim (front_or_last old node i before at) [
-      | inl h ↦ front_moved later n stay i before h m
-      | inr h ↦
-          let number : new_number (to ++ n ∷ []) i ≡ n = ap (new_number (to ++ n ∷ [])) (h.0 ∙ sym long) ∙ number_last to n in (
-            after,
-            ap (λ (k : ℕ). slice_get later k) number ∙ there,
-            subst (λ (x : Node). IsMovedBy (to ++ n ∷ []) x after) (sym h.1)
-                (moved_later to n (length old) node after (omega (arith, long)) (of_old (left_input node) valid.left_below) (of_old (right_input node) valid.right_below) (moved_itself to node)),
-          )
-    ];
-    from = λ k below. elim (cases_lt k (length new)) [
-      | inl h ↦ front_from later n stay k h
-      | inr h ↦ (
-        length to,
-        omega (arith, length-append to (n ∷ [])),
-        subst (IsMarked marks) (sym long) marked,
-        number_last to n ∙ omega (arith, last, h, below, ap length is, length-append new (after ∷ [])),
-      )
-    ];
-    in_order = λ i j low high a b. elim (among_last j n high) [
-      | inl h ↦ front_order later n stay i j low h a b
-      | inr h ↦
-          let first : i < length to = omega (arith, low, h) in
-          omega (arith, number_before to n i first, so_far.mapped.there i first a, last, ap (new_number (to ++ n ∷ [])) h, number_last to n)
-    ];
-  }
-    where
-      stay : (k : ℕ) (x : Node) → slice_get new k ≡ Some x → slice_get later k ≡ Some x
-      stay k x at = ap (λ (list : List Node). slice_get list k) is ∙ front_stays new (after ∷ []) k x at
-
-      there : slice_get later n ≡ Some after
-      there = ap (λ (list : List Node). slice_get list n) is ∙ (ap (λ (k : ℕ). slice_get (new ++ after ∷ []) k) last ∙ at_last new after)
-
-  -- another is left out
-  pub pruned-skip : (IsMarked marks (length old) → ⊥) → (n : ℕ) → IsPruned marks (old ++ node ∷ []) new (to ++ n ∷ [])
-  pruned-skip gone n = record {
-    mapped = mapped-skip (IsMarked marks) old new to so_far.mapped node n gone;
-    moved = λ i before at m. elim (front_or_last old node i before at) [
-      | inl h ↦ front_moved new n (λ k x there. there) i before h m
-      | inr h ↦ absurd (gone (subst (IsMarked marks) h.0 m))
-    ];
-    from = λ k below. front_from new n (λ k x there. there) k below;
-    in_order = λ i j low high a b. elim (among_last j n high) [
-      | inl h ↦ front_order new n (λ k x there. there) i j low h a b
-      | inr h ↦ absurd (gone (subst (IsMarked marks) (h ∙ long) b))
-    ];
-  }
-
-  -- as its mark says
-  pub pruned-next : (b : Bool) → b ≡ get_or marks (length old) false → (IsMarked marks (length old) → KeepsInputs (IsMarked marks) node) → (later : List Node) (n : ℕ)
-      → (b ≡ true → (n ≡ length new) × (later ≡ new ++ with_inputs (new_number to) node ∷ []) × Stands new later n (with_inputs (new_number to) node)) → (b ≡ false → later ≡ new)
-      → IsPruned marks (old ++ node ∷ []) later (to ++ n ∷ [])
-  pruned-next true is keeps later n put skipped = let p = put refl in pruned-push (sym is) (keeps (sym is)) later n p.0 p.1 p.2
-  pruned-next false is keeps later n put skipped =
-      subst (λ (list : List Node). IsPruned marks (old ++ node ∷ []) list (to ++ n ∷ [])) (sym (skipped refl)) (pruned-skip (λ marked. true≢false (sym marked ∙ sym is)) n)
-
-  -- a marked node may be put
-  pub pruned-valid : KeepsInputs (IsMarked marks) node → IsNode (shapes_of new) (with_inputs (new_number to) node)
-  pruned-valid keeps = node-renamed (IsMarked marks) old new to so_far.mapped node valid keeps
+use Rattle.share_plan.specs.Sharing.{AreApart, AreDistinct, AreMerged}
+use Rattle.share_plan.specs.Walks as walks
+use Rattle.share_plan.specs.Walks.{IsCalled, IsOrder}
+use Rattle.share_plan.proofs.Arranging.{arranged-pruned}
+use Rattle.share_plan.proofs.Extending.{same_at}
+use Rattle.share_plan.proofs.Walking.{marked_within, taken_at, order-closed, order-founded, called_marked}
 
 -- ---- a node is told by its inputs and the node that it becomes
 
@@ -213,6 +70,9 @@ told_again f (Consolidate i policy target) = refl
 told_again f (Group i keys aggs) = refl
 told_again f (OrderLimit i keys limit) = refl
 
+apart_turned : (a b : Node) → AreApart a b → AreApart b a
+apart_turned a b apart input column dicts others first second = apart input column others dicts second first
+
 some_number : (a b : ℕ) → Some a ≡ Some b → a ≡ b
 some_number a b e = cc
 
@@ -228,42 +88,22 @@ contains_before f xs y c =
     let x = get_or xs c.0 0 in
     (x, (c.0, below, get_or_default xs c.0 x 0 below), sym (get_or-map f xs c.0 0 y below) ∙ c.2)
 
-module _ (marks : List Bool) (old new : List Node) (to : List ℕ) (pruned : IsPruned marks old new to) (plan : IsPlan old) (closed : AreClosedFrom 0 old marks) (wide : length marks ≡ length old) where
+module _ (marks : List Bool) (old new : List Node) (to : List ℕ) (pruned : IsPruned marks old new to) (plan : IsPlan old) (closed : AreClosed old marks) (wide : length marks ≡ length old) where
   abbrev look : ℕ → ℕ
   look i = new_number to i
 
   marked_there : (i : ℕ) → IsMarked marks i → i < length old
   marked_there i marked = omega (arith, marked_within marks i marked, wide)
 
-  -- no two marked nodes have one number
-  one_number : (i j : ℕ) → IsMarked marks i → IsMarked marks j → look i ≡ look j → i ≡ j
-  one_number i j a b e = elim (cases_lt i j) [
-    | inl h ↦ absurd (apart i j h a b e)
+  -- two new numbers are those of two nodes, of which either may be the first
+  in_either : (R : Node → Node → Type 0) → ((a b : Node) → R a b → R b a) → (i j : ℕ) (a b : Node) → slice_get old i ≡ Some a → slice_get old j ≡ Some b → (i ≡ j → ⊥) → AllPairs R old → R a b
+  in_either R turned i j a b at_a at_b apart pairs = elim (cases_lt i j) [
+    | inl h ↦ subst (λ (x : Node). R x b) (get_or_from_slice_get old i a a at_a) (subst (R (get_or old i a)) (get_or_from_slice_get old j b a at_b) (pairs i j a h (slice_get_within old j b at_b)))
     | inr h ↦ elim (cases_lt j i) [
-      | inl l ↦ absurd (apart j i l b a (sym e))
-      | inr l ↦ omega (arith, h, l)
+      | inl l ↦ turned b a (subst (λ (x : Node). R x a) (get_or_from_slice_get old j b a at_b) (subst (R (get_or old j a)) (get_or_from_slice_get old i a a at_a) (pairs j i a l (slice_get_within old i a at_a))))
+      | inr l ↦ absurd (apart (omega (arith, h, l)))
     ]
   ]
-    where
-      apart : (i j : ℕ) → i < j → IsMarked marks i → IsMarked marks j → look i ≡ look j → ⊥
-      apart i j low a b e =
-          let less : look i < look j = pruned.in_order i j low (omega (arith, marked_there j b, pruned.mapped.long)) a b in omega (arith, less, e)
-
-  -- what is marked is numbered in order
-  order_told : (i j : ℕ) → IsMarked marks i → IsMarked marks j → look i < look j → i < j
-  order_told i j a b less = elim (cases_lt i j) [
-    | inl h ↦ h
-    | inr h ↦ absurd (turned h)
-  ]
-    where
-      turned : j ≤ i → ⊥
-      turned most = elim (cases_lt j i) [
-        | inl l ↦ let more : look j < look i = pruned.in_order j i l (omega (arith, marked_there i a, pruned.mapped.long)) b a in omega (arith, more, less)
-        | inr l ↦ same (omega (arith, l, most))
-      ]
-        where
-          same : i ≡ j → ⊥
-          same e = let equal : look i ≡ look j = ap look e in omega (arith, equal, less)
 
   -- what a new node was
   pub record Was (n : ℕ) (after : Node) : Type 0 where
@@ -290,13 +130,13 @@ module _ (marks : List Bool) (old new : List Node) (to : List ℕ) (pruned : IsP
       }
 
   inputs_marked : (i : ℕ) (node : Node) → slice_get old i ≡ Some node → IsMarked marks i → KeepsInputs (IsMarked marks) node
-  inputs_marked i node at marked = let both = closed i node (omega arith) at marked in record { left = both.0; right = both.1 }
+  inputs_marked i node at marked = let both = closed i node at marked in record { left = both.0; right = both.1 }
 
   same_input : (f g : ℕ → ℕ) (o p : Option ℕ) → option_map f o ≡ option_map g p → IfSome o (IsMarked marks) → IfSome p (IsMarked marks) → IfSome o (λ i. look i ≡ f i) → IfSome p (λ i. look i ≡ g i) → o ≡ p
   same_input f g None None e a b s t = refl
   same_input f g None (Some j) e a b s t = absurd (none_some (g j) e)
   same_input f g (Some i) None e a b s t = absurd (none_some (f i) (sym e))
-  same_input f g (Some i) (Some j) e a b s t = ap (λ (k : ℕ). Some k) (one_number i j a b (s ∙ (some_number (f i) (g j) e ∙ sym t)))
+  same_input f g (Some i) (Some j) e a b s t = ap (λ (k : ℕ). Some k) (pruned.apart i j a b (s ∙ (some_number (f i) (g j) e ∙ sym t)))
 
   -- two nodes that become one are one
   before_same : (i j : ℕ) (a b x : Node) → slice_get old i ≡ Some a → slice_get old j ≡ Some b → IsMarked marks i → IsMarked marks j → IsMovedBy to a x → IsMovedBy to b x → a ≡ b
@@ -314,17 +154,17 @@ module _ (marks : List Bool) (old new : List Node) (to : List ℕ) (pruned : IsP
   at_new : (n : ℕ) (d : Node) → n < length new → slice_get new n ≡ Some (get_or new n d)
   at_new n d below = slice_get-get_or new n d below
 
-  as_default : (i : ℕ) (node d : Node) → slice_get old i ≡ Some node → get_or old i d ≡ node
-  as_default i node d at = get_or_from_slice_get old i node d at
+  -- two numbers are those of two nodes
+  numbers_apart : (n m i j : ℕ) → n < m → look i ≡ n → look j ≡ m → i ≡ j → ⊥
+  numbers_apart n m i j low first second e = omega (arith, low, first, second, ap look e)
 
   pub pruned-distinct : AreDistinct old → AreDistinct new
   pruned-distinct distinct n m d low high e =
       let x = get_or new n d in
       let wn = was n x (at_new n d (omega (arith, low, high))) in
       let wm = was m x (at_new m d high ∙ ap (λ (y : Node). Some y) (sym e)) in
-      let order : wn.i < wm.i = order_told wn.i wm.i wn.marked wm.marked (omega (arith, wn.number, wm.number, low)) in
-      distinct wn.i wm.i d order (marked_there wm.i wm.marked)
-      (as_default wn.i wn.before d wn.at ∙ (before_same wn.i wm.i wn.before wm.before x wn.at wm.at wn.marked wm.marked wn.moved wm.moved ∙ sym (as_default wm.i wm.before d wm.at)))
+      in_either (λ a b. a ≢ b) (λ a b apart same. apart (sym same)) wn.i wm.i wn.before wm.before wn.at wm.at (numbers_apart n m wn.i wm.i low wn.number wm.number) distinct
+      (before_same wn.i wm.i wn.before wm.before x wn.at wm.at wn.marked wm.marked wn.moved wm.moved)
 
   -- what becomes a `Dict` node is one of the same column
   pub record WasDict (i input column : ℕ) (dicts : List ℕ) (before : Node) : Type 0 where
@@ -357,13 +197,11 @@ module _ (marks : List Bool) (old new : List Node) (to : List ℕ) (pruned : IsP
       let at_m : slice_get new m ≡ Some (Dict input column others) = at_new m d high ∙ ap (λ (x : Node). Some x) second in
       let wn = was n (Dict input column dicts) at_n in
       let wm = was m (Dict input column others) at_m in
-      let order : wn.i < wm.i = order_told wn.i wm.i wn.marked wm.marked (omega (arith, wn.number, wm.number, low)) in
       let a = was_dict wn.i input column dicts wn.before wn.at wn.marked wn.moved in
       let b = was_dict wm.i input column others wm.before wm.at wm.marked wm.moved in
-      let same : b.from ≡ a.from = one_number b.from a.from b.marked a.marked (b.number ∙ sym a.number) in
-      merged wn.i wm.i d order (marked_there wm.i wm.marked) a.from column dicts others
-      (as_default wn.i wn.before d wn.at ∙ a.is)
-      (as_default wm.i wm.before d wm.at ∙ (b.is ∙ ap (λ (k : ℕ). Dict k column others) same))
+      let same : b.from ≡ a.from = pruned.apart b.from a.from b.marked a.marked (b.number ∙ sym a.number) in
+      in_either AreApart apart_turned wn.i wm.i wn.before wm.before wn.at wm.at (numbers_apart n m wn.i wm.i low wn.number wm.number) merged a.from column dicts others a.is
+      (b.is ∙ ap (λ (k : ℕ). Dict k column others) same)
 
   -- ---- the new numbers
 
@@ -447,7 +285,7 @@ module _ (marks : List Bool) (old new : List Node) (to : List ℕ) (pruned : IsP
         apart = λ i j n a b.
             let s = told i n a in
             let t = told j n b in
-            one_number i j s.0 t.0 (s.1 ∙ sym t.1);
+            pruned.apart i j s.0 t.0 (s.1 ∙ sym t.1);
         shows = λ i c. (look i, given i (marked_among outs marked i c), contains_map look shown i c);
         shown_from = λ n c.
             let was = contains_before look shown n c in
@@ -483,19 +321,84 @@ pub record IsMarkedPlan (plan : Parts) (marks : List Bool) : Type 0 where
   pub valid : AreOutputs plan.nodes plan.outputs
   pub long : length marks ≡ length plan.nodes
   pub shown : All (λ out. IsMarked marks out.node) plan.outputs
-  pub closed : AreClosedFrom 0 plan.nodes marks
+  pub closed : AreClosed plan.nodes marks
   pub founded : AreFounded (map (λ (out : PlanOut). out.node) plan.outputs) plan.nodes marks
 
-pub marked_plan : (plan : Parts) (nodes : List Node) (outs : List PlanOut) (marks : List Bool) → nodes ≡ plan.nodes → outs ≡ plan.outputs → AreOutputs plan.nodes plan.outputs → length marks ≡ length nodes
-    → All (λ out. IsMarked marks out.node) outs → AreClosedFrom 0 nodes marks → AreFounded (map (λ (out : PlanOut). out.node) outs) nodes marks → IsMarkedPlan plan marks
-marked_plan plan nodes outs marks same_nodes same_outs valid long shown closed founded = record {
+pub marked_plan : (plan : Parts) (order : List ℕ) (marks : List Bool) → IsOrder plan.nodes (output_nodes plan) order marks → AreOutputs plan.nodes plan.outputs → IsMarkedPlan plan marks
+marked_plan plan order marks is valid = record {
   valid = valid;
-  long = long ∙ ap length same_nodes;
-  shown = subst (All (λ out. IsMarked marks out.node)) same_outs shown;
-  closed = subst (λ (ns : List Node). AreClosedFrom 0 ns marks) same_nodes closed;
-  founded = subst (λ (os : List PlanOut). AreFounded (map (λ (out : PlanOut). out.node) os) plan.nodes marks) same_outs (subst (λ (ns : List Node). AreFounded (map (λ (out : PlanOut). out.node) outs) ns marks) same_nodes founded);
+  long = is.walked.long;
+  shown = λ k d below.
+      let out = get_or plan.outputs k d in
+      is.all out.node (contains_map (λ (o : PlanOut). o.node) plan.outputs out (k, below, get_or_default plan.outputs k out d below));
+  closed = order-closed plan.nodes (output_nodes plan) order marks is;
+  founded = order-founded plan.nodes (output_nodes plan) order marks is;
 }
 
--- the numbers of nodes that outputs show are numbers of nodes
-pub all-there : (nodes : List Node) (outs : List PlanOut) → AreOutputs nodes outs → All (λ out. out.node < length nodes) outs
-all-there nodes outs are k d below = omega (arith, (are.each k d below).there, length-each no_shape shape_by nodes)
+-- and the nodes that are kept of it
+pub record IsKept (plan : Parts) (order to : List ℕ) (marks : List Bool) (new : List Node) : Type 0 where
+  pub is : IsOrder plan.nodes (output_nodes plan) order marks
+  pub arranged : IsArranged order plan.nodes new to
+  pub marked : IsMarkedPlan plan marks
+  pub pruned : IsPruned marks plan.nodes new to
+
+pub kept_of : (plan : Parts) (order to : List ℕ) (marks : List Bool) (new : List Node) (numbers : List ℕ) (nodes : List Node) → IsOrder plan.nodes (output_nodes plan) order marks → AreOutputs plan.nodes plan.outputs
+    → numbers ≡ order → nodes ≡ plan.nodes → IsArranged numbers nodes new to → IsKept plan order to marks new
+kept_of plan order to marks new numbers nodes is valid same_numbers same_nodes arranged =
+    let here : IsArranged order plan.nodes new to = subst (λ (ns : List ℕ). IsArranged ns plan.nodes new to) same_numbers (subst (λ (xs : List Node). IsArranged numbers xs new to) same_nodes arranged) in
+    record {
+      is = is;
+      arranged = here;
+      marked = marked_plan plan order marks is valid;
+      pruned = arranged-pruned marks plan.nodes new (output_nodes plan) order to is here;
+    }
+
+-- ---- the order of the new nodes
+
+module _ (plan : Parts) (new : List Node) (order to : List ℕ) (marks : List Bool) (is : IsOrder plan.nodes (output_nodes plan) order marks) (arranged : IsArranged order plan.nodes new to) where
+  abbrev sight : ℕ → ℕ
+  sight i = new_number to i
+
+  module _ (g : ℕ) (these : List ℕ) (right_of : AreRightOf new (map sight (output_nodes plan)) g these) (n : ℕ) where
+    goes_left : (before after : Node) (j : ℕ) → IsMovedBy to before after → left_input before ≡ Some j → left_input after ≡ Some (sight j)
+    goes_left before after j moved e =
+        let named : sight j ≡ moved.number j = subst (λ (o : Option ℕ). IfSome o (λ k. sight k ≡ moved.number k)) e moved.left in
+        ap left_input moved.same ∙ (left-renamed moved.number before ∙ (ap (option_map moved.number) e ∙ ap (λ (k : ℕ). Some k) (sym named)))
+
+    goes_right : (before after : Node) (j : ℕ) → IsMovedBy to before after → right_input before ≡ Some j → right_input after ≡ Some (sight j)
+    goes_right before after j moved e =
+        let named : sight j ≡ moved.number j = subst (λ (o : Option ℕ). IfSome o (λ k. sight k ≡ moved.number k)) e moved.right in
+        ap right_input moved.same ∙ (right-renamed moved.number before ∙ (ap (option_map moved.number) e ∙ ap (λ (k : ℕ). Some k) (sym named)))
+
+    -- what stands before place n has a lower number
+    sight_before : (l : ℕ) → Contains (take n order) l → sight l < n
+    sight_before l c = let t = taken_at order n l c in omega (arith, t.1, arranged.numbered t.0 l t.2)
+
+    left_before : (o : Option ℕ) (number : ℕ → ℕ) → IfSome o (Contains (take n order)) → IfSome o (λ l. sight l ≡ number l) → option_map number o ≡ Some g → g < n
+    left_before None number c named e = absurd (none_some g e)
+    left_before (Some l) number c named e = omega (arith, sight_before l c, named, some_number (number l) g e)
+
+    behind : (j : ℕ) → IsCalled plan.nodes (output_nodes plan) (take n order) j → Contains these (sight j) → g < n
+    behind _ (walks.output j listed) c = absurd (right_of.unshown (sight j) c (contains_map sight (output_nodes plan) j listed))
+    behind _ (walks.left k j node at e called) c =
+        let m = arranged.moved k node at (is.walked.listed k (called_marked plan.nodes (output_nodes plan) order marks is (take n order) k called)) in
+        behind k called (right_of.left (sight j) (sight k) m.0 c m.1 (goes_left node m.0 j m.2 e))
+    behind _ (walks.right k j node at e left called) c =
+        let m = arranged.moved k node at (is.walked.listed k (called_marked plan.nodes (output_nodes plan) order marks is (take n order) k called)) in
+        elim (right_of.right (sight j) (sight k) m.0 c m.1 (goes_right node m.0 j m.2 e)) [
+          | inl h ↦ behind k called h
+          | inr h ↦ left_before (left_input node) m.2.number left m.2.left (sym (left-renamed m.2.number node) ∙ (ap left_input (sym m.2.same) ∙ h))
+        ]
+
+  sight_again : (outs : List PlanOut) → map (λ (out : PlanOut). out.node) (map (renumbered to) outs) ≡ map sight (map (λ (out : PlanOut). out.node) outs)
+  sight_again [] = refl
+  sight_again (out ∷ outs) = ap (λ (ns : List ℕ). sight out.node ∷ ns) (sight_again outs)
+
+  pub arranged-order : (plan_new : Parts) → plan_new.nodes ≡ new → plan_new.outputs ≡ map (renumbered to) plan.outputs → IsInOrder plan_new.nodes (output_nodes plan_new)
+  arranged-order plan_new nodes_are outputs_are g these right_of n low c =
+      let shown : output_nodes plan_new ≡ map sight (output_nodes plan) = ap (map (λ (out : PlanOut). out.node)) outputs_are ∙ sight_again plan.outputs in
+      let of_new : AreRightOf new (map sight (output_nodes plan)) g these =
+      subst (λ (ns : List ℕ). AreRightOf new ns g these) shown (subst (λ (xs : List Node). AreRightOf xs (output_nodes plan_new) g these) nodes_are right_of) in
+      let j = get_or order n 0 in
+      let at : slice_get order n ≡ Some j = slice_get-get_or order n 0 (omega (arith, low, ap length nodes_are, arranged.long)) in
+      behind g these of_new n j (is.walked.called n j at) (subst (Contains these) (sym (arranged.numbered n j at)) c)

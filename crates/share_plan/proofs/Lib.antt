@@ -15,8 +15,9 @@ pub mod Indexing
 pub mod Putting
 -- nodes that are put together anew, and their outputs
 pub mod Moving
--- marks on nodes that are read, and the nodes that are marked
-pub mod MarkLaws
+-- walks from the outputs down, and the nodes that they lead to, put one after another
+pub mod Walking
+pub mod Arranging
 pub mod Keeping
 pub mod Rebuilding
 pub mod Outputs

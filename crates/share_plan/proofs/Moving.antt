@@ -14,13 +14,12 @@ use Rattle.algebra.specs.Inputs.{left_input, right_input, with_inputs, IsAmong}
 use Rattle.algebra.specs.Mapping.{new_number, IsMapped}
 use Rattle.algebra.specs.Nodes.{IsPlan}
 use Rattle.algebra.specs.Shapes.{shape_by, no_shape, shapes_of, IsOpen, IsOpenForm}
-use Rattle.share_plan.specs.declared.kind.Kind.{Kind}
-use Rattle.share_plan.specs.declared.kind.Kind.TheVariants.{Source, Part, Plain}
+use Rattle.share_plan.specs.declared.kind.Kind.TheVariants.{Source, Plain}
 use Rattle.share_plan.specs.Kinds.{kind_of}
 use Rattle.share_plan.specs.Marks.{IsMovedBy}
 use Rattle.share_plan.specs.Placing.{IsOpenAt}
 use Rattle.share_plan.specs.Renumbering.{IsPart, IsPlain, IsMoved, IsRenumbered}
-use Rattle.share_plan.proofs.Extending.{front_or_last, front_stays, at_last, same_at}
+use Rattle.share_plan.proofs.Extending.{front_or_last}
 use Rattle.share_plan.proofs.KindLaws.{open_inputs}
 use Rattle.share_plan.proofs.Parts.{is_node}
 

@@ -1,4 +1,4 @@
-//! Plans without equal nodes, by their texts.
+//! Plans without equal or unread nodes, by their texts.
 
 use crate::programs::typed;
 use plan_maker::{lower, plan_text};
@@ -120,6 +120,51 @@ fn what_nobody_reads_is_dropped(rt: HostRuntime) -> Result<(), Fail> {
 3 Regex 2
 4 Project 3
 out C 4
+";
+    assert_eq!(rt; got.as_str(), want);
+    Ok(())
+}
+
+/// A program of three views, of which two are joined first and then with the third.
+const LATE: &str = "create view A as extract regex /a/ on d.text as x from Document d;
+     create view B as extract regex /b/ on d.text as y from Document d;
+     create view C as extract regex /c/ on d.text as z from Document d;
+     create view Pair as select a.x, b.y from A a, B b;
+     create view Trio as select p.x, c.z from Pair p, C c;
+     output view Trio;";
+
+#[test]
+fn what_a_right_side_needs_stands_behind_the_left_one(rt: HostRuntime) -> Result<(), Fail> {
+    let alloc = rt.alloc();
+    let lowered = lower(alloc, typed(alloc, LATE)?)?;
+    let got = plan_text(alloc, &lowered)?;
+    let want = "0 Doc
+1 Regex 0
+2 Project 1
+3 Regex 0
+4 Project 3
+5 Regex 0
+6 Project 5
+7 Cross 2 4
+8 Project 7
+9 Cross 8 6
+10 Project 9
+out Trio 10
+";
+    assert_eq!(rt; got.as_str(), want);
+    let got = plan_text(alloc, &prune(alloc, lowered)?)?;
+    let want = "0 Doc
+1 Regex 0
+2 Project 1
+3 Regex 0
+4 Project 3
+5 Cross 2 4
+6 Project 5
+7 Regex 0
+8 Project 7
+9 Cross 6 8
+10 Project 9
+out Trio 10
 ";
     assert_eq!(rt; got.as_str(), want);
     Ok(())

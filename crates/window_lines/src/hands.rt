@@ -10,6 +10,9 @@ use span_token::OutOfMemory;
 use std::alloc::Global;
 use std::marker::Model;
 
+/// Texts with room for more bytes aren't kept.
+const LARGE: usize = 262_144;
+
 /// What each of several threads keeps of its own for a plan, made once and used for all lines of a run.
 ///
 /// Contracts see the patterns and dictionaries of the plan.
@@ -106,11 +109,22 @@ impl<'p> Hand<'p> {
         self.head.clear();
         for _ in 0..self.parts.len() {
             if let Some(part) = self.parts.pop() {
-                // room that can't be kept is made again
-                let _ = self.spare.push(part.text);
+                self.keep(part.text);
             }
         }
         self.parts.clear();
+    }
+
+    /// Keeps the room of a text, where it isn't large.
+    pub(crate) fn keep(&mut self, text: Vec<u8>)
+        ensures tools { self.new.tools ≡ self.old.tools }
+        ensures head { self.new.head ≡ self.old.head }
+        ensures parts { self.new.parts ≡ self.old.parts }
+    {
+        if text.capacity() <= LARGE {
+            // room that can't be kept is made again
+            let _ = self.spare.push(text);
+        }
     }
 
     /// A text without a byte, with room that was kept where there is some.

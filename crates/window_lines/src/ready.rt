@@ -28,9 +28,9 @@ const MANY: usize = 16_384;
 /// How many bytes a piece of the lines has at least, but for the last one.
 const PIECE: usize = 16_384;
 
-/// How many pieces each thread has to answer, on average, where there are many bytes: so that one that is
-/// through with its own helps with the others.
-const PIECES: usize = 8;
+/// How many pieces each thread has to answer, on average, where there are many bytes: so many that none waits
+/// long for the last ones.
+const PIECES: usize = 32;
 
 /// How far lines that are ready were answered.
 #[derive(Clone, Copy, Debug)]
@@ -166,8 +166,7 @@ impl<'a, 'l, 'p> Ready<'a, 'l, 'p> {
         let mut text = hand.text(self.alloc);
         let answered = self.answer_one(self.first, hand, &mut text);
         let old = mem::replace(&mut hand.head, text);
-        // room that can't be kept is made again
-        let _ = hand.spare.push(old);
+        hand.keep(old);
         match answered {
             Ok(good) => good,
             Err(OutOfMemory) => false,

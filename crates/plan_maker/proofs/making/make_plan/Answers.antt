@@ -39,6 +39,7 @@ returns-clause-normal c =
       conditional = conditional-again before.nodes shown plan.nodes (output_nodes plan) c.in_ok-plan.ensures.dropped c.in_ok-restricted.ensures.conditional;
       restricted = restricted-again before.nodes shown plan.nodes (output_nodes plan) c.in_ok-plan.ensures.dropped c.in_ok-restricted.ensures.restricted;
       read = c.in_ok-plan.ensures.read;
+      ordered = c.in_ok-plan.ensures.ordered;
       before = whole;
       made = record {
         promised = record {

@@ -24,10 +24,10 @@ returns-in_ok-push-clause-needed c = λ outs shown are has.
     let n : c.len-n.result ≡ length old = c.len-n.ensures ∙ c.args.board.now.ok.0 in
     let there : c.len-n.result < length asked = omega (arith, c.requires.there, c.requires.asked_long, c.len-n.ensures) in
     let found : get_or asked c.len-n.result Never ≡ asked_at asked (length old) = get_or_default asked c.len-n.result Never Always there ∙ ap (λ (k : ℕ). get_or asked k Always) n in
-    let idle : IsIdle (asked_at asked (length old)) old =
-    subst (λ (a : Asked). IsIdle a old) found (subst (IsIdle (get_or asked c.len-n.result Never)) c.as_slice.ensures.value (c.is_idle.ensures c.if-is_idle.true)) in
+    let idle : IsIdle (asked_at asked (length old)) untils old =
+    subst (λ (a : Asked). IsIdle a untils old) found (subst (IsIdle (get_or asked c.len-n.result Never) untils) c.as_slice.ensures.value (c.is_idle.ensures c.if-is_idle.true)) in
     subst (HasNeeded lists doc nodes outs untils) (sym c.in_ok-push.ensures.items)
-    (needed_next lists doc nodes outs untils old old None refl has (λ m late. refl) (λ needed. absurd (idle_unneeded lists doc nodes outs untils c.requires.closed shown old c.requires.board asked (length old) are idle needed)))
+    (needed_next lists doc nodes outs untils old old None refl has (λ m late. refl) (λ needed. absurd (idle_unneeded lists doc nodes outs untils c.requires.closed shown old c.requires.board asked (length old) are has idle needed)))
 
 pub returns-in_ok-push-4-clause-needed : goal.returns-in_ok-push-4-clause-needed
 returns-in_ok-push-4-clause-needed c = λ outs shown are has.

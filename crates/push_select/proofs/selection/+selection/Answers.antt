@@ -1,4 +1,4 @@
-use Rattle.std.proofs.Common.{rules, ◌≡◌, ◌∙◌, ◌<◌, List, length, map, refl, sym, ap, subst, arith}
+use Rattle.std.proofs.Common.{rules, ◌≡◌, ◌∙◌, ℕ, ◌<◌, List, length, map, refl, sym, subst, arith}
 use Rattle.scalar_ops.specs.Expressions.{Term, column}
 use Rattle.scalar_ops.specs.Views.{term_of}
 use Rattle.algebra.specs.declared.node.Node.{Node}
@@ -114,21 +114,19 @@ columns_selected-selected-requires t c =
       ),
     )
 
-pub columns_selected-projected-requires-clause-valid : goal.columns_selected-projected-requires-clause-valid
-columns_selected-projected-requires-clause-valid t c =
-    let items : c.from-items.result ≡ map column c.args.shown.items = c.from-items.ensures ∙ (c.in_ok-items.ensures ∙ ap (map column) c.as_slice-3.ensures.value) in
-    subst (λ (ts : List Term). IsNode (shapes_of c.selected.new.nodes) (Project c.in_ok-narrower.narrower ts)) (sym items)
+pub columns_selected-shown_of-requires-clause-valid : goal.columns_selected-shown_of-requires-clause-valid
+columns_selected-shown_of-requires-clause-valid t c =
+    subst (λ (ns : List ℕ). IsNode (shapes_of c.selected.new.nodes) (Project c.in_ok-narrower.narrower (map column ns))) (sym c.as_slice-3.ensures.value)
     (columns-above c.args.nodes.now c.args.input c.args.from c.args.shown.items c.requires.at c.args.conds c.requires.valid c.from-below.result
     (named-terms c.as_slice-2.result.now c.args.shown.items c.as_slice.result.now c.in_ok-below.below.items c.args.conds c.from-below.result c.as_slice-2.ensures.value c.as_slice.ensures c.in_ok-below.ensures c.from-below.ensures)
     c.selected.new.nodes c.in_ok-narrower.narrower c.in_ok-narrower.ensures.stands)
 
 pub columns_selected-returns-clause-stands : goal.columns_selected-returns-clause-stands
 columns_selected-returns-clause-stands t c =
-    let items : c.from-items.result ≡ map column c.args.shown.items = c.from-items.ensures ∙ (c.in_ok-items.ensures ∙ ap (map column) c.as_slice-3.ensures.value) in
     columns-stands c.args.nodes.now c.args.input c.args.from c.args.shown.items c.requires.at c.args.conds c.requires.valid c.from-below.result
     (named-terms c.as_slice-2.result.now c.args.shown.items c.as_slice.result.now c.in_ok-below.below.items c.args.conds c.from-below.result c.as_slice-2.ensures.value c.as_slice.ensures c.in_ok-below.ensures c.from-below.ensures)
-    c.selected.new.nodes c.in_ok-narrower.narrower c.in_ok-narrower.ensures.stands c.projected.new.nodes c.in_ok-n.n
-    (subst (λ (ts : List Term). Stands c.selected.new.nodes c.projected.new.nodes c.in_ok-n.n (Project c.in_ok-narrower.narrower ts)) items c.in_ok-n.ensures.stands)
+    c.selected.new.nodes c.in_ok-narrower.narrower c.in_ok-narrower.ensures.stands c.shown_of.new.nodes c.in_ok-n.n
+    (subst (λ (ns : List ℕ). Stands c.selected.new.nodes c.shown_of.new.nodes c.in_ok-n.n (Project c.in_ok-narrower.narrower (map column ns))) c.as_slice-3.ensures.value c.in_ok-n.ensures.stands)
 
 -- ---- over a product
 

@@ -1,71 +1,93 @@
-use Rattle.std.proofs.Common.{rules, ◌≡◌, ◌∙◌, ℕ, true, false, List, [], ◌∷◌, ◌++◌, length, drop, get_or, ◌+◌, ap, sym, subst, Global}
-use Rattle.std.proofs.lemmas.Iterator.Adapters.{YieldsList-from_vec}
-use Rattle.std.proofs.lemmas.Iterator.Consumers.{YieldsList-turn, YieldsList-so_far}
+use Rattle.std.proofs.Common.{◌≡◌, ◌∙◌, ℕ, ◌+◌, ◌<◌, List, [], ◌∷◌, ◌++◌, length, take, set, get_or, slice_get, ap, sym, subst, arith, Some}
+use Rattle.std.proofs.lemmas.List.{take_more}
+use Rattle.std.proofs.lemmas.Option.{same_Some, slice_get_within, slice_get-get_or}
 use Rattle.algebra.specs.declared.node.Node.{Node}
 use Rattle.algebra.specs.Growth.{Stands}
 use Rattle.algebra.specs.Inputs.{left_input, right_input, with_inputs, IsAmong}
-use Rattle.algebra.specs.Mapping.{new_number, KeepsInputs}
-use Rattle.algebra.specs.Nodes.{IsNode, IsPlan}
+use Rattle.algebra.specs.Mapping.{new_number}
+use Rattle.algebra.specs.Nodes.{IsNode}
 use Rattle.algebra.specs.Shapes.{shapes_of}
-use Rattle.share_plan.specs.Marks.{IsMarked, IsPruned}
-use Rattle.share_plan.proofs.Keeping.{pruned-none, left_numbered, right_numbered, pruned-next, pruned-valid, next_node}
-use Rattle.share_plan.proofs.Rebuilding.{taken}
+use Rattle.share_plan.specs.Marks.{IsArranged}
+use Rattle.share_plan.specs.Walks.{IsReady}
+use Rattle.share_plan.proofs.Arranging.{AreLeft, left_numbered, right_numbered, may_be_put, arranged-push, left-more}
 use Rattle.share_plan.proofs.pruning.kept_nodes.Goals as goal
 
-pub kept_node-requires-clause-left : goal.kept_node-requires-clause-left
-kept_node-requires-clause-left c =
-    let items = c.into_vec-node-items.result.items in
-    let list = YieldsList-from_vec {Z = Global} items (search rules) (search rules) in
-    let turn = YieldsList-turn list c.loop-node.yielded c.loop-node.node-iterator c.loop-node.yielded_by c.next.result c.next.new.self c.in-Some.node c.in-Some.is c.next.ensures.steps in
-    let so_far = YieldsList-so_far list c.loop-node.yielded c.loop-node.node-iterator c.loop-node.yielded_by in
-    let rest = drop (length c.loop-node.yielded + 1) items in
-    let whole : c.args.old ≡ c.loop-node.yielded ++ c.in-Some.node ∷ rest = sym c.into_vec-node-items.ensures.nodes ∙ taken items c.loop-node.yielded c.in-Some.node so_far turn.0 turn.1 in
-    let next = next_node c.args.old c.loop-node.yielded c.in-Some.node rest whole c.into_vec-node-items.ensures.plan c.args.marks.now c.requires.closed in
-    subst (λ (to : List ℕ). IsAmong (length to) (left_input c.in-Some.node)) (sym c.as_slice.ensures.value)
-    (left_numbered c.args.marks.now c.loop-node.yielded c.loop-node.nodes c.loop-node.to.items c.loop-node.invariant next.plan c.in-Some.node next.valid)
+pub taken-requires : goal.taken-requires
+taken-requires c =
+    let numbers = c.args.numbers.now in
+    let k = c.loop-i.i-index in
+    let i = get_or numbers k 0 in
+    let ready : IsReady c.args.old (take k numbers) i = c.requires.ready k i (slice_get-get_or numbers k 0 c.loop-i-test.true) in
+    let there : slice_get c.loop-i.rest.items i ≡ Some ready.node = c.loop-i.invariant.left i ready.node ready.at ready.fresh in
+    record { there = slice_get_within c.loop-i.rest.items i ready.node there }
 
-pub kept_node-requires-clause-right : goal.kept_node-requires-clause-right
-kept_node-requires-clause-right c =
-    let items = c.into_vec-node-items.result.items in
-    let list = YieldsList-from_vec {Z = Global} items (search rules) (search rules) in
-    let turn = YieldsList-turn list c.loop-node.yielded c.loop-node.node-iterator c.loop-node.yielded_by c.next.result c.next.new.self c.in-Some.node c.in-Some.is c.next.ensures.steps in
-    let so_far = YieldsList-so_far list c.loop-node.yielded c.loop-node.node-iterator c.loop-node.yielded_by in
-    let rest = drop (length c.loop-node.yielded + 1) items in
-    let whole : c.args.old ≡ c.loop-node.yielded ++ c.in-Some.node ∷ rest = sym c.into_vec-node-items.ensures.nodes ∙ taken items c.loop-node.yielded c.in-Some.node so_far turn.0 turn.1 in
-    let next = next_node c.args.old c.loop-node.yielded c.in-Some.node rest whole c.into_vec-node-items.ensures.plan c.args.marks.now c.requires.closed in
-    subst (λ (to : List ℕ). IsAmong (length to) (right_input c.in-Some.node)) (sym c.as_slice.ensures.value)
-    (right_numbered c.args.marks.now c.loop-node.yielded c.loop-node.nodes c.loop-node.to.items c.loop-node.invariant next.plan c.in-Some.node next.valid)
+pub renumbered-node-requires-clause-left : goal.renumbered-node-requires-clause-left
+renumbered-node-requires-clause-left c =
+    let numbers = c.args.numbers.now in
+    let k = c.loop-i.i-index in
+    let i = get_or numbers k 0 in
+    let ready : IsReady c.args.old (take k numbers) i = c.requires.ready k i (slice_get-get_or numbers k 0 c.loop-i-test.true) in
+    let there : slice_get c.loop-i.rest.items i ≡ Some ready.node = c.loop-i.invariant.left i ready.node ready.at ready.fresh in
+    let is : c.taken.result ≡ ready.node = same_Some c.taken.result ready.node (c.taken.ensures.node ∙ there) in
+    subst (λ (ts : List ℕ). IsAmong (length ts) (left_input c.taken.result)) (sym c.as_slice.ensures.value)
+    (subst (λ (x : Node). IsAmong (length c.loop-i.to.items) (left_input x)) (sym is)
+    (left_numbered (take k numbers) c.args.old c.loop-i.nodes c.loop-i.to.items c.loop-i.invariant.arranged c.into_vec-rest.ensures.plan i ready))
 
-pub kept_node-requires-clause-valid : goal.kept_node-requires-clause-valid
-kept_node-requires-clause-valid c = λ marked.
-    let items = c.into_vec-node-items.result.items in
-    let list = YieldsList-from_vec {Z = Global} items (search rules) (search rules) in
-    let turn = YieldsList-turn list c.loop-node.yielded c.loop-node.node-iterator c.loop-node.yielded_by c.next.result c.next.new.self c.in-Some.node c.in-Some.is c.next.ensures.steps in
-    let so_far = YieldsList-so_far list c.loop-node.yielded c.loop-node.node-iterator c.loop-node.yielded_by in
-    let rest = drop (length c.loop-node.yielded + 1) items in
-    let whole : c.args.old ≡ c.loop-node.yielded ++ c.in-Some.node ∷ rest = sym c.into_vec-node-items.ensures.nodes ∙ taken items c.loop-node.yielded c.in-Some.node so_far turn.0 turn.1 in
-    let next = next_node c.args.old c.loop-node.yielded c.in-Some.node rest whole c.into_vec-node-items.ensures.plan c.args.marks.now c.requires.closed in
-    let number : c.len.result ≡ length c.loop-node.yielded = c.len.ensures ∙ (c.loop-node.to.ok.0 ∙ c.loop-node.invariant.mapped.long) in
-    subst (λ (to : List ℕ). IsNode (shapes_of c.loop-node.nodes) (with_inputs (new_number to) c.in-Some.node)) (sym c.as_slice.ensures.value)
-    (pruned-valid c.args.marks.now c.loop-node.yielded c.loop-node.nodes c.loop-node.to.items c.loop-node.invariant next.plan c.in-Some.node next.valid
-    (next.keeps (subst (IsMarked c.args.marks.now) number marked)))
+pub renumbered-node-requires-clause-right : goal.renumbered-node-requires-clause-right
+renumbered-node-requires-clause-right c =
+    let numbers = c.args.numbers.now in
+    let k = c.loop-i.i-index in
+    let i = get_or numbers k 0 in
+    let ready : IsReady c.args.old (take k numbers) i = c.requires.ready k i (slice_get-get_or numbers k 0 c.loop-i-test.true) in
+    let there : slice_get c.loop-i.rest.items i ≡ Some ready.node = c.loop-i.invariant.left i ready.node ready.at ready.fresh in
+    let is : c.taken.result ≡ ready.node = same_Some c.taken.result ready.node (c.taken.ensures.node ∙ there) in
+    subst (λ (ts : List ℕ). IsAmong (length ts) (right_input c.taken.result)) (sym c.as_slice.ensures.value)
+    (subst (λ (x : Node). IsAmong (length c.loop-i.to.items) (right_input x)) (sym is)
+    (right_numbered (take k numbers) c.args.old c.loop-i.nodes c.loop-i.to.items c.loop-i.invariant.arranged c.into_vec-rest.ensures.plan i ready))
 
-pub loop-node-preserved : goal.loop-node-preserved
-loop-node-preserved c =
-    let items = c.into_vec-node-items.result.items in
-    let list = YieldsList-from_vec {Z = Global} items (search rules) (search rules) in
-    let turn = YieldsList-turn list c.loop-node.yielded c.loop-node.node-iterator c.loop-node.yielded_by c.next.result c.next.new.self c.in-Some.node c.in-Some.is c.next.ensures.steps in
-    let so_far = YieldsList-so_far list c.loop-node.yielded c.loop-node.node-iterator c.loop-node.yielded_by in
-    let rest = drop (length c.loop-node.yielded + 1) items in
-    let whole : c.args.old ≡ c.loop-node.yielded ++ c.in-Some.node ∷ rest = sym c.into_vec-node-items.ensures.nodes ∙ taken items c.loop-node.yielded c.in-Some.node so_far turn.0 turn.1 in
-    let next = next_node c.args.old c.loop-node.yielded c.in-Some.node rest whole c.into_vec-node-items.ensures.plan c.args.marks.now c.requires.closed in
-    let number : c.len.result ≡ length c.loop-node.yielded = c.len.ensures ∙ (c.loop-node.to.ok.0 ∙ c.loop-node.invariant.mapped.long) in
-    let marks = c.args.marks.now in
-    let node = c.in-Some.node in
-    let old = c.loop-node.nodes in
-    let new = c.kept_node.new.nodes in
-    let put : get_or marks c.len.result false ≡ true → (c.in_ok-n.n ≡ length old) × (new ≡ old ++ with_inputs (new_number c.loop-node.to.items) node ∷ []) × Stands old new c.in_ok-n.n (with_inputs (new_number c.loop-node.to.items) node) =
-    λ marked. subst (λ (to : List ℕ). (c.in_ok-n.n ≡ length old) × (new ≡ old ++ with_inputs (new_number to) node ∷ []) × Stands old new c.in_ok-n.n (with_inputs (new_number to) node)) c.as_slice.ensures.value (c.in_ok-n.ensures.put marked) in
-    subst (λ (to : List ℕ). IsPruned marks (c.loop-node.yielded ++ node ∷ []) new to) (sym c.in_ok-push.ensures.items)
-    (pruned-next marks c.loop-node.yielded old c.loop-node.to.items c.loop-node.invariant next.plan node next.valid
-    (get_or marks c.len.result false) (ap (λ (k : ℕ). get_or marks k false) number) next.keeps new c.in_ok-n.n put c.in_ok-n.ensures.skipped)
+pub add-requires : goal.add-requires
+add-requires c =
+    let numbers = c.args.numbers.now in
+    let k = c.loop-i.i-index in
+    let i = get_or numbers k 0 in
+    let ready : IsReady c.args.old (take k numbers) i = c.requires.ready k i (slice_get-get_or numbers k 0 c.loop-i-test.true) in
+    let there : slice_get c.loop-i.rest.items i ≡ Some ready.node = c.loop-i.invariant.left i ready.node ready.at ready.fresh in
+    let is : c.taken.result ≡ ready.node = same_Some c.taken.result ready.node (c.taken.ensures.node ∙ there) in
+    let to = c.loop-i.to.items in
+    let renamed : c.renumbered-node.result ≡ with_inputs (new_number to) ready.node =
+    c.renumbered-node.ensures ∙ (ap (λ (ts : List ℕ). with_inputs (new_number ts) c.taken.result) c.as_slice.ensures.value ∙ ap (λ (x : Node). with_inputs (new_number to) x) is) in
+    record {
+      valid = subst (IsNode (shapes_of c.loop-i.nodes)) (sym renamed)
+          (may_be_put (take k numbers) c.args.old c.loop-i.nodes c.loop-i.to.items c.loop-i.invariant.arranged c.into_vec-rest.ensures.plan i ready);
+    }
+
+pub index_mut-requires : goal.index_mut-requires
+index_mut-requires c =
+    let numbers = c.args.numbers.now in
+    let k = c.loop-i.i-index in
+    let i = get_or numbers k 0 in
+    let ready : IsReady c.args.old (take k numbers) i = c.requires.ready k i (slice_get-get_or numbers k 0 c.loop-i-test.true) in
+    let below : i < length c.args.old = slice_get_within c.args.old i ready.node ready.at in
+    omega (arith, below, c.loop-i.invariant.arranged.mapped.long, c.loop-i.to.ok.0)
+
+pub loop-i-preserved : goal.loop-i-preserved
+loop-i-preserved c =
+    let numbers = c.args.numbers.now in
+    let k = c.loop-i.i-index in
+    let i = get_or numbers k 0 in
+    let ready : IsReady c.args.old (take k numbers) i = c.requires.ready k i (slice_get-get_or numbers k 0 c.loop-i-test.true) in
+    let there : slice_get c.loop-i.rest.items i ≡ Some ready.node = c.loop-i.invariant.left i ready.node ready.at ready.fresh in
+    let is : c.taken.result ≡ ready.node = same_Some c.taken.result ready.node (c.taken.ensures.node ∙ there) in
+    let to = c.loop-i.to.items in
+    let renamed : c.renumbered-node.result ≡ with_inputs (new_number to) ready.node =
+    c.renumbered-node.ensures ∙ (ap (λ (ts : List ℕ). with_inputs (new_number ts) c.taken.result) c.as_slice.ensures.value ∙ ap (λ (x : Node). with_inputs (new_number to) x) is) in
+    let more : take (k + 1) numbers ≡ take k numbers ++ i ∷ [] = take_more numbers k 0 c.loop-i-test.true in
+    let stands : Stands c.loop-i.nodes c.add.new.self c.in_ok-n.n (with_inputs (new_number to) ready.node) = subst (Stands c.loop-i.nodes c.add.new.self c.in_ok-n.n) renamed c.in_ok-n.ensures.stands in
+    let put : c.add.new.self ≡ c.loop-i.nodes ++ with_inputs (new_number to) ready.node ∷ [] = c.in_ok-n.ensures.ok.1 ∙ ap (λ (x : Node). c.loop-i.nodes ++ x ∷ []) renamed in
+    record {
+      arranged = subst (λ (order : List ℕ). IsArranged order c.args.old c.add.new.self (set to i c.in_ok-n.n)) (sym more)
+          (arranged-push (take k numbers) c.args.old c.loop-i.nodes c.loop-i.to.items c.loop-i.invariant.arranged c.into_vec-rest.ensures.plan i ready c.add.new.self c.in_ok-n.n stands
+          c.in_ok-n.ensures.ok.0 put);
+      left = subst (λ (order : List ℕ). AreLeft order c.args.old c.taken.new.nodes.items) (sym more)
+          (left-more (take k numbers) c.args.old c.loop-i.rest.items c.taken.new.nodes.items i c.loop-i.invariant.left c.taken.ensures.others);
+    }

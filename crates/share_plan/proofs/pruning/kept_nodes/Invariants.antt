@@ -1,5 +1,10 @@
-use Rattle.share_plan.specs.Marks.{IsPruned}
+use Rattle.std.proofs.Common.{take}
+use Rattle.share_plan.specs.Marks.{IsArranged}
+use Rattle.share_plan.proofs.Arranging.{AreLeft}
 use Rattle.share_plan.proofs.pruning.kept_nodes.Given as goal
 
-abbrev pub invariant-loop-node : goal.invariant-loop-node
-invariant-loop-node l = IsPruned l.marks l.yielded l.nodes l.to.items
+abbrev pub invariant-loop-i : goal.invariant-loop-i
+invariant-loop-i l = record {
+  arranged : IsArranged (take l.i-index l.numbers) l.fn.old l.nodes l.to.items;
+  left : AreLeft (take l.i-index l.numbers) l.fn.old l.rest.items;
+}
