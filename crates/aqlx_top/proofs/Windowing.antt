@@ -1,5 +1,5 @@
 -- What a run in windows means, while documents are behind what is pending.
-use Rattle.std.proofs.Common.{◌≡◌, ◌≢◌, ◌+◌, ◌<◌, ◌≤◌, ℕ, List, [], ◌∷◌, ◌++◌, All, true, false, not, map, length, take, drop, ap, ap₂, sym, subst, refl, ◌∙◌, append_assoc, append-nil, take-append-drop, length-append, arith, Option, Some, None, IfOk, IfSome, Result, Ok, Err, inl, inr}
+use Rattle.std.proofs.Common.{◌≡◌, ◌+◌, ◌<◌, ◌≤◌, ℕ, List, [], ◌∷◌, ◌++◌, All, true, false, map, length, take, drop, ap, ap₂, sym, subst, refl, ◌∙◌, append_assoc, append-nil, take-append-drop, length-append, arith, Option, Some, None, IfOk, IfSome, Result, Ok, Err, inl, inr}
 use Rattle.std.specs.Prelude.{◌⊎◌}
 use Rattle.std.specs.List.{flat_map}
 use Rattle.std.proofs.lemmas.Grind.{flat_map-append}
@@ -9,8 +9,8 @@ use Rattle.span_token.specs.Documents.{Doc}
 use Rattle.corpus_json.specs.declared.input.Input.{Input}
 use Rattle.corpus_json.specs.Documents.{documents, is_bad_line}
 use Rattle.corpus_json.specs.Inputs.{doc_of}
-use Rattle.corpus_json.specs.Limits.{line_limit, corpus_limit}
-use Rattle.corpus_json.specs.Lines.{joined, lines_of, HasNoLf}
+use Rattle.corpus_json.specs.Limits.{corpus_limit}
+use Rattle.corpus_json.specs.Lines.{joined, HasNoLf}
 use Rattle.corpus_json.specs.Reading.{Reading, NextLine, past}
 use Rattle.corpus_json.specs.declared.step.Step.{Step}
 use Rattle.corpus_json.specs.declared.step.Step.TheVariants.{Line, End}

@@ -6,6 +6,7 @@ ghost use Rattle.algebra.specs.Plans.{Parts};
 ghost use Rattle.aql_io.specs.Causes.{Rose};
 ghost use Rattle.corpus_json.specs.Documents.{documents, is_bad_line};
 ghost use Rattle.corpus_json.specs.Inputs.{doc_of};
+ghost use Rattle.run_pool.specs.Lines.{rows_by};
 ghost use Rattle.span_token.specs.Documents.{Doc};
 ghost use Rattle.aqlx_top.specs.Devices.{source_ends, source_between, sink_between};
 ghost use Rattle.aqlx_top.specs.Endings.{InPart};
@@ -25,7 +26,7 @@ use corpus_json::{DocumentReader, Input, Layout, LineBuffer, NotDocument, Step};
 use memchr::memchr;
 use plan_operators::Schedule;
 use row_values::Output;
-use run_pool::Workers;
+use run_pool::Pool;
 use span_token::{Failure, OutOfMemory};
 use std::alloc::Global;
 use std::thread::Threads;
@@ -66,24 +67,30 @@ pub(crate) struct Windowed<'p> {
     pub pending: Vec<u8>,
 }
 
-/// Runs a plan over a corpus as `run` does, with the documents evaluated in windows by so many workers.
-pub(crate) fn run_in_windows<R: Threads + Sync, S: Source, O: Sink>(
+/// Runs a plan over a corpus as `run` does, with the documents evaluated by so many workers, each alone or in
+/// windows. The pool answers what is found and keeps no list, so documents may be handed to parts of it.
+pub(crate) fn run_in_windows<R: Threads + Sync, S: Source, O: Sink, P: Pool>(
     rt: &R,
     alloc: Global,
     workers: u32,
     plan: &Plan,
     outputs: &[Output],
+    pool: &mut P,
     corpus: &mut S,
     out: &mut O,
 ) -> Result<Status, OutOfMemory>
     requires some { 1 ≤ workers }
     requires outputs { outputs.now ≡ names_in plan.now }
+    requires as_found { P.means pool.old ≡ rows_by }
+    requires untold { P.told pool.old ≡ None }
     ensures ran { IfOk result (IsRunTo (line_by plan.now)
         (source_between S.left S.faults corpus.old corpus.new)
         (sink_between O.held O.flushed O.faults out.old out.new)) }
     ensures part { OnErr result (InPart (line_by plan.now)
         (source_between S.left S.faults corpus.old corpus.new)
         (O.held out.old) (O.held out.new)) }
+    ensures means { P.means pool.new ≡ P.means pool.old }
+    ensures told { P.told pool.new ≡ P.told pool.old }
 {
     let mut work = begin_windows(alloc, workers, plan, outputs)?;
     'lines: loop {
@@ -91,7 +98,7 @@ pub(crate) fn run_in_windows<R: Threads + Sync, S: Source, O: Sink>(
             Ok(()) => {}
             Err(Failed) => return Ok(Status::WriteFault),
         }
-        match turn_in_window(rt, alloc, &mut work, corpus)? {
+        match turn_in_window(rt, alloc, &mut work, pool, corpus)? {
             Turn::Next => {}
             Turn::Ended(status) => return Ok(finish(out, &work.pending, status)),
         }
@@ -174,13 +181,16 @@ fn is_to_send(work: &Windowed<'_>) -> bool
 
 /// Looks at the next line and at those that are ready, and evaluates the window where it is due: so it is
 /// empty at the end of the run.
-fn turn_in_window<R: Threads + Sync, S: Source>(
+fn turn_in_window<R: Threads + Sync, S: Source, P: Pool>(
     rt: &R,
     alloc: Global,
     work: &mut Windowed<'_>,
+    pool: &mut P,
     corpus: &mut S,
 ) -> Result<Turn, OutOfMemory>
     requires fits { Fits work.old.plan.now work.old }
+    requires as_found { P.means pool.old ≡ rows_by }
+    requires untold { P.told pool.old ≡ None }
     requires below { length work.old.window.items < work.old.most }
     requires room { work.old.number < 2 ^ 63 }
     requires going { IsGoing work.old.reader }
@@ -192,10 +202,12 @@ fn turn_in_window<R: Threads + Sync, S: Source>(
     ensures fits { IfOk result (λ _. (plan : Parts) → Fits plan work.old → Fits plan work.new) }
     ensures below { IfOk result (λ came. came ≡ Turn.Next → length work.new.window.items < work.new.most) }
     ensures ended { IfOk result (λ came. came ≢ Turn.Next → work.new.window.items ≡ []) }
+    ensures means { P.means pool.new ≡ P.means pool.old }
+    ensures told { P.told pool.new ≡ P.told pool.old }
 {
-    let turn = take_line(rt, alloc, work, corpus)?;
+    let turn = take_line(rt, alloc, work, pool, corpus)?;
     if is_due(work, &turn) {
-        evaluate_window(rt, alloc, work)?;
+        evaluate_window(rt, alloc, work, pool)?;
         Ok(turn)
     } else {
         Ok(turn)
@@ -203,13 +215,16 @@ fn turn_in_window<R: Threads + Sync, S: Source>(
 }
 
 /// Looks at the next line, and puts its document into the window, or answers it and those that are ready.
-fn take_line<R: Threads + Sync, S: Source>(
+fn take_line<R: Threads + Sync, S: Source, P: Pool>(
     rt: &R,
     alloc: Global,
     work: &mut Windowed<'_>,
+    pool: &P,
     corpus: &mut S,
 ) -> Result<Turn, OutOfMemory>
     requires fits { Fits work.old.plan.now work.old }
+    requires as_found { P.means pool.now ≡ rows_by }
+    requires untold { P.told pool.now ≡ None }
     requires below { length work.old.window.items < work.old.most }
     requires room { work.old.number < 2 ^ 63 }
     requires going { IsGoing work.old.reader }
@@ -225,7 +240,7 @@ fn take_line<R: Threads + Sync, S: Source>(
             work.number += 1;
             // no more bytes were taken than a corpus has, which bounds the number of lines
             let _taken = work.reader.taken();
-            take_given(rt, alloc, work)
+            take_given(rt, alloc, work, pool)
         }
         Step::End => Ok(Turn::Ended(Status::Done)),
         Step::Long => Ok(Turn::Ended(Status::Corpus(CorpusFault::LineLong(work.number + 1)))),
@@ -235,12 +250,15 @@ fn take_line<R: Threads + Sync, S: Source>(
 }
 
 /// Puts the document of the line that was given into the window, or answers that line and those that are ready.
-fn take_given<R: Threads + Sync>(
+fn take_given<R: Threads + Sync, P: Pool>(
     rt: &R,
     alloc: Global,
     work: &mut Windowed<'_>,
+    pool: &P,
 ) -> Result<Turn, OutOfMemory>
     requires fits { Fits work.old.plan.now work.old }
+    requires as_found { P.means pool.now ≡ rows_by }
+    requires untold { P.told pool.now ≡ None }
     requires below { length work.old.window.items < work.old.most }
     requires line { length work.old.line.items ≤ 16777216 }
     ensures given { IfOk result (IsGiven (line_by work.old.plan.now) work.old work.new) }
@@ -249,25 +267,28 @@ fn take_given<R: Threads + Sync>(
     if is_for_window(work) {
         take_document(alloc, work)
     } else {
-        answer_or_take(rt, alloc, work)
+        answer_or_take(rt, alloc, work, pool)
     }
 }
 
 /// Answers the line that was given and those that are ready, or puts the document of that one into the window
 /// where it can't.
-fn answer_or_take<R: Threads + Sync>(
+fn answer_or_take<R: Threads + Sync, P: Pool>(
     rt: &R,
     alloc: Global,
     work: &mut Windowed<'_>,
+    pool: &P,
 ) -> Result<Turn, OutOfMemory>
     requires fits { Fits work.old.plan.now work.old }
+    requires as_found { P.means pool.now ≡ rows_by }
+    requires untold { P.told pool.now ≡ None }
     requires below { length work.old.window.items < work.old.most }
     requires line { length work.old.line.items ≤ 16777216 }
     requires empty { work.old.window.items ≡ [] }
     ensures given { IfOk result (IsGiven (line_by work.old.plan.now) work.old work.new) }
     ensures fits { IfOk result (λ _. (plan : Parts) → Fits plan work.old → Fits plan work.new) }
 {
-    if answer_ready(rt, alloc, work)? {
+    if answer_ready(rt, alloc, work, pool)? {
         Ok(Turn::Next)
     } else {
         take_document(alloc, work)
@@ -298,12 +319,15 @@ fn has_lines(bytes: &[u8], number: usize) -> bool {
 
 /// Answers the line that was given and those that are ready, as far as none is bad. False where that one is
 /// bad, or memory is wanting for it: then nothing is answered.
-fn answer_ready<R: Threads + Sync>(
+fn answer_ready<R: Threads + Sync, P: Pool>(
     rt: &R,
     alloc: Global,
     work: &mut Windowed<'_>,
+    pool: &P,
 ) -> Result<bool, OutOfMemory>
     requires fits { Fits work.old.plan.now work.old }
+    requires as_found { P.means pool.now ≡ rows_by }
+    requires untold { P.told pool.now ≡ None }
     requires empty { work.old.window.items ≡ [] }
     ensures answered { IfOk result (λ answered. answered ≡ true → HasAnswered (line_by work.old.plan.now) work.old work.new) }
     ensures none { IfOk result (λ answered. answered ≡ false → IsAsBefore work.old work.new) }
@@ -316,6 +340,7 @@ fn answer_ready<R: Threads + Sync>(
         work.with_tokens,
         &work.layout,
         &mut work.hands,
+        pool,
         &work.line,
         work.reader.ready(),
         &mut work.pending,
@@ -388,17 +413,22 @@ fn is_due(work: &Windowed<'_>, turn: &Turn) -> bool
     }
 }
 
-/// Evaluates the window, and puts the lines of its documents behind what is pending.
-fn evaluate_window<R: Threads + Sync>(
+/// Evaluates the window, hands its documents to the pool, and puts their lines behind what is pending.
+fn evaluate_window<R: Threads + Sync, P: Pool>(
     rt: &R,
     alloc: Global,
     work: &mut Windowed<'_>,
+    pool: &mut P,
 ) -> Result<(), OutOfMemory>
     requires fits { Fits work.old.plan.now work.old }
+    requires as_found { P.means pool.old ≡ rows_by }
+    requires untold { P.told pool.old ≡ None }
     ensures meant { OnOk result (work.new.pending.items ≡ meant_by (line_by work.old.plan.now) work.old.pending.items work.old.window.items) }
     ensures empty { OnOk result (work.new.window.items ≡ []) }
     ensures fits { OnOk result ((plan : Parts) → Fits plan work.old → Fits plan work.new) }
     ensures same { OnOk result ((work.new.reader ≡ work.old.reader) × (work.new.number ≡ work.old.number) × (work.new.most ≡ work.old.most)) }
+    ensures means { P.means pool.new ≡ P.means pool.old }
+    ensures told { P.told pool.new ≡ P.told pool.old }
 {
     append_window(
         rt,
@@ -408,7 +438,7 @@ fn evaluate_window<R: Threads + Sync>(
         &work.layout,
         &mut work.crew,
         work.workers,
-        &mut Workers,
+        pool,
         &work.window,
         &mut work.pending,
     )?;

@@ -17,8 +17,8 @@ use span_token::OutOfMemory;
 use std::alloc::Global;
 use std::thread::Threads;
 
-/// Runs a plan over a corpus by a pool and by so many workers: one evaluates line by line, and several in windows,
-/// where the pool answers what they find and is told nothing by it.
+/// Runs a plan over a corpus by a pool and by so many workers: one evaluates line by line, and several at once
+/// where the pool answers what is found and keeps no list, each document being handed to it or to a part of it.
 pub(crate) fn run_by<R: Threads + Sync, S: Source, O: Sink, P: Pool>(
     rt: &R,
     alloc: Global,
@@ -40,7 +40,7 @@ pub(crate) fn run_by<R: Threads + Sync, S: Source, O: Sink, P: Pool>(
     ensures means { P.means pool.new ≡ P.means pool.old }
 {
     if workers > 1 && pool.is_plain() {
-        run_in_windows(rt, alloc, workers, plan, outputs, corpus, out)
+        run_in_windows(rt, alloc, workers, plan, outputs, pool, corpus, out)
     } else {
         run(alloc, plan, outputs, pool, corpus, out)
     }

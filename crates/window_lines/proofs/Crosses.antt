@@ -29,9 +29,9 @@ one_captured_sync ν A a = search sendable depth 20
 Schedule-sync : (p : NamedLft) → IsSync (Schedule.the_row p)
 Schedule-sync p = search (Plan-sync, vec.the_sync, crosses, sendable) depth 60 fits 20000
 
--- what threads share that answer lines
-pub Ready-sync : (a l p : NamedLft) → IsSync (Ready.the_row a l p)
-Ready-sync a l p = search (Schedule-sync, layout.the_sync, vec.the_sync, word.the_sync, crosses, sendable) depth 60 fits 20000
+-- what threads share that answer lines, with a pool that may be shared
+pub Ready-sync : (a l p : NamedLft) (P : RattleType) (ghosts : Ghosts P.Denot) → IsSync P → IsSync (Ready.the_row a l p P ghosts)
+Ready-sync a l p P ghosts shared = search (Schedule-sync, layout.the_sync, vec.the_sync, word.the_sync, crosses, sendable) depth 60 fits 20000
 
 -- a hand may be sent: its tools, and room
 pub Hand-send : (p : NamedLft) → IsSend (Hand.the_row p)

@@ -1,11 +1,11 @@
 -- Lines that are answered, and more lines behind them.
-use Rattle.std.proofs.Common.{◌≡◌, ◌++◌, ◌+◌, ℕ, List, [], ◌∷◌, All, false, length, refl, sym, ap, ap₂, ◌∙◌, arith, length-append, append-nil}
+use Rattle.std.proofs.Common.{◌≡◌, ◌++◌, ◌+◌, ℕ, List, [], ◌∷◌, false, refl, sym, ap₂, ◌∙◌, length-append, append-nil}
 use Rattle.std.proofs.lemmas.List.Elements.{All-append, All-cons, All-nil}
 use Rattle.std.proofs.lemmas.Grind.{flat_map-append}
 use Rattle.span_token.specs.Documents.{Doc}
 use Rattle.corpus_json.specs.Documents.{is_bad_line}
-use Rattle.corpus_json.specs.Lines.{joined, HasNoLf}
-use Rattle.window_lines.specs.Answered.{AreGood, AreAnswered, answer_to}
+use Rattle.corpus_json.specs.Lines.{HasNoLf}
+use Rattle.window_lines.specs.Answered.{AreAnswered, answer_to}
 use Rattle.window_lines.specs.DocumentLaws.{pieces-append}
 
 module _ (piece : Doc → List ℕ) where

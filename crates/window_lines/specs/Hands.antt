@@ -4,6 +4,7 @@ use Rattle.std.specs.List.{slice_range}
 use Rattle.span_token.specs.Documents.{Doc}
 use Rattle.scalar_ops.specs.Tables.{Lists}
 use Rattle.corpus_json.specs.Documents.{is_bad_line}
+use Rattle.window_lines.specs.declared.hands.First.TheVariants.{Bad, Good}
 use Rattle.window_lines.specs.declared.hands.Hand.{Hand}
 use Rattle.window_lines.specs.declared.hands.Part.{Part}
 use Rattle.window_lines.specs.declared.ready.Answered.{Answered}
@@ -30,7 +31,8 @@ pub record IsHead (piece : Doc → List ℕ) (first text : List ℕ) : Type 0 wh
 
 -- what a hand says of the first line is so, and so are its parts
 pub record HasAnswered (piece : Doc → List ℕ) (first bytes : List ℕ) (hand : Hand) : Type 0 where
-  pub headed : hand.headed ≡ true → IsHead piece first hand.head.items
+  pub headed : hand.first ≡ Good → IsHead piece first hand.head.items
+  pub bad : hand.first ≡ Bad → is_bad_line first ≡ true
   pub parts : AreParts piece bytes hand.parts.items
 
 -- of each of them

@@ -40,12 +40,23 @@ impl<'p> Model for Hands<'p> {
 pub(crate) struct Hand<'p> {
     pub tools: Tools<'p>,
     pub room: Room,
-    /// Whether `head` is what is written for the first line.
-    pub headed: bool,
+    pub first: First,
+    /// What is written for the first line, where it is good.
     pub head: Vec<u8>,
     pub parts: Vec<Part>,
     /// Texts of parts that are used again.
     pub spare: Vec<Vec<u8>>,
+}
+
+/// What came of the first line.
+#[derive(Clone, Copy, Debug)]
+pub(crate) enum First {
+    /// It wasn't answered, for want of memory or since another hand does.
+    Unknown,
+    /// It is bad.
+    Bad,
+    /// It is answered.
+    Good,
 }
 
 /// What is written for the lines that stand from one place of some bytes to another, and their number.
@@ -92,7 +103,7 @@ fn hand_for<'p>(alloc: Global, tables: &'p Tables) -> Result<Hand<'p>, OutOfMemo
     Ok(Hand {
         tools: Tools::new(alloc, tables)?,
         room: Room::new(alloc),
-        headed: false,
+        first: First::Unknown,
         head: Vec::new(alloc),
         parts: Vec::new(alloc),
         spare: Vec::new(alloc),
@@ -105,7 +116,7 @@ impl<'p> Hand<'p> {
         ensures tools { self.new.tools ≡ self.old.tools }
         ensures none { self.new.parts.items ≡ [] }
     {
-        self.headed = false;
+        self.first = First::Unknown;
         self.head.clear();
         for _ in 0..self.parts.len() {
             if let Some(part) = self.parts.pop() {

@@ -1,21 +1,23 @@
 //! Lines that are ready: each of several threads reads, evaluates and answers pieces of them by itself.
 
-ghost use Rattle.std.specs.Prelude.{◌≡◌, ◌<◌, ◌≤◌, ◌+◌, ◌*◌, ◌^◌, ◌++◌, ◌-◌, ◌∷◌, [], ℕ, List, true, false, take, drop, IfOk, IfSome, OnOk, MatchOption, length, slice_index_or};
+ghost use Rattle.std.specs.Prelude.{◌≡◌, ◌<◌, ◌≤◌, ◌+◌, ◌*◌, ◌^◌, ◌++◌, ◌-◌, ◌∷◌, [], ℕ, List, true, false, take, drop, None, IfOk, IfSome, OnOk, MatchOption, length, slice_index_or};
+ghost use Rattle.std.specs.Thread.{IsSync};
 ghost use Rattle.corpus_json.specs.Documents.{is_bad_line};
 ghost use Rattle.corpus_json.specs.Lines.{HasNoLf, FirstLfAt};
 ghost use Rattle.span_token.specs.Documents.{Doc};
+ghost use Rattle.window_lines.specs.declared.hands.First.TheVariants as declared_first;
 ghost use Rattle.window_lines.specs.declared.hands.Hand as declared_hand;
 ghost use Rattle.window_lines.specs.Answered.{answer_to, AreAnswered, IsAnswered};
 ghost use Rattle.window_lines.specs.Hands.{AreParts, HasAnswered, HaveAnswered, HaveTools, IsAnsweredBehind, IsHead, IsPart};
-ghost use Rattle.window_lines.specs.Lines.{line_by, names_in};
+ghost use Rattle.window_lines.specs.Lines.{line_by, names_in, rows_by};
 
 use crate::answer::answer_line;
-use crate::hands::{Hand, Hands, Part};
+use crate::hands::{First, Hand, Hands, Part};
 use crate::stretch::stretch_count;
 use corpus_json::{LINE_LIMIT, Layout};
 use memchr::memchr;
 use plan_operators::Schedule;
-use run_pool::Workers;
+use run_pool::Pool;
 use span_token::OutOfMemory;
 use std::alloc::Global;
 use std::mem;
@@ -43,8 +45,10 @@ pub struct Answered {
 
 /// What the threads share that answer lines.
 #[derive(Drop)]
-struct Ready<'a, 'l, 'p> {
+struct Ready<'a, 'l, 'p, P: Pool> {
     alloc: Global,
+    /// The pool of which each thread makes a part for itself.
+    pool: &'a P,
     schedule: &'a Schedule<'p>,
     with_tokens: bool,
     layout: &'a Layout<'l>,
@@ -67,8 +71,10 @@ struct Ready<'a, 'l, 'p> {
 /// `first` is the line, without its LF, and `bytes` are those behind it. What is answered of them is told in
 /// bytes and in lines: where there are many, each thread of `hands` answers pieces of them by itself, which
 /// pays where there are more lines than threads, and otherwise one does, without a thread. A bad line ends
-/// what is answered. `None` where the first line is bad, or memory is wanting for its answer, and nothing is
-/// put then.
+/// what is answered. `None` where the first line is bad, and nothing is put then.
+///
+/// Each document is handed to a part of the pool by the thread that evaluates it, and what the part answers is
+/// written. The pool answers what is found and keeps no list, so nothing is gathered of its parts.
 ///
 /// `schedule` is the plan's, `layout` has its outputs, and `hands` are made for the plan; the bytes are the
 /// same for every number of them. `with_tokens` says whether documents keep their tokens, and changes no
@@ -76,21 +82,24 @@ struct Ready<'a, 'l, 'p> {
 ///
 /// Meaning: `IsAnswered`, `specs/Answered.antt`; `line_by`, `specs/Lines.antt`: for each output the value of its
 /// node on the document.
-pub fn append_ready<R: Threads + Sync>(
+pub fn append_ready<R: Threads + Sync, P: Pool>(
     rt: &R,
     alloc: Global,
     schedule: &Schedule<'_>,
     with_tokens: bool,
     layout: &Layout<'_>,
     hands: &mut Hands<'_>,
+    pool: &P,
     first: &[u8],
     bytes: &[u8],
     pending: &mut Vec<u8>,
 ) -> Result<Option<Answered>, OutOfMemory>
     requires layout { layout.now ≡ names_in schedule.now }
     requires of_plan { hands.old ≡ schedule.now.lists }
+    requires as_found { P.means pool.now ≡ rows_by }
+    requires untold { P.told pool.now ≡ None }
     ensures taken { IfOk result (λ told. MatchOption told
-        (pending.new.items ≡ pending.old.items)
+        ((is_bad_line first.now ≡ true) × (pending.new.items ≡ pending.old.items))
         (λ taken. IsAnswered (line_by schedule.now) first.now bytes.now taken pending.old.items pending.new.items)) }
     ensures same { hands.new ≡ hands.old }
 {
@@ -98,6 +107,7 @@ pub fn append_ready<R: Threads + Sync>(
     let size = piece_size(bytes.len(), hands.hands.len());
     let ready = Ready {
         alloc,
+        pool,
         schedule,
         with_tokens,
         layout,
@@ -120,66 +130,79 @@ fn piece_size(length: usize, threads: usize) -> usize
 }
 
 /// Lets the hands answer, each in a thread of its own but for the first one, where there are many bytes.
-fn answer_in_threads<R: Threads + Sync>(rt: &R, ready: &Ready<'_, '_, '_>, hands: &mut [Hand<'_>])
+fn answer_in_threads<R: Threads + Sync, P: Pool>(
+    rt: &R,
+    ready: &Ready<'_, '_, '_, P>,
+    hands: &mut [Hand<'_>],
+)
     requires some { 0 < length hands.old }
+    requires as_found { P.means ready.now.pool.now ≡ rows_by }
     requires tools { HaveTools ready.now.schedule.now.lists hands.old }
     ensures long { length hands.new ≡ length hands.old }
     ensures tools { HaveTools ready.now.schedule.now.lists hands.new }
     ensures answered { HaveAnswered (line_by ready.now.schedule.now) ready.now.first.now ready.now.bytes.now hands.new }
 {
     let threads = if ready.bytes.len() >= MANY {
-        hands.len()
+        hands.len().min(ready.count).max(1)
     } else {
         1
     };
     let job = |place: usize, hand: &mut Hand<'_>|
-        requires { hand.old.tools ≡ ready.now.schedule.now.lists }
+        requires { IsSync P.row × (P.means ready.now.pool.now ≡ rows_by) × (hand.old.tools ≡ ready.now.schedule.now.lists) }
         ensures { (hand.new.tools ≡ ready.entry.now.schedule.now.lists) × HasAnswered (line_by ready.entry.now.schedule.now) ready.entry.now.first.now ready.entry.now.bytes.now hand.new }
     { ready.answer(place, hand) };
     thread::for_each_mut(rt, hands, threads, &job);
 }
 
-impl<'a, 'l, 'p> Ready<'a, 'l, 'p> {
-    /// Answers pieces until none is left; the hand of place 0 answers the first line before.
+impl<'a, 'l, 'p, P: Pool> Ready<'a, 'l, 'p, P> {
+    /// Answers pieces until none is left, by a part of the pool; the hand of place 0 answers the first line before.
     fn answer(&self, place: usize, hand: &mut Hand<'_>)
+        requires as_found { P.means self.now.pool.now ≡ rows_by }
         requires tools { hand.old.tools ≡ self.now.schedule.now.lists }
         ensures tools { hand.new.tools ≡ self.now.schedule.now.lists }
         ensures answered { HasAnswered (line_by self.now.schedule.now) self.now.first.now self.now.bytes.now hand.new }
     {
         hand.clear();
-        let headed = if place == 0 {
-            self.answer_first(hand)
+        let mut pool = self.pool.part(self.alloc);
+        let first = if place == 0 {
+            self.answer_first(hand, &mut pool)
         } else {
-            false
+            First::Unknown
         };
-        self.answer_pieces(hand);
-        hand.headed = headed;
+        self.answer_pieces(hand, &mut pool);
+        hand.first = first;
     }
 
-    /// Answers the first line. False where it is bad, or memory is wanting.
-    fn answer_first(&self, hand: &mut Hand<'_>) -> bool
+    /// Answers the first line, and tells what came of it.
+    fn answer_first(&self, hand: &mut Hand<'_>, pool: &mut P) -> First
         requires tools { hand.old.tools ≡ self.now.schedule.now.lists }
-        ensures head { result ≡ true → IsHead (line_by self.now.schedule.now) self.now.first.now hand.new.head.items }
+        requires as_found { P.means pool.old ≡ rows_by }
+        ensures good { result ≡ declared_first.Good → IsHead (line_by self.now.schedule.now) self.now.first.now hand.new.head.items }
+        ensures bad { result ≡ declared_first.Bad → is_bad_line self.now.first.now ≡ true }
         ensures tools { hand.new.tools ≡ hand.old.tools }
         ensures parts { hand.new.parts ≡ hand.old.parts }
+        ensures as_found { P.means pool.new ≡ P.means pool.old }
     {
         let mut text = hand.text(self.alloc);
-        let answered = self.answer_one(self.first, hand, &mut text);
+        let answered = self.answer_one(self.first, hand, pool, &mut text);
         let old = mem::replace(&mut hand.head, text);
         hand.keep(old);
         match answered {
-            Ok(good) => good,
-            Err(OutOfMemory) => false,
+            Ok(true) => First::Good,
+            Ok(false) => First::Bad,
+            Err(OutOfMemory) => First::Unknown,
         }
     }
 
     /// Answers one piece after another that nobody answers yet.
-    fn answer_pieces(&self, hand: &mut Hand<'_>)
+    fn answer_pieces(&self, hand: &mut Hand<'_>, pool: &mut P)
         requires tools { hand.old.tools ≡ self.now.schedule.now.lists }
+        requires as_found { P.means pool.old ≡ rows_by }
         requires parts { AreParts (line_by self.now.schedule.now) self.now.bytes.now hand.old.parts.items }
         ensures tools { hand.new.tools ≡ hand.old.tools }
         ensures head { hand.new.head ≡ hand.old.head }
         ensures parts { AreParts (line_by self.now.schedule.now) self.now.bytes.now hand.new.parts.items }
+        ensures as_found { P.means pool.new ≡ P.means pool.old }
     {
         'pieces: for _ in 0..self.count {
             let n = self.next.fetch_add(1, Ordering::Relaxed);
@@ -187,20 +210,22 @@ impl<'a, 'l, 'p> Ready<'a, 'l, 'p> {
                 return;
             }
             // where memory is wanting, the caller answers the piece line by line
-            if self.answer_piece(n, hand).is_err() {
+            if self.answer_piece(n, hand, pool).is_err() {
                 return;
             }
         }
     }
 
     /// Answers the lines that begin in the piece of number `n`.
-    fn answer_piece(&self, n: usize, hand: &mut Hand<'_>) -> Result<(), OutOfMemory>
+    fn answer_piece(&self, n: usize, hand: &mut Hand<'_>, pool: &mut P) -> Result<(), OutOfMemory>
         requires there { n < self.now.count }
         requires tools { hand.old.tools ≡ self.now.schedule.now.lists }
+        requires as_found { P.means pool.old ≡ rows_by }
         requires parts { AreParts (line_by self.now.schedule.now) self.now.bytes.now hand.old.parts.items }
         ensures tools { hand.new.tools ≡ hand.old.tools }
         ensures head { hand.new.head ≡ hand.old.head }
         ensures parts { AreParts (line_by self.now.schedule.now) self.now.bytes.now hand.new.parts.items }
+        ensures as_found { P.means pool.new ≡ P.means pool.old }
     {
         let begin = n * self.size;
         let until = begin + self.size.min(self.bytes.len() - begin);
@@ -211,7 +236,7 @@ impl<'a, 'l, 'p> Ready<'a, 'l, 'p> {
             count: 0,
             text: hand.text(self.alloc),
         };
-        self.answer_lines(until, hand, &mut part)?;
+        self.answer_lines(until, hand, pool, &mut part)?;
         hand.parts.push(part)?;
         Ok(())
     }
@@ -221,17 +246,20 @@ impl<'a, 'l, 'p> Ready<'a, 'l, 'p> {
         &self,
         until: usize,
         hand: &mut Hand<'_>,
+        pool: &mut P,
         part: &mut Part,
     ) -> Result<(), OutOfMemory>
         requires tools { hand.old.tools ≡ self.now.schedule.now.lists }
+        requires as_found { P.means pool.old ≡ rows_by }
         requires part { IsPart (line_by self.now.schedule.now) self.now.bytes.now part.old }
         ensures tools { hand.new.tools ≡ hand.old.tools }
         ensures head { hand.new.head ≡ hand.old.head }
         ensures parts { hand.new.parts ≡ hand.old.parts }
+        ensures as_found { P.means pool.new ≡ P.means pool.old }
         ensures part { OnOk result (IsPart (line_by self.now.schedule.now) self.now.bytes.now part.new) }
     {
         'lines: while part.to < until {
-            if !self.answer_next(hand, part)? {
+            if !self.answer_next(hand, pool, part)? {
                 return Ok(());
             }
         }
@@ -239,12 +267,19 @@ impl<'a, 'l, 'p> Ready<'a, 'l, 'p> {
     }
 
     /// Answers the line behind the part, where it has its LF and isn't bad.
-    fn answer_next(&self, hand: &mut Hand<'_>, part: &mut Part) -> Result<bool, OutOfMemory>
+    fn answer_next(
+        &self,
+        hand: &mut Hand<'_>,
+        pool: &mut P,
+        part: &mut Part,
+    ) -> Result<bool, OutOfMemory>
         requires tools { hand.old.tools ≡ self.now.schedule.now.lists }
+        requires as_found { P.means pool.old ≡ rows_by }
         requires part { IsPart (line_by self.now.schedule.now) self.now.bytes.now part.old }
         ensures tools { hand.new.tools ≡ hand.old.tools }
         ensures head { hand.new.head ≡ hand.old.head }
         ensures parts { hand.new.parts ≡ hand.old.parts }
+        ensures as_found { P.means pool.new ≡ P.means pool.old }
         ensures part { OnOk result (IsPart (line_by self.now.schedule.now) self.now.bytes.now part.new) }
         ensures more { IfOk result (λ more. more ≡ true → part.old.to < part.new.to) }
     {
@@ -252,7 +287,7 @@ impl<'a, 'l, 'p> Ready<'a, 'l, 'p> {
         let Some(n) = find_lf(&self.bytes[at..]) else {
             return Ok(false);
         };
-        if self.answer_one(&self.bytes[at..at + n], hand, &mut part.text)? {
+        if self.answer_one(&self.bytes[at..at + n], hand, pool, &mut part.text)? {
             part.to = at + n + 1;
             part.count += 1;
             Ok(true)
@@ -261,63 +296,81 @@ impl<'a, 'l, 'p> Ready<'a, 'l, 'p> {
         }
     }
 
-    /// Puts what is written for a line behind the text. False, and nothing is put, where it is bad.
+    /// Hands the document of a line to the part of the pool, and puts what is written for the line behind the
+    /// text. False, and nothing is put, where it is bad.
     fn answer_one(
         &self,
         line: &[u8],
         hand: &mut Hand<'_>,
+        pool: &mut P,
         text: &mut Vec<u8>,
     ) -> Result<bool, OutOfMemory>
         requires tools { hand.old.tools ≡ self.now.schedule.now.lists }
+        requires as_found { P.means pool.old ≡ rows_by }
         ensures good { IfOk result (λ good. good ≡ true → is_bad_line line.now ≡ false) }
+        ensures bad { IfOk result (λ good. good ≡ false → is_bad_line line.now ≡ true) }
         ensures put { IfOk result (λ good. good ≡ true → text.new.items ≡ text.old.items ++ answer_to (line_by self.now.schedule.now) (line.now ∷ [])) }
         ensures none { IfOk result (λ good. good ≡ false → text.new.items ≡ text.old.items) }
         ensures tools { hand.new.tools ≡ hand.old.tools }
         ensures head { hand.new.head ≡ hand.old.head }
         ensures parts { hand.new.parts ≡ hand.old.parts }
+        ensures as_found { P.means pool.new ≡ P.means pool.old }
     {
         if line.len() > LINE_LIMIT {
+            self.stop();
             return Ok(false);
         }
-        answer_line(
+        let good = answer_line(
             self.alloc,
             self.schedule,
             self.with_tokens,
             self.layout,
             &mut hand.tools,
             &mut hand.room,
-            &mut Workers,
+            pool,
             line,
             text,
-        )
+        )?;
+        if !good {
+            self.stop();
+        }
+        Ok(good)
+    }
+
+    /// Lets nobody take another piece, since nothing that stands behind a bad line is written.
+    fn stop(&self) {
+        self.next.store(self.count, Ordering::Relaxed);
     }
 }
 
 /// Puts what the hands answered behind what is pending, in the order of the lines, as far as each part begins
 /// where the one before it ends.
-fn append_answered(
-    ready: &Ready<'_, '_, '_>,
+fn append_answered<P: Pool>(
+    ready: &Ready<'_, '_, '_, P>,
     hands: &[Hand<'_>],
     pending: &mut Vec<u8>,
 ) -> Result<Option<Answered>, OutOfMemory>
     requires some { 0 < length hands.now }
     requires answered { HaveAnswered (line_by ready.now.schedule.now) ready.now.first.now ready.now.bytes.now hands.now }
     ensures taken { IfOk result (λ told. MatchOption told
-        (pending.new.items ≡ pending.old.items)
+        ((is_bad_line ready.now.first.now ≡ true) × (pending.new.items ≡ pending.old.items))
         (λ taken. IsAnswered (line_by ready.now.schedule.now) ready.now.first.now ready.now.bytes.now taken pending.old.items pending.new.items)) }
 {
     let hand = &hands[0];
-    if !hand.headed {
-        return Ok(None);
+    match hand.first {
+        First::Unknown => Err(OutOfMemory),
+        First::Bad => Ok(None),
+        First::Good => {
+            pending.extend_from_slice(hand.head.as_slice())?;
+            let taken = append_parts(ready, hands, pending)?;
+            Ok(Some(taken))
+        }
     }
-    pending.extend_from_slice(hand.head.as_slice())?;
-    let taken = append_parts(ready, hands, pending)?;
-    Ok(Some(taken))
 }
 
 /// Puts the parts of the hands behind what is pending.
-fn append_parts(
-    ready: &Ready<'_, '_, '_>,
+fn append_parts<P: Pool>(
+    ready: &Ready<'_, '_, '_, P>,
     hands: &[Hand<'_>],
     pending: &mut Vec<u8>,
 ) -> Result<Answered, OutOfMemory>

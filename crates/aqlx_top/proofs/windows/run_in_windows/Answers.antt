@@ -1,4 +1,4 @@
-use Rattle.std.proofs.Common.{◌≡◌, ℕ, ◌+◌, ◌-◌, ◌≤◌, ◌<◌, ◌∙◌, refl, sym, arith}
+use Rattle.std.proofs.Common.{◌≡◌, ℕ, ◌-◌, ◌≤◌, ◌<◌, ◌∙◌, refl, sym, arith}
 use Rattle.corpus_json.specs.Limits.{corpus_limit}
 use Rattle.aqlx_top.specs.Devices.{source_ends}
 use Rattle.aqlx_top.specs.Planned.{line_by}
@@ -23,6 +23,8 @@ lines-init g c =
       fits = b.fits;
       below = rw b.nothing.1 b.fits.some;
       going = rw b.reader tt;
+      means = refl;
+      told = refl;
       unfailed = refl;
     }
 
@@ -65,6 +67,8 @@ lines-preserved g c =
       fits = c.in_ok-turn_in_window.ensures.fits c.args.plan.now fits;
       below = c.in_ok-turn_in_window.ensures.below c.in-Next.is;
       going = c.in_ok-turn_in_window.ensures.going c.in-Next.is;
+      means = c.turn_in_window.ensures.means ∙ c.lines.invariant.means;
+      told = c.turn_in_window.ensures.told ∙ c.lines.invariant.told;
       unfailed = c.in-Ok.ensures.stands ∙ c.lines.invariant.unfailed;
     }
 

@@ -14,6 +14,8 @@ invariant-lines g l = record {
   fits : Fits l.fn.plan l.work;
   below : length l.work.window.items < l.work.most;
   going : IsGoing l.work.reader;
+  means : g.P.Pool.means l.pool ≡ g.P.Pool.means l.initial.pool;
+  told : g.P.Pool.told l.pool ≡ g.P.Pool.told l.initial.pool;
   unfailed : g.O.Sink.faults l.out ≡ g.O.Sink.faults l.initial.out;
 }
 

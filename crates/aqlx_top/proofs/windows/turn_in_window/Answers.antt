@@ -3,7 +3,6 @@ use Rattle.std.proofs.lemmas.Result.{err_from_is_err_and}
 use Rattle.aqlx_top.specs.Devices.{source_ends}
 use Rattle.aqlx_top.specs.Planned.{line_by}
 use Rattle.aqlx_top.specs.Windows.{meant_by}
-use Rattle.aqlx_top.proofs.Turns as law
 use Rattle.aqlx_top.proofs.Windowing as more
 use Rattle.aqlx_top.proofs.windows.turn_in_window.Goals as goal
 

@@ -1,11 +1,10 @@
-use Rattle.std.proofs.Common.{rules, ◌≡◌, ◌+◌, ◌<◌, ◌≤◌, ◌++◌, ◌^◌, ℕ, Fits, w64, List, length, refl, sym, subst, ap, ◌∙◌, append_assoc, arith}
-use Rattle.window_lines.specs.Hands.{IsAnsweredBehind, IsPart}
+use Rattle.std.proofs.Common.{rules, ◌≡◌, ◌++◌, ℕ, List, refl, ap, ◌∙◌, append_assoc, arith}
 use Rattle.window_lines.specs.Lines.{line_by}
 use Rattle.window_lines.proofs.Parts.{longer}
 use Rattle.window_lines.proofs.ready.append_parts.Goals as goal
 
 pub overflow_add-taken : goal.overflow_add-taken
-overflow_add-taken c =
+overflow_add-taken g c =
     let found = c.in-Some.ensures (line_by c.args.ready.now.schedule.now) c.args.ready.now.first.now c.args.ready.now.bytes.now c.requires.answered in
     let few = found.1.few in
     let so_far = c.pieces.invariant.few in
@@ -15,7 +14,7 @@ overflow_add-taken c =
     omega (arith, few, so_far, from, within)
 
 pub pieces-preserved : goal.pieces-preserved
-pieces-preserved c =
+pieces-preserved g c =
     let piece = line_by c.args.ready.now.schedule.now in
     let bytes = c.args.ready.now.bytes.now in
     let found = c.in-Some.ensures piece c.args.ready.now.first.now bytes c.requires.answered in

@@ -4,12 +4,13 @@ use Rattle.window_lines.specs.Lines.{line_by}
 use Rattle.window_lines.proofs.ready.Ready.answer_lines.Given as goal
 
 abbrev pub invariant-lines : goal.invariant-lines
-invariant-lines l = record {
+invariant-lines g l = record {
   tools : l.hand.tools ≡ l.initial.hand.tools;
   head : l.hand.head ≡ l.initial.hand.head;
   parts : l.hand.parts ≡ l.initial.hand.parts;
+  as_found : g.P.Pool.means l.pool ≡ g.P.Pool.means l.initial.pool;
   part : IsPart (line_by l.self.schedule.now) l.self.bytes.now l.part;
 }
 
 abbrev pub decreases-lines : goal.decreases-lines
-decreases-lines l = l.until - l.part.to
+decreases-lines g l = l.until - l.part.to

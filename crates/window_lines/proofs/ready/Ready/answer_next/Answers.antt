@@ -1,4 +1,4 @@
-use Rattle.std.proofs.Common.{rules, ◌≡◌, ◌+◌, ◌-◌, ◌++◌, [], ◌∷◌, false, sym, subst, take, drop, ap, ◌∙◌, arith}
+use Rattle.std.proofs.Common.{rules, ◌≡◌, ◌+◌, ◌-◌, ◌++◌, [], ◌∷◌, false, subst, take, drop, arith}
 use Rattle.std.proofs.lemmas.List.{take_rest}
 use Rattle.corpus_json.specs.Documents.{is_bad_line}
 use Rattle.corpus_json.specs.Lines.{FirstLfAt}
@@ -8,7 +8,7 @@ use Rattle.window_lines.proofs.Parts.{answered_on}
 use Rattle.window_lines.proofs.ready.Ready.answer_next.Goals as goal
 
 pub returns-then-branch-clause-part : goal.returns-then-branch-clause-part
-returns-then-branch-clause-part c =
+returns-then-branch-clause-part g c =
     let bytes = c.args.self.now.bytes.now in
     let at = c.args.part.now.to in
     let n = c.in-Some.n in

@@ -4,8 +4,9 @@ use Rattle.window_lines.specs.Lines.{line_by}
 use Rattle.window_lines.proofs.ready.Ready.answer_pieces.Given as goal
 
 abbrev pub invariant-pieces : goal.invariant-pieces
-invariant-pieces l = record {
+invariant-pieces g l = record {
   tools : l.hand.tools ≡ l.initial.hand.tools;
   head : l.hand.head ≡ l.initial.hand.head;
   parts : AreParts (line_by l.self.schedule.now) l.self.bytes.now l.hand.parts.items;
+  as_found : g.P.Pool.means l.pool ≡ g.P.Pool.means l.initial.pool;
 }
