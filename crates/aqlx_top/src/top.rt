@@ -53,13 +53,14 @@ pub fn aqlx<R: Threads + Sync, F: Files, S: Source, O: Sink, E: Sink, P: Pool>(
     err: &mut E,
     pool: &mut P,
 ) -> Result<Status, OutOfMemory>
-    ensures { Outcome
+    ensures outcome { Outcome
         (call_of (map string_bytes words.now.items) (files_between F.told F.faults files.old files.new)
         (pool_between P.means P.told pool.old pool.new)
         (source_between S.left S.faults corpus.old corpus.new)
         (sink_between O.held O.flushed O.faults out.old out.new))
         (sink_between E.held E.flushed E.faults err.old err.new)
         result }
+    ensures means { P.means pool.new ≡ P.means pool.old }
 {
     let status = carry_out(rt, alloc, words, files, pool, corpus, out)?;
     report(alloc, err, status)
@@ -86,6 +87,7 @@ fn carry_out<R: Threads + Sync, F: Files, S: Source, O: Sink, P: Pool>(
         (source_between S.left S.faults corpus.old corpus.new)
         (sink_between O.held O.flushed O.faults out.old out.new))) }
     ensures unread { IsNoRun (map string_bytes words.now.items) → IsUnread (source_between S.left S.faults corpus.old corpus.new) }
+    ensures means { P.means pool.new ≡ P.means pool.old }
 {
     match order_of(words) {
         Some(asked) => follow(rt, alloc, asked, files, pool, corpus, out),
@@ -115,6 +117,7 @@ fn follow<R: Threads + Sync, F: Files, S: Source, O: Sink, P: Pool>(
         (source_between S.left S.faults corpus.old corpus.new)
         (sink_between O.held O.flushed O.faults out.old out.new))) }
     ensures unread { ((name : List ℕ) → ¬ (asked_told asked.entry ≡ to_run name)) → IsUnread (source_between S.left S.faults corpus.old corpus.new) }
+    ensures means { P.means pool.new ≡ P.means pool.old }
 {
     let Asked { order, workers } = asked;
     match order {
@@ -146,6 +149,7 @@ fn run_file<R: Threads + Sync, F: Files, S: Source, O: Sink, P: Pool>(
         (pool_between P.means P.told pool.old pool.new)
         (source_between S.left S.faults corpus.old corpus.new)
         (sink_between O.held O.flushed O.faults out.old out.new)) }
+    ensures means { P.means pool.new ≡ P.means pool.old }
 {
     match read_file(alloc, files, name, MOST_READ)? {
         Some(bytes) => run_text(rt, alloc, workers, &bytes, pool, corpus, out),
@@ -172,6 +176,7 @@ fn run_text<R: Threads + Sync, S: Source, O: Sink, P: Pool>(
         (pool_between P.means P.told pool.old pool.new)
         (source_between S.left S.faults corpus.old corpus.new)
         (sink_between O.held O.flushed O.faults out.old out.new)) }
+    ensures means { P.means pool.new ≡ P.means pool.old }
 {
     match compile(alloc, bytes) {
         Ok(program) => {

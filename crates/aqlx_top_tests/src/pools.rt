@@ -27,7 +27,10 @@ fn a_document_is_handed_over_with_the_plan_that_is_shown(rt: HostRuntime) -> Res
     assert_eq!(rt; recorder.list().len(), 1);
     for handed in recorder.list() {
         assert_eq!(rt; handed.plan.as_bytes(), shown.out.bytes());
-        assert_eq!(rt; handed.text.as_str(), "Call John Smith at 555-0134 or Ann Lee, 555-0199.");
+        assert_eq!(rt;
+            handed.text.as_str(),
+            "Call John Smith at 555-0134 or Ann Lee, 555-0199."
+        );
         assert_eq!(rt; handed.line.as_slice(), ran.out.bytes());
         assert_eq!(rt; handed.sizes.as_slice(), [2, 2].as_slice());
     }
@@ -69,8 +72,14 @@ fn each_document_of_a_corpus_is_handed_over_once(rt: HostRuntime) -> Result<(), 
 fn rows_that_a_pool_does_not_answer_are_not_written(rt: HostRuntime) -> Result<(), Fail> {
     let alloc = rt.alloc();
     let rows: [(&[&str], &str); 3] = [
-        (&["run", "p.aql"], "{\"label\":\"a\",\"views\":{\"P\":[]}}\n"),
-        (&["run", "p.aql", "--workers", "2"], "{\"label\":\"a\",\"views\":{\"P\":[]}}\n"),
+        (
+            &["run", "p.aql"],
+            "{\"label\":\"a\",\"views\":{\"P\":[]}}\n",
+        ),
+        (
+            &["run", "p.aql", "--workers", "2"],
+            "{\"label\":\"a\",\"views\":{\"P\":[]}}\n",
+        ),
         (&["demo", "2"], NO_ROWS_OF_2),
     ];
     for (words, out) in &rows {
