@@ -4,6 +4,8 @@
 #![tactic(auto)]
 
 #[cfg(test)]
+mod counter;
+#[cfg(test)]
 mod devices;
 #[cfg(test)]
 mod documents;
