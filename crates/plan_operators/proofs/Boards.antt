@@ -1,5 +1,5 @@
 -- The rows of nodes, made of those of their inputs.
-use Rattle.std.proofs.Common.{◌≡◌, ◌∙◌, ◌<◌, ◌≤◌, ◌+◌, ◌^◌, ◌++◌, ◌∷◌, ℕ, List, [], Option, Some, None, length, refl, sym, ap, ap₂, subst, arith, ⊎_elim, Bool}
+use Rattle.std.proofs.Common.{◌≡◌, ◌∙◌, ◌<◌, ◌≤◌, ◌+◌, ◌^◌, ◌++◌, ◌∷◌, ℕ, List, [], Option, Some, None, length, refl, sym, ap, subst, arith, ⊎_elim}
 use Rattle.std.specs.Prelude.{slice_index_or, IfSome, IfNone, IsSome, map, true, ◌⊎◌, Contains}
 use Rattle.std.proofs.Common.{inl, inr}
 use Rattle.std.proofs.lemmas.Bool.{cases_lt, true≢false}
@@ -12,14 +12,11 @@ use Rattle.aql_base.specs.CountLaws.{length-SameBag}
 use Rattle.aql_base.specs.BagLaws.{SameBag-is, SameBag-refl, SameBag-sym, SameBag-trans}
 use Rattle.span_token.specs.Documents.{Doc}
 use Rattle.row_values.specs.Datums.{IsOfDocument}
-use Rattle.row_values.specs.Rows.{RowList, RowsLieIn, product}
-use Rattle.row_values.specs.RowBags.{RowsLieIn-product}
-use Rattle.scalar_ops.specs.Expressions.{Term}
-use Rattle.aql_typed.specs.Meaning.{Rows, selected}
+use Rattle.row_values.specs.Rows.{RowList, RowsLieIn}
+use Rattle.aql_typed.specs.Meaning.{Rows}
 use Rattle.scalar_ops.specs.Tables.{Lists}
 use Rattle.std.specs.List.{All}
 use Rattle.algebra.specs.declared.node.Node.{Node}
-use Rattle.algebra.specs.declared.node.Node.TheVariants.{Cross, Select}
 use Rattle.algebra.specs.declared.shape.Shape.{Shape}
 use Rattle.algebra.specs.declared.output.PlanOut.{PlanOut}
 use Rattle.algebra.specs.FoldLaws.{length-each}
@@ -33,7 +30,7 @@ use Rattle.algebra.specs.OperatorLaws.{op-SameBag}
 use Rattle.algebra.specs.Operators.{op}
 use Rattle.algebra.specs.Shapes.{no_shape, shapes_of, shape_by}
 use Rattle.algebra.specs.Values.{all_values, val}
-use Rattle.plan_operators.specs.Boards.{IsOf, Holds, HasAsked, HasNeeded, IsBoard, IsEmptyInput, IsInput, IsOnBoard, IsRightInput, IsSpared, IsTaken, IsThere, input_on, no_rows, read_until, rows_found, rows_or_none}
+use Rattle.plan_operators.specs.Boards.{IsOf, Holds, HasAsked, HasNeeded, IsBoard, IsEmptyInput, IsInput, IsOnBoard, IsRightInput, IsSpared, IsTaken, IsThere, input_on, read_until, rows_found, rows_or_none}
 use Rattle.plan_operators.specs.Given.{MayRead}
 
 none_of : (xs : Rows) → length xs ≡ 0 → xs ≡ []
@@ -228,28 +225,31 @@ module _ (lists : Lists) (doc : Doc) (nodes : List Node) where
         ⊎_elim (λ (is : IsInput lists doc nodes (right_input node) right). node_is n node at left right l is out same wide lies)
         (λ (spared : IsSpared lists doc nodes node right). is_of n node at left right l right_wide out (spared_same n node at left right l spared.conditional spared.none) same wide lies) r
 
-  -- a selection on a product has those of the pairs of the product's sides on which its conditions hold
-  pub narrowed_is : (n : ℕ) (p s : Node) (l r i : ℕ) (c : Bool) (conds : List Term) → p ≡ Cross l r c → s ≡ Select i conds → left_input s ≡ Some n → IsAt nodes n p → IsAt nodes (n + 1) s
+  -- the rows that one node gives of those that another one gives of its inputs' rows
+  pub passed_is : (n : ℕ) (p s : Node) → left_input s ≡ Some n → right_input s ≡ None → IsAt nodes n p → IsAt nodes (n + 1) s
       → (left right : RowList) → IsInput lists doc nodes (left_input p) left → IsInput lists doc nodes (right_input p) right
-      → (out : RowList) → out.rows ≡ selected lists doc conds (product left.rows right.rows) → out.width ≡ left.width + right.width → RowsLieIn doc out.rows → IsOf lists doc nodes (n + 1) out
-  narrowed_is n p s l r i c conds p_is s_is from_it at_p at_s left right lin rin out rows width lies =
-      let pairs : RowList = record { width = left.width + right.width; rows = product left.rows right.rows } in
-      let a = of_input no_shape (shapes_of nodes) (left_input p) in
-      let b = of_input no_shape (shapes_of nodes) (right_input p) in
-      let is : IsOf lists doc nodes n pairs =
-      node_is n p at_p left right lin rin pairs
-      (subst (λ (x : Node). SameBag (product left.rows right.rows) (op lists doc x left.rows right.rows)) (sym p_is) (SameBag-refl (product left.rows right.rows)))
-      (subst (λ (x : Node). left.width + right.width ≡ (shape_by x a b).width) (sym p_is) (ap₂ (λ (v w : ℕ). v + w) lin.wide rin.wide))
-      (RowsLieIn-product doc left.rows right.rows lin.lies rin.lies) in
-      let in_pairs : IsInput lists doc nodes (Some n) pairs = record { same = is.same; wide = is.wide; lies = is.lies } in
-      let none : IsInput lists doc nodes (right_input s) no_rows =
-      subst (λ (x : Node). IsInput lists doc nodes (right_input x) no_rows) (sym s_is) (record { same = SameBag-refl []; wide = refl; lies = All-nil (All (IsOfDocument doc)) }) in
-      let w = of_input no_shape (shapes_of nodes) (left_input s) in
-      let wide_pairs : pairs.width ≡ w.width = subst (λ (o : Option ℕ). pairs.width ≡ (of_input no_shape (shapes_of nodes) o).width) (sym from_it) in_pairs.wide in
-      node_is (n + 1) s at_s pairs no_rows (subst (λ (o : Option ℕ). IsInput lists doc nodes o pairs) (sym from_it) in_pairs) none out
-      (subst (λ (x : Node). SameBag out.rows (op lists doc x pairs.rows [])) (sym s_is) (SameBag-is out.rows (selected lists doc conds (product left.rows right.rows)) rows))
-      (subst (λ (x : Node). out.width ≡ (shape_by x w (of_input no_shape (shapes_of nodes) (right_input s))).width) (sym s_is) (width ∙ wide_pairs))
-      lies
+      → (out : RowList) → out.rows ≡ op lists doc s (op lists doc p left.rows right.rows) []
+      → out.width ≡ (shape_by s (shape_by p (of_input no_shape (shapes_of nodes) (left_input p)) (of_input no_shape (shapes_of nodes) (right_input p))) no_shape).width
+      → RowsLieIn doc out.rows → IsOf lists doc nodes (n + 1) out
+  passed_is n p s from_it alone at_p at_s left right lin rin out rows width lies =
+      let worth : Option ℕ → Rows = of_input [] (all_values lists doc nodes) in
+      let shape : Option ℕ → Shape = of_input no_shape (shapes_of nodes) in
+      let given : Rows = op lists doc p left.rows right.rows in
+      let is_given : SameBag given (val lists doc nodes n) =
+      SameBag-trans given (op lists doc p (worth (left_input p)) (worth (right_input p))) (val lists doc nodes n)
+      (op-SameBag lists doc p left.rows (worth (left_input p)) right.rows (worth (right_input p)) lin.same rin.same)
+      (SameBag-sym (val lists doc nodes n) (op lists doc p (worth (left_input p)) (worth (right_input p))) (at_p.stands.has.same lists doc)) in
+      let on_left : SameBag given (worth (left_input s)) = subst (λ (o : Option ℕ). SameBag given (worth o)) (sym from_it) is_given in
+      let on_right : SameBag [] (worth (right_input s)) = subst (λ (o : Option ℕ). SameBag [] (worth o)) (sym alone) (SameBag-refl []) in
+      let meant : Rows = op lists doc s (worth (left_input s)) (worth (right_input s)) in
+      record {
+        same = SameBag-trans out.rows (op lists doc s given []) (val lists doc nodes (n + 1)) (SameBag-is out.rows (op lists doc s given []) rows)
+            (SameBag-trans (op lists doc s given []) meant (val lists doc nodes (n + 1)) (op-SameBag lists doc s given (worth (left_input s)) [] (worth (right_input s)) on_left on_right)
+            (SameBag-sym (val lists doc nodes (n + 1)) meant (at_s.stands.has.same lists doc)));
+        wide = width ∙ (ap (λ (t : Shape). (shape_by s t no_shape).width) (sym at_p.stands.has.shaped ∙ ap shape (sym from_it))
+            ∙ (ap (λ (o : Option ℕ). (shape_by s (shape (left_input s)) (shape o)).width) (sym alone) ∙ sym (ap (λ (t : Shape). t.width) at_s.stands.has.shaped)));
+        lies = lies;
+      }
 
 -- the nodes of outputs are there
 pub outputs-there : (nodes : List Node) (outs : List PlanOut) → AreOutputs nodes outs → All (λ (out : PlanOut). out.node < length nodes) outs

@@ -5,7 +5,7 @@ use Rattle.span_token.specs.Documents.{Doc}
 use Rattle.row_values.specs.Rows.{RowList, RowsLieIn}
 use Rattle.scalar_ops.specs.Tables.{Lists}
 use Rattle.algebra.specs.declared.node.Node.{Node}
-use Rattle.algebra.specs.declared.node.Node.TheVariants.{Cross, Select}
+use Rattle.algebra.specs.declared.node.Node.TheVariants.{Cross, DictPart, Project, Regex, Select, TokenRegex}
 use Rattle.algebra.specs.Folds.{of_input}
 use Rattle.algebra.specs.Inputs.{left_input, right_input, is_conditional, IsAmong}
 use Rattle.algebra.specs.Needed.{IsNeeded}
@@ -128,20 +128,28 @@ pub record HasAsked (board : List (Option RowList)) (node : Node) : Type 0 where
   pub left : IsThere board (left_input node)
   pub right : IsThere board (right_input node) ⊎ ((is_conditional node ≡ true) × IsEmptyInput board (left_input node))
 
--- a product; a selection
-abbrev pub is_product : Node → Bool
-is_product (Cross left right conditional) = true
-is_product node = false
-
+-- a selection; a projection
 abbrev pub is_selection : Node → Bool
 is_selection (Select input conds) = true
 is_selection node = false
 
--- node n is a product that somebody reads, nobody behind the next node, which is a selection from it
-pub record IsNarrowed (nodes : List Node) (n : ℕ) (untils : List ℕ) : Type 0 where
+abbrev pub is_projection : Node → Bool
+is_projection (Project input items) = true
+is_projection node = false
+
+-- a node passes its rows on, row by row, to one that reads it alone: a product to a selection, and what is found by a pattern
+-- or is a part of what dictionaries find to a projection
+abbrev pub does_pass : Node → Node → Bool
+does_pass (Cross left right conditional) next = is_selection next
+does_pass (Regex input column pattern groups) next = is_projection next
+does_pass (TokenRegex input column low high pattern groups) next = is_projection next
+does_pass (DictPart input place) next = is_projection next
+does_pass node next = false
+
+-- node n passes its rows on to the next node, which reads it, and nobody behind that one does
+pub record IsPassedOn (nodes : List Node) (n : ℕ) (untils : List ℕ) : Type 0 where
   pub there : n + 1 < length nodes
   pub read : 0 < read_until untils n
   pub until : read_until untils n ≤ n + 2
-  pub product : (node : Node) → node ≡ slice_index_or nodes n node → IsTrue (is_product node)
-  pub selection : (node : Node) → node ≡ slice_index_or nodes (n + 1) node → IsTrue (is_selection node)
-  pub from_it : (node : Node) → node ≡ slice_index_or nodes (n + 1) node → left_input node ≡ Some n
+  pub passes : (node next : Node) → node ≡ slice_index_or nodes n node → next ≡ slice_index_or nodes (n + 1) next → IsTrue (does_pass node next)
+  pub from_it : (next : Node) → next ≡ slice_index_or nodes (n + 1) next → left_input next ≡ Some n

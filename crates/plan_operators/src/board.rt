@@ -2,13 +2,13 @@ ghost use Rattle.std.specs.Prelude.{◌≡◌, ◌↔◌, ℕ, ◌+◌, ◌<◌,
 ghost use Rattle.algebra.specs.declared.node.Node as declared_node;
 ghost use Rattle.algebra.specs.Inputs.{left_input, right_input, IsAmong};
 ghost use Rattle.plan_operators.specs.Given.{input_rows};
-ghost use Rattle.plan_operators.specs.Boards.{IsOf, Holds, IsBoard, HasAsked, HasNeeded, IsClosedFrom, IsEmptyInput, IsEmptyOn, IsNarrowed, IsOnBoard, IsTaken, IsThere, is_product, is_selection, read_until, input_on, rows_found};
+ghost use Rattle.plan_operators.specs.Boards.{IsOf, Holds, IsBoard, HasAsked, HasNeeded, IsClosedFrom, IsEmptyInput, IsEmptyOn, IsOnBoard, IsTaken, IsThere, does_pass, read_until, input_on, rows_found};
 ghost use Rattle.plan_operators.specs.Guards.{AreAsked, IsIdle, IsLeftOut};
 
 use crate::guards::Asked;
-use crate::select::selected_pairs;
+use crate::passing::{apply_to_passed, is_passed_on};
 use crate::{Input, Schedule, apply};
-use algebra::{Node, Nodes, PlanOut};
+use algebra::{Nodes, PlanOut};
 use row_values::Rows;
 use scalar_ops::Tools;
 use span_token::{Document, OutOfMemory};
@@ -78,8 +78,8 @@ fn board_of<'d>(
     Ok(board)
 }
 
-/// Puts the rows of the next node on the board, and those of the node behind it, where the next one is a
-/// product that the other alone reads, a selection: no list of all pairs is kept then.
+/// Puts the rows of the next node on the board, or those of the node behind it, where the next one passes its
+/// rows on to that one: no list of them is made then.
 fn push_next<'d>(
     alloc: Global,
     tools: &mut Tools<'_>,
@@ -106,8 +106,8 @@ fn push_next<'d>(
     let _node = nodes.get(n);
     if is_idle(asked[n as usize], untils, board.as_slice()) {
         board.push(None)?;
-    } else if is_narrowed(nodes, n, untils) && has_both(nodes, n, board.as_slice()) {
-        let rows = rows_of_narrowed(alloc, tools, doc, nodes, n, board.as_slice())?;
+    } else if is_passed_on(nodes, n, untils) && has_both(nodes, n, board.as_slice()) {
+        let rows = rows_of_next(alloc, tools, doc, nodes, n, board.as_slice())?;
         board.push(None)?;
         board.push(Some(rows))?;
     } else {
@@ -198,24 +198,8 @@ fn has_asked(nodes: &Nodes, n: u32, board: &[Option<Rows<'_>>]) -> bool
         && (is_there(board, right) || node.is_conditional() && is_empty_input(board, left))
 }
 
-/// Whether node `n` is a product that somebody reads, the node behind it alone, and that one is a selection.
-fn is_narrowed(nodes: &Nodes, n: u32, untils: &[u64]) -> bool
-    requires there { n < length nodes.now }
-    requires long { length untils.now ≡ length nodes.now }
-    ensures { IsTrue result → IsNarrowed nodes.now n untils.now }
-{
-    let until = untils[n as usize];
-    if until == 0 || until > u64::from(n) + 2 || u64::from(n) + 1 >= u64::from(nodes.len()) {
-        return false;
-    }
-    match (nodes.get(n), nodes.get(n + 1)) {
-        (Node::Cross { .. }, Node::Select { input, .. }) => *input == n,
-        _ => false,
-    }
-}
-
-/// The rows of a selection on a product, of the product's sides.
-fn rows_of_narrowed<'d>(
+/// The rows of the node behind node `n`, which passes its rows on to it, of the rows of that one's inputs.
+fn rows_of_next<'d>(
     alloc: Global,
     tools: &mut Tools<'_>,
     doc: &Document<'d>,
@@ -225,37 +209,29 @@ fn rows_of_narrowed<'d>(
 ) -> Result<Rows<'d>, OutOfMemory>
     requires there { n + 1 < length nodes.now }
     requires before { length board.now ≡ n }
-    requires product { (node : declared_node.Node) → node ≡ slice_index_or nodes.now n node → IsTrue (is_product node) }
-    requires selection { (node : declared_node.Node) → node ≡ slice_index_or nodes.now (n + 1) node → IsTrue (is_selection node) }
-    requires from_it { (node : declared_node.Node) → node ≡ slice_index_or nodes.now (n + 1) node → left_input node ≡ Some n }
+    requires passes { (node next : declared_node.Node) → node ≡ slice_index_or nodes.now n node → next ≡ slice_index_or nodes.now (n + 1) next → IsTrue (does_pass node next) }
+    requires from_it { (next : declared_node.Node) → next ≡ slice_index_or nodes.now (n + 1) next → left_input next ≡ Some n }
     requires left { (node : declared_node.Node) → node ≡ slice_index_or nodes.now n node → IsOnBoard tools.old doc.now nodes.now board.now (left_input node) }
     requires right { (node : declared_node.Node) → node ≡ slice_index_or nodes.now n node → IsOnBoard tools.old doc.now nodes.now board.now (right_input node) }
     ensures rows { IfOk result (IsOf tools.old doc.now nodes.now (n + 1)) }
     ensures same { tools.new ≡ tools.old }
 {
     let _number = nodes.len();
-    let product = nodes.get(n);
-    let selection = nodes.get(n + 1);
-    let (left, right) = product.inputs();
+    let node = nodes.get(n);
+    let next = nodes.get(n + 1);
+    let (left, right) = node.inputs();
     let left_rows = lent(alloc, nodes, board, left);
     let right_rows = lent(alloc, nodes, board, right);
-    match product {
-        Node::Cross { .. } => match selection {
-            Node::Select { conds, .. } => {
-                let rows = selected_pairs(
-                    alloc,
-                    tools,
-                    doc,
-                    left_rows.rows(),
-                    right_rows.rows(),
-                    conds,
-                )?;
-                Ok(rows)
-            }
-            _ => unreachable!(),
-        },
-        _ => unreachable!(),
-    }
+    let rows = apply_to_passed(
+        alloc,
+        tools,
+        doc,
+        node,
+        next,
+        left_rows.rows(),
+        right_rows.rows(),
+    )?;
+    Ok(rows)
 }
 
 /// The rows of a node, where the board has what it asks for, and somebody reads it; the board gives up those of

@@ -1,10 +1,15 @@
-ghost use Rattle.std.specs.Prelude.{◌≡◌, ◌-◌, ◌≤◌, ◌++◌, ◌∷◌, [], IfOk, OnOk, length};
+ghost use Rattle.std.specs.Prelude.{◌≡◌, ◌-◌, ◌≤◌, ◌++◌, ◌∷◌, [], All, IfOk, OnOk, length, map};
 ghost use Rattle.span_token.specs.Documents.{Doc};
+ghost use Rattle.row_values.specs.Datums.{IsOfDocument};
 ghost use Rattle.row_values.specs.Rows.{RowsLieIn};
+ghost use Rattle.scalar_ops.specs.Views.{term_of};
+ghost use Rattle.aql_typed.specs.Meaning.{row_of};
 ghost use Rattle.algebra.specs.Operators.{unmarked, part_of};
 
+use row_operators::{columns_of_both, values_for};
 use row_values::{Row, Rows, Value};
-use span_token::OutOfMemory;
+use scalar_ops::{Expr, Exprs, Tools};
+use span_token::{Document, OutOfMemory};
 use std::alloc::Global;
 
 /// `DictPart`: the rows of a place, without it.
@@ -37,6 +42,56 @@ fn push_part<'d>(
 {
     if row.get(row.len() - 2) == Value::Int(i64::from(place)) {
         into.push(unmarked(alloc, row)?)?;
+    }
+    Ok(())
+}
+
+/// A projection of `DictPart`: the values of expressions for each row of a place, without it. No list of these
+/// rows is made.
+pub(crate) fn part_values<'d>(
+    alloc: Global,
+    tools: &mut Tools<'_>,
+    doc: &Document<'d>,
+    rows: &Rows<'d>,
+    place: u32,
+    items: &'d Exprs,
+) -> Result<Rows<'d>, OutOfMemory>
+    requires in_document { RowsLieIn doc.now rows.now.rows }
+    requires room { 2 ≤ rows.now.width }
+    ensures rows { IfOk result (λ out. out.rows ≡ map (row_of tools.old doc.now items.now) (part_of place rows.now.rows)) }
+    ensures width { IfOk result (λ out. out.width ≡ length items.now) }
+    ensures lies { IfOk result (λ out. RowsLieIn doc.now out.rows) }
+    ensures same { tools.new ≡ tools.old }
+{
+    let items = items.as_slice();
+    let _width = rows.width();
+    let mut out = Rows::new(alloc, columns_of_both(items.len(), 0)?);
+    for row in rows.as_slice() {
+        push_part_values(alloc, tools, doc, row, place, items, &mut out)?;
+    }
+    Ok(out)
+}
+
+/// Puts the values of expressions for the row without its place after the others, where that is the place.
+fn push_part_values<'d>(
+    alloc: Global,
+    tools: &mut Tools<'_>,
+    doc: &Document<'d>,
+    row: &Row<'d>,
+    place: u32,
+    items: &'d [Expr],
+    into: &mut Rows<'d>,
+) -> Result<(), OutOfMemory>
+    requires in_document { All (IsOfDocument doc.now) row.now }
+    requires room { 2 ≤ length row.now }
+    requires width { length items.now ≡ into.old.width }
+    ensures rows { OnOk result (into.new ≡ record { width = into.old.width; rows = into.old.rows ++ map (row_of tools.old doc.now (map term_of items.now)) (part_of place (row.now ∷ [])) }) }
+    ensures lies { RowsLieIn doc.now into.old.rows → OnOk result (RowsLieIn doc.now into.new.rows) }
+    ensures same { tools.new ≡ tools.old }
+{
+    if row.get(row.len() - 2) == Value::Int(i64::from(place)) {
+        let part = unmarked(alloc, row)?;
+        into.push(values_for(alloc, tools, doc, &part, items)?)?;
     }
     Ok(())
 }

@@ -18,6 +18,7 @@ mod minus;
 mod near;
 mod operator;
 mod order_limit;
+mod passing;
 mod readers;
 mod restricted;
 mod schedule;

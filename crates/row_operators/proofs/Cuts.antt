@@ -134,6 +134,12 @@ cut_lies doc lead n w found lies inside =
     (λ groups lie. All-append (IsOfDocument doc) lead (map group_value groups) lies (All-map (IsOfDocument doc) group_value groups lie))
     (cut_rows n w (extents_of found)) (values_lie doc n w (extents_of found) (All-map P (option_map extent_of) found inside)))
 
+-- so does one of them
+pub groups_lie : (doc : Doc) (lead : List Datum) (found : List (Option Span)) → All (IsOfDocument doc) lead → All (IsFoundIn doc) found → All (IsOfDocument doc) (lead ++ map group_value (extents_of found))
+groups_lie doc lead found lies inside =
+    All-append (IsOfDocument doc) lead (map group_value (extents_of found)) lies
+    (All-map (IsOfDocument doc) group_value (extents_of found) (All-map (λ (e : Option Extent). IsOfDocument doc (group_value e)) (option_map extent_of) found inside))
+
 -- what a search puts, cut into rows: one for each match
 pub rows_cut : (lists : Lists) (doc : Doc) (e : Extraction) (row : List Datum) (found : List (Option Span)) (number : ℕ)
     → PutsRows (found_in lists doc e row) [] (extents_of found) number → cut_rows number (found_width e) (extents_of found) ≡ found_in lists doc e row

@@ -19,7 +19,7 @@ mod width;
 
 pub use blocks::blocks_in;
 pub use document::document_rows;
-pub use found::push_found;
+pub use found::{push_found, push_found_values};
 pub use groups::grouped_in_order;
 pub use keep::{consolidated, cut, push_if, selected};
 pub use search::{Search, source_in};
