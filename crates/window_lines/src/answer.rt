@@ -200,7 +200,8 @@ fn append_answered<'d, P: Pool>(
     }
 }
 
-/// Puts the line of a document with these rows behind what is pending; `line` is room for it.
+/// Puts the line of a document with these rows behind what is pending; `line` is room for it, which isn't used
+/// where nothing is pending.
 pub(crate) fn append_line(
     alloc: Global,
     layout: &Layout<'_>,
@@ -213,11 +214,30 @@ pub(crate) fn append_line(
     requires in_document { All (RowsLieIn document.now) (map rows_of rows.now) }
     ensures bytes { OnOk result (pending.new.items ≡ pending.old.items ++ output_line document.now layout.now (map rows_of rows.now)) }
 {
-    line.clear();
-    let empty = mem::replace(line, Vec::new(alloc));
-    *line = append_document(alloc, empty, document, layout, rows)?;
-    pending.extend_from_slice(line)?;
+    if pending.is_empty() {
+        *pending = line_in(alloc, pending, document, layout, rows)?;
+    } else {
+        *line = line_in(alloc, line, document, layout, rows)?;
+        pending.extend_from_slice(line)?;
+    }
     Ok(())
+}
+
+/// The line of a document with these rows, in the room that is given.
+fn line_in(
+    alloc: Global,
+    room: &mut Vec<u8>,
+    document: &Document<'_>,
+    layout: &Layout<'_>,
+    rows: &[&Rows<'_>],
+) -> Result<Vec<u8>, OutOfMemory>
+    requires columns { map width_of rows.now ≡ map (λ output. length output.columns) layout.now }
+    requires in_document { All (RowsLieIn document.now) (map rows_of rows.now) }
+    ensures { IfOk result (λ line. line.items ≡ output_line document.now layout.now (map rows_of rows.now)) }
+{
+    room.clear();
+    let empty = mem::replace(room, Vec::new(alloc));
+    append_document(alloc, empty, document, layout, rows)
 }
 
 /// Lists of rows, borrowed.
