@@ -1,15 +1,10 @@
 -- Characters found by what a document keeps beside its text.
-use Rattle.std.proofs.Common.{◌≡◌, ◌≤◌, ◌<◌, ◌+◌, ◌-◌, ◌*◌, ◌∙◌, ℕ, zero, suc, true, false, List, [], ◌∷◌, ◌++◌, length, take, drop, get_or, refl, sym, ap, arith, below_more, nat_le, IsAscii, slice_range}
-use Rattle.std.specs.List.{AllWithin}
-use Rattle.std.proofs.lemmas.Bool.Decides.{nat_tests}
-use Rattle.std.specs.List.Sorted.{IsNonDecreasingBy}
+use Rattle.std.proofs.Common.{◌≡◌, ◌≤◌, ◌<◌, ◌+◌, ◌-◌, ◌*◌, ◌∙◌, ℕ, suc, List, [], ◌∷◌, ◌++◌, length, take, drop, get_or, refl, sym, ap, arith, below_more, IsAscii, slice_range}
 use Rattle.std.proofs.Math.Seq.{take-add}
 use Rattle.std.proofs.lemmas.List.{length-take-le, get_or_append_left, get_or_push}
-use Rattle.std.proofs.lemmas.List.Sorted.{IsNonDecreasingBy-from_default}
 use Rattle.std.proofs.lemmas.Str.{IsAscii-take, IsCharBoundary-from_ascii}
 use Rattle.span_token.specs.Leads.{leads, IsPlace}
-use Rattle.span_token.specs.Places.{AreBlockCounts}
-use Rattle.span_token.proofs.LeadsLemmas.{leads-append, leads-take-le, leads_head, is_ascii_lead}
+use Rattle.span_token.proofs.LeadsLemmas.{leads-append, leads_head, is_ascii_lead}
 
 -- ASCII: each byte begins a character
 pub leads-ascii : (bs : List ℕ) → IsAscii bs → leads bs ≡ length bs
@@ -30,11 +25,6 @@ leads_from bs i j h =
     let gap : i + (j - i) ≡ j = omega arith in
     ap (λ n. leads (take n bs)) (sym gap) ∙ ap leads (take-add i (j - i) bs) ∙ leads-append (take i bs) (take (j - i) (drop i bs))
 
-pub counts_rise : (counts bs : List ℕ) → AreBlockCounts counts bs → IsNonDecreasingBy (λ x. x) counts
-counts_rise counts bs k =
-    IsNonDecreasingBy-from_default (λ x. x) counts 0
-    (λ i j h l. omega (arith, k.each i (omega arith), k.each j l, leads-take-le (64 * i) (64 * j) bs (omega arith)))
-
 -- the count of one more block
 pub counts_more : (counts bs : List ℕ) (block passed : ℕ) → length counts ≡ block + 1 → passed ≡ leads (take (64 * (block + 1)) bs)
     → ((k : ℕ) → k < block + 1 → get_or counts k 0 ≡ leads (take (64 * k) bs))
@@ -43,18 +33,3 @@ counts_more counts bs block passed long last below =
     below_more (λ k. get_or (counts ++ passed ∷ []) k 0 ≡ leads (take (64 * k) bs)) (block + 1)
     (λ k h. get_or_append_left counts (passed ∷ []) 0 k (omega arith) ∙ below k h)
     (get_or_push counts passed 0 (block + 1) long ∙ last)
-
-not_past : (n place : ℕ) → n ≡ 0 → nat_le n place ≡ false → ⊥
-not_past n place e h = grind (arith, nat_tests)
-
--- the first block is before every character
-pub some_block : (counts bs : List ℕ) (place r : ℕ) → AreBlockCounts counts bs → AllWithin (λ n. nat_le n place ≡ false) counts r (length counts) → 1 ≤ r
-some_block counts bs place zero k past =
-    let some : 0 < length counts = omega (arith, k.number) in
-    let none : nat_le (get_or counts 0 0) place ≡ false = past 0 0 (omega arith) some in
-    let first : get_or counts 0 0 ≡ 0 = k.each 0 some in
-    absurd (not_past (get_or counts 0 0) place first none)
-some_block counts bs place (suc r) k past = omega arith
-
-pub not_ahead : (n place : ℕ) → nat_le n place ≡ true → n ≤ place
-not_ahead n place h = grind (arith, nat_tests)

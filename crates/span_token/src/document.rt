@@ -137,7 +137,7 @@ impl<'d> Document<'d> {
         ensures whole { extent_of span ≡ whole_of self.now → result.now ≡ self.now.text }
     {
         let begin = self.byte_of(span.begin);
-        let end = self.byte_of(span.end);
+        let end = self.byte_behind(begin, span.begin, span.end);
         &self.text[begin..end]
     }
 
@@ -170,8 +170,9 @@ impl<'d> Document<'d> {
         ensures in_document { LiesIn (extent_of result) self.now }
     {
         let first = self.byte_of(source.begin);
-        let begin = self.leads_before(first + from);
-        let end = self.leads_before(first + to);
+        let at = first + from;
+        let begin = self.leads_before(at);
+        let end = self.leads_behind(at, begin, first + to);
         Span { begin, end }
     }
 
@@ -251,6 +252,27 @@ impl<'d> Document<'d> {
         ensures short { length self.now.text ≤ text_limit }
     {
         self.places.byte_after(self.text, from, passed, place)
+    }
+
+    /// The same, where the byte of an earlier character is known.
+    fn byte_behind(&self, from: usize, passed: u32, place: u32) -> usize
+        requires from { IsPlace self.now.text passed from }
+        requires ahead { passed ≤ place }
+        requires exists { place ≤ len_of self.now }
+        ensures place { IsPlace self.now.text place result }
+    {
+        self.places.byte_behind(self.text, from, passed, place)
+    }
+
+    /// How many characters begin before byte `byte`, where `passed` of them begin before an earlier byte.
+    fn leads_behind(&self, from: usize, passed: u32, byte: usize) -> u32
+        requires ordered { from ≤ byte }
+        requires within { byte ≤ length self.now.text }
+        requires passed { passed ≡ leads (take from self.now.text) }
+        ensures leads { result ≡ leads (take byte self.now.text) }
+    {
+        self.places
+            .leads_behind(self.text, from, passed as usize, byte) as u32
     }
 
     /// How many characters begin before byte `byte`.
