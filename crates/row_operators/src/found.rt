@@ -108,6 +108,7 @@ fn push_cut_values<'d>(
     ensures lies { RowsLieIn doc.now into.old.rows → OnOk result (RowsLieIn doc.now into.new.rows) }
     ensures same { tools.new ≡ tools.old }
 {
+    into.reserve(number)?;
     let mut rest = found;
     let mut left = number;
     'cuts: while left > 0 {
@@ -154,6 +155,7 @@ fn push_cut<'d>(
     requires whole { length found.now ≡ number * width }
     ensures { OnOk result (into.new ≡ record { width = into.old.width; rows = into.old.rows ++ map (λ groups. lead.now ++ map group_value groups) (cut_rows number width (extents_of found.now)) }) }
 {
+    into.reserve(number)?;
     let mut rest = found;
     let mut left = number;
     'cuts: while left > 0 {

@@ -82,6 +82,14 @@ impl<'d> Rows<'d> {
         &self.rows[i as usize]
     }
 
+    /// Makes room for so many rows more, so that it isn't made row by row.
+    pub fn reserve(&mut self, more: usize) -> Result<(), OutOfMemory>
+        ensures { self.new ≡ self.old }
+    {
+        self.rows.reserve(more)?;
+        Ok(())
+    }
+
     /// Puts `row` after the others. After want of memory the list is as it was.
     pub fn push(&mut self, row: Row<'d>) -> Result<(), OutOfMemory>
         requires width { length row ≡ self.old.width }
