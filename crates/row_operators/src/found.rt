@@ -1,10 +1,12 @@
-ghost use Rattle.std.specs.Prelude.{◌≡◌, ◌+◌, ◌*◌, ◌∷◌, [], ◌++◌, IfOk, OnOk, map, length, All, option_map};
+ghost use Rattle.std.specs.Prelude.{◌≡◌, ◌+◌, ◌*◌, ◌∷◌, [], ◌++◌, true, false, IfOk, OnOk, map, length, All, option_map};
+ghost use Rattle.span_token.specs.Documents.{Doc};
 ghost use Rattle.span_token.specs.Extents.{extent_of};
 ghost use Rattle.row_values.specs.Datums.{IsOfDocument, datum_of};
-ghost use Rattle.row_values.specs.Rows.{RowsLieIn};
+ghost use Rattle.row_values.specs.Rows.{RowsLieIn, value_in};
 ghost use Rattle.aql_regex_extract.specs.Matches.{extents_of};
 ghost use Rattle.aql_regex_extract.specs.Steps.{cut_rows};
 ghost use Rattle.aql_typed.specs.Fitting.{found_width};
+ghost use Rattle.scalar_ops.specs.Tables.{Lists};
 ghost use Rattle.scalar_ops.specs.Views.{term_of};
 ghost use Rattle.aql_typed.specs.Meaning.{group_value, found_in, row_of};
 ghost use Rattle.row_operators.specs.Searches.{extraction_for, HasRuns, IsFoundIn};
@@ -137,9 +139,54 @@ fn push_values<'d>(
     ensures lies { RowsLieIn doc.now into.old.rows → OnOk result (RowsLieIn doc.now into.new.rows) }
     ensures same { tools.new ≡ tools.old }
 {
+    if push_columns(alloc, lead, groups, items, into)? {
+        return Ok(());
+    }
     let row = row_with(alloc, lead, groups)?;
     into.push(values_for(alloc, tools, doc, &row, items)?)?;
     Ok(())
+}
+
+/// Puts the values of expressions for the values of `lead`, followed by the spans of groups, after the others, where
+/// each expression is a column: the row that they are for isn't made then. False, and nothing is put, where one isn't.
+fn push_columns<'d>(
+    alloc: Global,
+    lead: &Row<'d>,
+    groups: &[Option<Span>],
+    items: &[Expr],
+    into: &mut Rows<'d>,
+) -> Result<bool, OutOfMemory>
+    requires width { length items.now ≡ into.old.width }
+    ensures put { (lists : Lists) (doc : Doc) → IfOk result (λ put. put ≡ true → into.new ≡ record { width = into.old.width; rows = into.old.rows ++ row_of lists doc (map term_of items.now) (lead.now ++ map group_value (extents_of groups.now)) ∷ [] }) }
+    ensures none { IfOk result (λ put. put ≡ false → into.new ≡ into.old) }
+    ensures lies { (doc : Doc) → All (IsOfDocument doc) lead.now → All (IsFoundIn doc) groups.now → RowsLieIn doc into.old.rows → OnOk result (RowsLieIn doc into.new.rows) }
+{
+    let mut row = Row::empty(alloc);
+    for item in items {
+        match item {
+            Expr::Column(n) => row.push(value_at(lead, groups, *n))?,
+            _ => return Ok(false),
+        }
+    }
+    into.push(row)?;
+    Ok(true)
+}
+
+/// The value in a column of the values of `lead`, followed by the spans of groups; Null where there is no such column.
+#[inline(always)]
+fn value_at<'d>(lead: &Row<'d>, groups: &[Option<Span>], column: u32) -> Value<'d>
+    ensures value { datum_of result ≡ value_in (lead.now ++ map group_value (extents_of groups.now)) column }
+    ensures lies { (doc : Doc) → All (IsOfDocument doc) lead.now → All (IsFoundIn doc) groups.now → IsOfDocument doc (datum_of result) }
+{
+    let values = lead.values();
+    let place = column as usize;
+    if place < values.len() {
+        values[place]
+    } else if place - values.len() < groups.len() {
+        value_of(groups[place - values.len()])
+    } else {
+        Value::Null
+    }
 }
 
 /// Puts so many rows after the others: each the values of `lead`, followed by the spans of so many groups.
