@@ -41,9 +41,9 @@ pub(crate) fn seek(text: &str, from: usize, passed: u32, place: u32) -> usize
     seek_near(text, at, passed, place)
 }
 
-/// The same, byte by byte.
+/// The same, byte by byte, for a character that isn't far.
 #[inline(always)]
-fn seek_near(text: &str, from: usize, passed: u32, place: u32) -> usize
+pub(crate) fn seek_near(text: &str, from: usize, passed: u32, place: u32) -> usize
     requires within { from ≤ length text.now }
     requires passed { leads (take from text.now) ≡ passed }
     requires ahead { passed ≤ place }

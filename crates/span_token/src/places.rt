@@ -4,7 +4,7 @@ ghost use Rattle.span_token.specs.Leads.{leads, IsPlace};
 ghost use Rattle.span_token.specs.Places.{AreBlockCounts, FitsText};
 
 use crate::OutOfMemory;
-use crate::leads::{count_leads, seek};
+use crate::leads::{count_leads, seek, seek_near};
 use std::alloc::Global;
 
 /// How many bytes a block has.
@@ -109,7 +109,7 @@ impl Places {
     {
         match self {
             Places::Ascii => place as usize,
-            Places::Blocks(_) => seek(text, from, passed, place),
+            Places::Blocks(_) => seek_near(text, from, passed, place),
         }
     }
 }
