@@ -284,7 +284,11 @@ fn rows_are_there_for_all_who_read_them(rt: HostRuntime) -> Result<(), Fail> {
     let got = evaluated(alloc, &plan, &[3, 4, 6, 7])?;
     assert_eq!(rt; got.as_str(), READ_OFTEN);
     let got = evaluated(alloc, &plan, &[1, 2])?;
-    assert_eq!(rt; got.as_str(), "1 -\n2 -\n", "rows are passed on, and given up");
+    assert_eq!(rt;
+        got.as_str(),
+        "1 -\n2 -\n",
+        "rows are passed on, and given up"
+    );
     Ok(())
 }
 
