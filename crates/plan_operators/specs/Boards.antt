@@ -137,8 +137,8 @@ abbrev pub is_projection : Node → Bool
 is_projection (Project input items) = true
 is_projection node = false
 
--- a node passes its rows on, row by row, to one that reads it alone: a product to a selection, and what is found by a pattern
--- or is a part of what dictionaries find to a projection
+-- a node of this kind may pass its rows on, row by row, to one of that kind: a product to a selection, and what is found by a
+-- pattern or is a part of what dictionaries find to a projection
 abbrev pub does_pass : Node → Node → Bool
 does_pass (Cross left right conditional) next = is_selection next
 does_pass (Regex input column pattern groups) next = is_projection next

@@ -20,8 +20,8 @@ use std::alloc::Global;
 /// that is evaluated reads it. What is only asked for by right sides of conditional joins with one left side is
 /// left out where that one stands before it, and has no row or was left out too: it isn't known before whether
 /// a later node has a row. Rows are given up to the last node that reads them, so that what only passes
-/// through isn't copied; what is given up and what is left out has no rows here. `tools` are made of the plan's
-/// tables.
+/// through isn't copied, but what a node reads that passes its rows on stays; what is given up, passed on or
+/// left out has no rows here. `tools` are made of the plan's tables.
 ///
 /// Meaning: `val`, `specs/Values.antt` of `algebra`.
 pub fn evaluate<'d>(

@@ -243,7 +243,7 @@ impl<'d> Document<'d> {
         self.places.byte_of(self.text, place)
     }
 
-    /// The same, sought from the byte of an earlier character on.
+    /// The same, sought from the byte of an earlier character on, which stands close before it, as tokens do.
     pub(crate) fn byte_after(&self, from: usize, passed: u32, place: u32) -> usize
         requires from { IsPlace self.now.text passed from }
         requires ahead { passed ≤ place }
@@ -254,7 +254,7 @@ impl<'d> Document<'d> {
         self.places.byte_after(self.text, from, passed, place)
     }
 
-    /// The same, where the byte of an earlier character is known.
+    /// The same, where the byte of an earlier character is known, which may be near or far, as ends of spans are.
     fn byte_behind(&self, from: usize, passed: u32, place: u32) -> usize
         requires from { IsPlace self.now.text passed from }
         requires ahead { passed ≤ place }

@@ -79,7 +79,8 @@ impl Places {
         }
     }
 
-    /// The byte at which character `place` begins, or the text ends, where the byte of an earlier character is known.
+    /// The byte at which character `place` begins, or the text ends, where the byte of an earlier character is known,
+    /// which may be near or far, as ends of spans are.
     pub(crate) fn byte_behind(&self, text: &str, from: usize, passed: u32, place: u32) -> usize
         requires fits { FitsText self.now text.now }
         requires from { IsPlace text.now passed from }
@@ -99,7 +100,7 @@ impl Places {
         }
     }
 
-    /// The same, sought from the byte of an earlier character on.
+    /// The same, sought from the byte of an earlier character on, which stands close before it, as tokens do.
     pub(crate) fn byte_after(&self, text: &str, from: usize, passed: u32, place: u32) -> usize
         requires fits { FitsText self.now text.now }
         requires from { IsPlace text.now passed from }
