@@ -8,3 +8,6 @@ pub mod Chains
 pub mod Products
 pub mod TokenRunLemmas
 pub mod CutLemmas
+pub mod BytesLemmas
+pub mod AdmittedLemmas
+pub mod WholeMatchers

@@ -27,6 +27,12 @@ pub tree_of-Reads : (text : List ℕ) (hir : Hir) (names : Names) → Reads defa
 unfolding Reads tree_of
 tree_of-Reads text hir names h = found_tree hir names (read default_config (chars text)) h
 
+-- the tree that was read finds what the text stands for
+pub Finds-Reads : (text : List ℕ) (hir : Hir) (names : Names) → Reads default_config text hir names → Finds (meaning hir) text
+Finds-Reads text hir names h =
+    let tree = tree_of-Reads text hir names h in
+    subst (λ (o : Option Re). IsSomeAnd o (SameCaptures (meaning hir))) (sym tree.1) tree.2
+
 found_groups : (hir : Hir) (names : Names) (o : Option (Nested Re × Names)) →
     IsSomeAnd o (λ (re, got). (re.depth ≤ 250) × SameCaptures (meaning hir) re.value × (names ≡ got) × (group_count (meaning hir) ≤ length names)) →
     groups_within o ≡ length names - 1

@@ -10,6 +10,9 @@ pub mod Weight
 -- why a text is refused
 pub mod Faults
 -- ---- words of private clauses
+-- what is told by bytes
+pub mod ByteSets
+pub mod Bytes
 -- what contracts see of the compiled types
 pub mod Views
 -- what is searched, and one step of a search

@@ -5,11 +5,15 @@
 //! tokens from each token on, each as the spans of the asked groups, and `has_match` and
 //! `matches_whole` say whether there is one; `Searcher` and `WholeSearcher` do the same over kept
 //! memory. Every meaning is a function of the pattern's text. Stands on `regex` for the expressions and
-//! on `span_token` for documents and spans.
+//! on `span_token` for documents and spans; on `regex_syntax`, `regex_hir`, `regex_class` and
+//! `regex_extract` for the bytes of which a pattern's matches are made.
 #![tactic(auto)]
 
+mod admitted;
+mod byte_set;
 mod cut;
 mod find;
+mod marks;
 mod pattern;
 mod rows;
 mod runs;
@@ -18,6 +22,7 @@ mod searcher;
 mod sought;
 mod weight;
 mod whole;
+mod whole_matcher;
 
 pub use find::{find_all, find_token_runs, has_match, matches_whole};
 pub use pattern::{Pattern, PatternFault, compile_pattern};

@@ -6,6 +6,7 @@ ghost use Rattle.aql_regex_extract.specs.Patterns.{tree_of, group_count_of, whol
 ghost use Rattle.aql_regex_extract.specs.Weight.{IsLarge};
 ghost use Rattle.aql_regex_extract.specs.Faults.{IsPattern, HasCause, IsUnread};
 
+use crate::admitted::Admitted;
 use crate::weight::weigh;
 use regex::{Error, Regex, RegexBuilder};
 use span_token::{Failure, OutOfMemory};
@@ -23,6 +24,7 @@ const MOST_GROWTH: u64 = 50_000;
 pub struct Pattern {
     pub(crate) plain: Regex,
     pub(crate) whole: Regex,
+    pub(crate) admitted: Admitted,
     groups: u32,
 }
 
@@ -98,9 +100,11 @@ fn compile(alloc: Global, text: &str) -> Result<Pattern, Failure<PatternFault>>
     let groups = groups_of(&plain, text)?;
     let form = whole_text_form(alloc, text)?;
     let whole = build(alloc, form.as_str())?;
+    let admitted = Admitted::of_form(alloc, form.as_str());
     Ok(Pattern {
         plain,
         whole,
+        admitted,
         groups,
     })
 }

@@ -1,24 +1,22 @@
 ghost use Rattle.std.specs.Prelude.{◌≡◌, ◌++◌, ◌+◌, ◌≤◌, ◌<◌, ℕ, List, length, cond, IfOk, OnOk, All};
 ghost use Rattle.std.specs.List.{filter_map, flat_map, range_with_len};
-ghost use Rattle.regex.specs.Strings.{matcher_pattern};
 ghost use Rattle.span_token.specs.Documents.{text_in};
 ghost use Rattle.span_token.specs.Extents.{Extent};
 ghost use Rattle.span_token.specs.Relations.{ContainsExtent};
 ghost use Rattle.span_token.specs.SourceTokens.{HoldsTokens, run_extent};
 ghost use Rattle.aql_regex_extract.specs.Matches.{extents_of, IsInside};
-ghost use Rattle.aql_regex_extract.specs.Patterns.{whole_form};
 ghost use Rattle.aql_regex_extract.specs.Steps.{PutsRow};
 ghost use Rattle.aql_regex_extract.specs.TokenRuns.{whole_row, run_row};
-ghost use Rattle.aql_regex_extract.specs.Views.{Finds};
+ghost use Rattle.aql_regex_extract.specs.Views.{FindsWhole, IsSameWhole};
 
 use crate::search::push_from;
 use crate::sought::Sought;
-use regex::Matcher;
+use crate::whole_matcher::WholeMatcher;
 use span_token::{OutOfMemory, SourceTokens, Span};
 
 /// Puts the rows of all tokens after the others; gives their number.
 pub(crate) fn push_runs(
-    matcher: &mut Matcher<'_>,
+    whole: &mut WholeMatcher<'_>,
     tokens: &SourceTokens<'_, '_>,
     low: u32,
     high: u32,
@@ -26,20 +24,20 @@ pub(crate) fn push_runs(
     into: &mut Vec<Option<Span>>,
 ) -> Result<usize, OutOfMemory>
     requires at_least_one { 1 ≤ low }
-    ensures runs { (pattern : List ℕ) → Finds (matcher_pattern matcher.old) (whole_form pattern)
+    ensures runs { (pattern : List ℕ) → FindsWhole whole.old pattern
         → OnOk result (extents_of into.new.items ≡ extents_of into.old.items
         ++ flat_map (λ row. row) (filter_map (run_row pattern tokens.now.doc tokens.now.tokens low high groups.now)
         (range_with_len 0 (length tokens.now.tokens)))) }
-    ensures number { (pattern : List ℕ) → Finds (matcher_pattern matcher.old) (whole_form pattern)
+    ensures number { (pattern : List ℕ) → FindsWhole whole.old pattern
         → IfOk result (λ n. n ≡ length (filter_map (run_row pattern tokens.now.doc tokens.now.tokens low high groups.now)
         (range_with_len 0 (length tokens.now.tokens)))) }
     ensures within { (wide : Extent) → HoldsTokens wide tokens.now.tokens
         → All (IsInside wide) into.old.items → OnOk result (All (IsInside wide) into.new.items) }
-    ensures same { matcher_pattern matcher.new ≡ matcher_pattern matcher.old }
+    ensures same { IsSameWhole whole.old whole.new }
 {
     let mut number = 0;
     for first in 0..tokens.len() {
-        let put = push_run(matcher, tokens, first, low, high, groups, into)?;
+        let put = push_run(whole, tokens, first, low, high, groups, into)?;
         number = counted(number, put);
     }
     Ok(number)
@@ -56,7 +54,7 @@ fn counted(number: usize, is_more: bool) -> usize
 
 /// Puts the row of the longest run from one token on after the others, if there is one.
 fn push_run(
-    matcher: &mut Matcher<'_>,
+    whole: &mut WholeMatcher<'_>,
     tokens: &SourceTokens<'_, '_>,
     first: usize,
     low: u32,
@@ -66,19 +64,19 @@ fn push_run(
 ) -> Result<bool, OutOfMemory>
     requires there { first < length tokens.now.tokens }
     requires at_least_one { 1 ≤ low }
-    ensures run { (pattern : List ℕ) → Finds (matcher_pattern matcher.old) (whole_form pattern)
+    ensures run { (pattern : List ℕ) → FindsWhole whole.old pattern
         → IfOk result (PutsRow (run_row pattern tokens.now.doc tokens.now.tokens low high groups.now first)
         (extents_of into.old.items) (extents_of into.new.items)) }
     ensures within { (wide : Extent) → HoldsTokens wide tokens.now.tokens
         → All (IsInside wide) into.old.items → OnOk result (All (IsInside wide) into.new.items) }
-    ensures same { matcher_pattern matcher.new ≡ matcher_pattern matcher.old }
+    ensures same { IsSameWhole whole.old whole.new }
 {
     let least = low as usize;
     let mut count = (high as usize).min(tokens.len() - first);
     'lengths: while count >= least {
         let last = first + (count - 1);
         let text = tokens.run_text(first, last);
-        if push_row(matcher, tokens, first, last, text, groups, into)? {
+        if push_row(whole, tokens, first, last, text, groups, into)? {
             return Ok(true);
         }
         count -= 1;
@@ -89,7 +87,7 @@ fn push_run(
 /// Puts the row of the first match in the text of a run after the others, if there is one. The run's
 /// span is made only then.
 fn push_row(
-    matcher: &mut Matcher<'_>,
+    whole: &mut WholeMatcher<'_>,
     tokens: &SourceTokens<'_, '_>,
     first: usize,
     last: usize,
@@ -100,14 +98,14 @@ fn push_row(
     requires in_order { first ≤ last }
     requires there { last < length tokens.now.tokens }
     requires in_run { text.now ≡ text_in tokens.now.doc (run_extent tokens.now.tokens first last) }
-    ensures row { (pattern : List ℕ) → Finds (matcher_pattern matcher.old) (whole_form pattern)
+    ensures row { (pattern : List ℕ) → FindsWhole whole.old pattern
         → IfOk result (PutsRow (whole_row pattern tokens.now.doc groups.now (run_extent tokens.now.tokens first last))
         (extents_of into.old.items) (extents_of into.new.items)) }
     ensures within { (wide : Extent) → ContainsExtent wide (run_extent tokens.now.tokens first last)
         → All (IsInside wide) into.old.items → OnOk result (All (IsInside wide) into.new.items) }
-    ensures same { matcher_pattern matcher.new ≡ matcher_pattern matcher.old }
+    ensures same { IsSameWhole whole.old whole.new }
 {
-    if !matcher.is_match(text) {
+    if !whole.has_match(text) {
         return Ok(false);
     }
     let doc = tokens.doc();
@@ -117,7 +115,7 @@ fn push_row(
         source,
         groups,
     };
-    match push_from(matcher, &sought, text, 0, 0, into)? {
+    match push_from(&mut whole.matcher, &sought, text, 0, 0, into)? {
         Some(_) => Ok(true),
         None => Ok(false),
     }

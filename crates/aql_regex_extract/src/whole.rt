@@ -7,8 +7,7 @@ ghost use Rattle.aql_regex_extract.specs.TokenRuns.{AreRunRows, run_rows, flat_r
 
 use crate::pattern::Pattern;
 use crate::runs::push_runs;
-use crate::search::has_found;
-use regex::Matcher;
+use crate::whole_matcher::WholeMatcher;
 use span_token::{Document, OutOfMemory, SourceTokens, Span, TokenRoom};
 use std::alloc::Global;
 use std::marker::Model;
@@ -18,21 +17,19 @@ use std::marker::Model;
 #[derive(Drop)]
 pub struct WholeSearcher<'p> {
     pattern: &'p Pattern,
-    matcher: Matcher<'p>,
+    whole: WholeMatcher<'p>,
     room: TokenRoom,
 }
 
 impl<'p> Model for WholeSearcher<'p> {
     ghost use Rattle.std.specs.Prelude.{ℕ, List};
-    ghost use Rattle.regex.specs.Strings.{matcher_pattern};
-    ghost use Rattle.aql_regex_extract.specs.Patterns.{whole_form};
-    ghost use Rattle.aql_regex_extract.specs.Views.{Finds};
+    ghost use Rattle.aql_regex_extract.specs.Views.{FindsWhole};
 
     ghost Value = { List ℕ };
 
     ghost view = { λ s. s.pattern.now };
 
-    ghost invariant = { λ s. Finds (matcher_pattern s.matcher) (whole_form s.pattern.now) };
+    ghost invariant = { λ s. FindsWhole s.whole s.pattern.now };
 }
 
 impl<'p> WholeSearcher<'p> {
@@ -41,9 +38,10 @@ impl<'p> WholeSearcher<'p> {
         ensures { IfOk result (λ s. s ≡ pattern.now) }
     {
         let matcher = pattern.whole.matcher(alloc)?;
+        let admitted = &pattern.admitted;
         Ok(WholeSearcher {
             pattern,
-            matcher,
+            whole: WholeMatcher { matcher, admitted },
             room: TokenRoom::new(alloc),
         })
     }
@@ -79,7 +77,7 @@ impl<'p> WholeSearcher<'p> {
         ensures same { self.new ≡ self.old }
     {
         let tokens = SourceTokens::of(&mut self.room, doc, source)?;
-        let number = push_runs(&mut self.matcher, &tokens, low, high, groups, into)?;
+        let number = push_runs(&mut self.whole, &tokens, low, high, groups, into)?;
         Ok(number)
     }
 
@@ -112,6 +110,6 @@ impl<'p> WholeSearcher<'p> {
         ensures found { result ≡ has_match (whole_form self.old) text.now }
         ensures same { self.new ≡ self.old }
     {
-        has_found(&mut self.matcher, text)
+        self.whole.has_match(text)
     }
 }

@@ -194,6 +194,64 @@ fn the_predicates_ask_for_a_match_and_for_the_whole_text(rt: HostRuntime) -> Res
 }
 
 #[test]
+fn what_is_told_by_bytes_loses_no_match(rt: HostRuntime) -> Result<(), Fail> {
+    let alloc = rt.alloc();
+    for (pattern, text, matches) in [
+        ("(?:ab)?c", "c", true),
+        ("(?:ab)?c", "abc", true),
+        ("(?:ab)?c", "ab", false),
+        ("x*y*z", "yz", true),
+        ("(?:a?b?){2}c", "bac", true),
+        ("(?:a?b?){2}c", "bb b", false),
+        ("[a-z]+([._-][a-z0-9]+)+", "a.b-9", true),
+        ("[a-z]+([._-][a-z0-9]+)+", "a. b", false),
+        ("a|", "", true),
+        ("|a", "a", true),
+        ("(a||b*)c", "c", true),
+        ("(?:)", "", true),
+        ("(?:)", "a", false),
+        ("^$", "", true),
+        ("a*", "", true),
+        ("(?m)^a", "a", true),
+        (r"(?m)a$\n^b", "a\nb", true),
+        (r"\bab\b", "ab", true),
+        (r"\Bab", "ab", false),
+        (r"\b-?\b", "-", false),
+        ("(?i)ab", "aB", true),
+        ("(?i)k", "\u{212A}", true),
+        ("(?i)é+", "éÉ", true),
+        ("[^a]", "é", true),
+        ("[^a]", "a", false),
+        ("[à-ü]+", "öé", true),
+        ("[à-ü]+", "öe", false),
+        (r"\p{Lu}\w+", "Åsa", true),
+        (r"(?-u:\w)é", "aé", true),
+        (r"(?-u:\w)é", "éé", false),
+        (".", "\n", false),
+        ("(?s).", "\n", true),
+        (".+", "a 漢", true),
+        ("(?x) a  b", "ab", true),
+    ] {
+        let pattern = compile_pattern(alloc, pattern)?;
+        let found = matches_whole(alloc, &pattern, text)?;
+        assert_eq!(rt; found, matches, "{text:?}");
+    }
+    let runs: &[&[Place]] = &[&[Some((0, 4))], &[Some((2, 4))], &[Some((7, 10))]];
+    assert!(rt;
+        finds_runs(
+            alloc,
+            "(?:x )?[a-zö]+",
+            "x ab 7 ötz",
+            (0, 10),
+            (1, 3),
+            &[0],
+            runs
+        )?
+    );
+    Ok(())
+}
+
+#[test]
 fn what_is_not_read_is_bad_and_what_is_large_is_so_first(rt: HostRuntime) -> Result<(), Fail> {
     let alloc = rt.alloc();
     for pattern in ["(", "a)|(?:b", "(?x)a # c", r"\"] {

@@ -9,3 +9,4 @@ pub mod RowLemmas
 pub mod SplitLemmas
 pub mod StepLemmas
 pub mod AppendLemmas
+pub mod MostLemmas

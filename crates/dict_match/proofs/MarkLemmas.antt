@@ -1,6 +1,7 @@
 -- Marks of texts: a text has the mark of its folding, and a mark that is set stays set.
 use Rattle.std.proofs.Common.{◌≡◌, ◌∙◌, inl, inr, ℕ, zero, suc, ◌+◌, ◌-◌, ◌*◌, ◌%◌, ◌<◌, Bool, true, false, cond, nat_lt, List, [], ◌∷◌, length, map, get_or, Option, Some, None, IsAscii, refl, sym, ap, ap₂, arith}
 use Rattle.std.specs.Char.{to_ascii_lowercase}
+use Rattle.std.specs.List.{fold}
 use Rattle.std.specs.HashMap.{get_by_text}
 use Rattle.std.proofs.Math.ListN.{set}
 use Rattle.std.proofs.Math.Nat.{add-mod_right}
@@ -9,7 +10,7 @@ use Rattle.std.proofs.lemmas.List.{length-map, get_or-set_same, get_or-set_other
 use Rattle.std.proofs.lemmas.Nat.{mod_below}
 use Rattle.dict_match.specs.declared.trie.Trie.{Trie}
 use Rattle.dict_match.specs.Dictionaries.{folded}
-use Rattle.dict_match.specs.Marks.{mark_of}
+use Rattle.dict_match.specs.Marks.{mark_of, mark_behind}
 use Rattle.dict_match.specs.Tries.{IsNumbered}
 use Rattle.dict_match.proofs.FoldLemmas.{folded-ascii}
 
@@ -22,31 +23,26 @@ lower_by b false false = refl
 lower-mod : (b : ℕ) → to_ascii_lowercase b % 32 ≡ b % 32
 lower-mod b = lower_by b (nat_lt b 65) (nat_lt b 91)
 
-lower_at : (text : List ℕ) (i : ℕ) → get_or (map to_ascii_lowercase text) i 0 % 32 ≡ get_or text i 0 % 32
-lower_at [] i = refl
-lower_at (b ∷ bs) zero = lower-mod b
-lower_at (b ∷ bs) (suc i) = lower_at bs i
+mark_lower_from : (mark : ℕ) (text : List ℕ) → fold mark_behind mark (map to_ascii_lowercase text) ≡ fold mark_behind mark text
+mark_lower_from mark [] = refl
+mark_lower_from mark (b ∷ bs) =
+    ap (λ (m : ℕ). fold mark_behind m (map to_ascii_lowercase bs)) (ap (λ (k : ℕ). (33 * mark + k) % 65536) (lower-mod b))
+    ∙ mark_lower_from (mark_behind mark b) bs
 
 mark_lower : (text : List ℕ) → mark_of (map to_ascii_lowercase text) ≡ mark_of text
 unfolding mark_of
-mark_lower text =
-    let long = length-map text to_ascii_lowercase in
-    let last : get_or (map to_ascii_lowercase text) (length (map to_ascii_lowercase text) - 1) 0 % 32 ≡ get_or text (length text - 1) 0 % 32 =
-    ap (λ (n : ℕ). get_or (map to_ascii_lowercase text) (n - 1) 0 % 32) long ∙ lower_at text (length text - 1) in
-    ap₂ (λ (a b : ℕ). a + b) (ap₂ (λ (a b : ℕ). a + 32 * b) (lower_at text 0) last) (ap (λ (n : ℕ). 1024 * (n % 4)) long)
+mark_lower text = mark_lower_from 0 text
 
 pub mark-folded : (text : List ℕ) → IsAscii text → mark_of (folded text) ≡ mark_of text
 mark-folded text ascii = ap mark_of (folded-ascii text ascii) ∙ mark_lower text
 
-pub mark-below : (text : List ℕ) → mark_of text < 4096
-unfolding mark_of
-mark-below text =
-    omega (arith, mod_below (get_or text 0 0) 32 (omega arith), mod_below (get_or text (length text - 1) 0) 32 (omega arith), mod_below (length text) 4 (omega arith))
+mark_below_from : (mark : ℕ) (text : List ℕ) → mark < 65536 → fold mark_behind mark text < 65536
+mark_below_from mark [] below = below
+mark_below_from mark (b ∷ bs) below = mark_below_from (mark_behind mark b) bs (mod_below (33 * mark + b % 32) 65536 (omega arith))
 
-pub mark-empty : (text : List ℕ) → length text ≡ 0 → 0 ≡ mark_of text
+pub mark-below : (text : List ℕ) → mark_of text < 65536
 unfolding mark_of
-mark-empty [] none = refl
-mark-empty (b ∷ bs) none = absurd (omega (arith, none))
+mark-below text = mark_below_from 0 text (omega arith)
 
 -- a mark that is set stays set when one is set
 pub set-marked : (marks : List Bool) (i j : ℕ) → i < length marks → get_or marks j false ≡ true → get_or (set marks i true) j false ≡ true

@@ -273,7 +273,7 @@ none_longer n j low = let none = ap length (empty_there n) in omega arith
 none_there : (n : ℕ) (e : End) → Contains (get_or no_ends n []) e → ⊥
 none_there n e c = none_longer n c.0 c.1
 
-pub Reaches-nothing : (trie : Trie) → ((cs : List ℕ) → get_by_text trie.words cs ≡ None) → ((node word : ℕ) → edge_from trie node word ≡ None) → trie.ends.items ≡ [] ∷ [] → length trie.marks.items ≡ 4096
+pub Reaches-nothing : (trie : Trie) → ((cs : List ℕ) → get_by_text trie.words cs ≡ None) → ((node word : ℕ) → edge_from trie node word ≡ None) → trie.ends.items ≡ [] ∷ [] → length trie.marks.items ≡ 65536
     → Reaches trie [] 0 []
 Reaches-nothing trie word_none edge_none ends marks = record {
   paths = [] ∷ [];

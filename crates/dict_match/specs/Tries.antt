@@ -50,7 +50,7 @@ pub record IsNumbered (trie : Trie) : Type 0 where
   pub below : (text : List ℕ) (word : ℕ) → get_by_text trie.words text ≡ Some word → word < hash_map_len trie.words
   pub apart : (t u : List ℕ) (word : ℕ) → get_by_text trie.words t ≡ Some word → get_by_text trie.words u ≡ Some word → t ≡ u
   pub known : (node word next : ℕ) → edge_from trie node word ≡ Some next → word < hash_map_len trie.words
-  pub marks : length trie.marks.items ≡ 4096
+  pub marks : length trie.marks.items ≡ 65536
   pub marked : (text : List ℕ) (word : ℕ) → get_by_text trie.words text ≡ Some word → slice_index_or trie.marks.items (mark_of text) false ≡ true
 
 -- a token leads from one node to another where their paths say so

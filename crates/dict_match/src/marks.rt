@@ -1,22 +1,30 @@
 ghost use Rattle.std.specs.Prelude.{◌≡◌, ◌<◌};
-ghost use Rattle.dict_match.specs.Marks.{mark_of};
+ghost use Rattle.dict_match.specs.Marks.{mark_of, mark_behind};
 
 /// How many marks there are.
-pub(crate) const MARKS: usize = 4096;
+pub(crate) const MARKS: usize = 65_536;
 
-/// The number of a text's mark, below 4096: by its first byte, its last one and its length, so that the
-/// case of ASCII letters doesn't count.
+/// The number of a text's mark, below 65,536: by all its bytes, so that the case of ASCII letters doesn't count.
 #[inline(always)]
+#[tactic(auto, unfolding(crate::specs::Marks::mark_of))]
 pub(crate) fn mark_of(text: &str) -> usize
     ensures mark { result ≡ mark_of text.now }
-    ensures below { result < 4096 }
+    ensures below { result < 65536 }
 {
+    let mut mark = 0;
     let bytes = text.as_bytes();
-    let len = bytes.len();
-    if len == 0 {
-        return 0;
+    for byte in bytes {
+        mark = mark_behind(mark, *byte);
     }
-    let first = usize::from(bytes[0] % 32);
-    let last = usize::from(bytes[len - 1] % 32);
-    first + 32 * last + 1024 * (len % 4)
+    mark as usize
+}
+
+/// The mark of what was read and one more byte.
+#[inline(always)]
+fn mark_behind(mark: u32, byte: u8) -> u32
+    requires below { mark < 65536 }
+    ensures mark { result ≡ mark_behind mark byte }
+    ensures below { result < 65536 }
+{
+    (33 * mark + u32::from(byte % 32)) % 65_536
 }

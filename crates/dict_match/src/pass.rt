@@ -1,4 +1,4 @@
-ghost use Rattle.std.specs.Prelude.{◌≡◌, ◌<◌, ◌↔◌, ◌++◌, List, ℕ, [], length, replicate, slice_index_or, map, slice_get, Some, None, false, IfOk, OnOk, IsTrue, All};
+ghost use Rattle.std.specs.Prelude.{◌≡◌, ◌<◌, ◌≤◌, ◌↔◌, ◌++◌, List, ℕ, [], length, replicate, slice_index_or, map, slice_get, Some, None, false, IfOk, OnOk, IsTrue, All};
 ghost use Rattle.span_token.specs.Documents.{LiesIn};
 ghost use Rattle.span_token.specs.Extents.{Extent, extent_of};
 ghost use Rattle.span_token.specs.Relations.{ContainsExtent};
@@ -23,6 +23,8 @@ use std::marker::Model;
 pub struct DictPass {
     dicts: OwnedList<DictUse>,
     trie: Trie,
+    /// For each dictionary a number of tokens that none of its entries exceeds.
+    most: Vec<usize>,
 }
 
 impl Model for DictPass {
@@ -67,11 +69,13 @@ impl DictPass {
     {
         let mut trie = Trie::new(alloc)?;
         let mut buffer = String::new(alloc);
+        let mut most = Vec::new(alloc);
         for (place, dict) in dicts.iter().enumerate() {
-            trie.put_dict(alloc, place, dict, &mut buffer)?;
+            let tokens = trie.put_dict(alloc, place, dict, &mut buffer)?;
+            most.push(tokens)?;
         }
         let dicts = copied_dicts(alloc, dicts)?;
-        Ok(DictPass { dicts, trie })
+        Ok(DictPass { dicts, trie, most })
     }
 
     /// The matches wholly in `source`, as one list of spans for each dictionary of the pass, in their
@@ -126,6 +130,19 @@ impl DictPass {
         let tokens = SourceTokens::of(&mut scratch.room, doc, source)?;
         number_tokens(&self.trie, &tokens, &mut scratch.folded, &mut scratch.words)?;
         push_matches(&self.trie, &tokens, scratch.words.as_slice(), into)
+    }
+
+    /// A number of tokens that no match of the dictionary at place `dict` of the pass exceeds: that of its longest
+    /// entry. No clause says that it is the least one, nor what it is where the pass has no such dictionary (0).
+    #[tactic(auto, using(crate::proofs::MostLemmas::agree_most))]
+    pub fn most_tokens(&self, dict: usize) -> usize
+        ensures { (the : DictUse) (texts : List (List ℕ)) → slice_get self.now dict ≡ Some the → IsTrue (does_agree the texts)
+            → length texts ≤ result }
+    {
+        if dict >= self.most.len() {
+            return 0;
+        }
+        self.most[dict]
     }
 
     /// Whether the dictionary at place `dict` of the pass has a match wholly in `source`; false where the

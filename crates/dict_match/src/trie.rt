@@ -3,6 +3,7 @@ ghost use Rattle.std.specs.HashMap.{get_by_text};
 ghost use Rattle.std.specs.List.{Contains};
 ghost use Rattle.dict_match.specs.Dictionaries.{folded, texts_of, entry_texts};
 ghost use Rattle.dict_match.specs.declared.trie.End.{End};
+ghost use Rattle.dict_match.specs.Passes.{HaveAtMost};
 ghost use Rattle.dict_match.specs.Tries.{Reaches, IsTrie, put_entry, put_dict};
 
 use crate::dict_use::{DictUse, copied_texts};
@@ -51,7 +52,7 @@ impl Trie {
 
     /// The number of a folded token, a new one where it has none.
     fn number(&mut self, alloc: Global, text: &str) -> Result<usize, OutOfMemory>
-        requires marks { vec_len self.old.marks ≡ 4096 }
+        requires marks { vec_len self.old.marks ≡ 65536 }
         ensures number { IfOk result (λ word. get_by_text self.new.words text.now ≡ Some word) }
         ensures kept { (put : List (List (List ℕ) × End)) (node : ℕ) (path : List (List ℕ)) → Reaches self.old put node path
             → OnOk result (Reaches self.new put node path) }
@@ -113,7 +114,8 @@ impl Trie {
         Ok(node)
     }
 
-    /// Puts an entry of a dictionary in; one too long for a document is want of memory.
+    /// Puts an entry of a dictionary in, and gives the number of its tokens; one too long for a document is want
+    /// of memory.
     pub(crate) fn put_entry(
         &mut self,
         alloc: Global,
@@ -121,10 +123,11 @@ impl Trie {
         exact: bool,
         entry: &str,
         buffer: &mut String,
-    ) -> Result<(), OutOfMemory>
+    ) -> Result<usize, OutOfMemory>
         requires trie { IsTrie self.old }
-        ensures { (put : List (List (List ℕ) × End)) → Reaches self.old put 0 []
+        ensures put { (put : List (List (List ℕ) × End)) → Reaches self.old put 0 []
             → OnOk result (Reaches self.new (put ++ put_entry dict exact entry.now) 0 []) }
+        ensures number { IfOk result (λ number. number ≡ length (entry_texts entry.now)) }
     {
         if entry.len() > TEXT_LIMIT {
             return Err(OutOfMemory);
@@ -132,8 +135,9 @@ impl Trie {
         let doc = Document::new(alloc, entry, None)?;
         let mut room = TokenRoom::new(alloc);
         let tokens = SourceTokens::all(&mut room, &doc)?;
-        if tokens.len() == 0 {
-            return Ok(());
+        let number = tokens.len();
+        if number == 0 {
+            return Ok(0);
         }
         let node = self.node_of(alloc, &tokens, buffer)?;
         let spelled = if exact {
@@ -141,25 +145,30 @@ impl Trie {
         } else {
             None
         };
-        self.put_end(node, End { dict, spelled })
+        self.put_end(node, End { dict, spelled })?;
+        Ok(number)
     }
 
-    /// Puts all entries of a dictionary in.
+    /// Puts all entries of a dictionary in, and gives a number of tokens that none of them exceeds.
+    #[tactic(auto, using(crate::proofs::MostLemmas::at_most_more))]
     pub(crate) fn put_dict(
         &mut self,
         alloc: Global,
         place: usize,
         dict: &DictUse,
         buffer: &mut String,
-    ) -> Result<(), OutOfMemory>
+    ) -> Result<usize, OutOfMemory>
         requires trie { IsTrie self.old }
-        ensures { (put : List (List (List ℕ) × End)) → Reaches self.old put 0 []
+        ensures put { (put : List (List (List ℕ) × End)) → Reaches self.old put 0 []
             → OnOk result (Reaches self.new (put ++ put_dict place dict.now) 0 []) }
+        ensures most { IfOk result (λ most. HaveAtMost most dict.now.entries) }
     {
+        let mut most = 0;
         for entry in dict.entries.as_slice() {
-            self.put_entry(alloc, place, dict.exact, entry.as_str(), buffer)?;
+            let number = self.put_entry(alloc, place, dict.exact, entry.as_str(), buffer)?;
+            most = most.max(number);
         }
-        Ok(())
+        Ok(most)
     }
 }
 

@@ -244,6 +244,26 @@ fn whether_a_dictionary_matches_in_a_span_and_all_of_it(rt: HostRuntime) -> Resu
 }
 
 #[test]
+fn a_match_has_as_many_tokens_as_the_longest_entry(rt: HostRuntime) -> Result<(), Fail> {
+    let alloc = rt.alloc();
+    // the second dictionary's longest entry has an apostrophe, which is a token
+    let dicts: [Dict<'_>; 3] = [
+        (&["Ann", "Ann Mary Lee", "Lee"], false),
+        (&["O'Brien & Sons"], true),
+        (&["", " "], false),
+    ];
+    let pass = pass_of(alloc, &dicts)?;
+    let told = [
+        pass.most_tokens(0),
+        pass.most_tokens(1),
+        pass.most_tokens(2),
+        pass.most_tokens(3),
+    ];
+    assert!(rt; told == [3, 5, 0, 0]);
+    Ok(())
+}
+
+#[test]
 fn an_entry_longer_than_a_text_is_want_of_memory(rt: HostRuntime) -> Result<(), Fail> {
     let alloc = rt.alloc();
     let mut long = String::from_str(alloc, " ")?;

@@ -5,11 +5,13 @@ use Rattle.std.specs.Option.{IfSome}
 use Rattle.std.proofs.lemmas.Option.{none-some, same_Some, slice_get_within, slice_get-get_or, get_or_from_slice_get}
 use Rattle.scalar_ops.specs.Expressions.{Term, column}
 use Rattle.algebra.specs.declared.node.JoinKind.{JoinKind}
+use Rattle.algebra.specs.declared.node.Local.{Local}
+use Rattle.algebra.specs.declared.node.Local.TheVariants as sought
 use Rattle.algebra.specs.declared.node.Node.{Node}
-use Rattle.algebra.specs.declared.node.Node.TheVariants.{Doc, TokenRegex, Project, Cross, SpanJoin}
+use Rattle.algebra.specs.declared.node.Node.TheVariants.{Doc, TokenRegex, Dict, DictPart, Project, Cross, SpanJoin}
 use Rattle.algebra.specs.Inputs.{left_input, right_input, with_inputs}
 use Rattle.algebra.specs.OperatorLaws.{left-renamed, right-renamed}
-use Rattle.restrict_eval.specs.Restricting.{IsConditional, AreConditional, Reads, IsLive, HasRuns, ShowsMatch, IsRestrictable, AreRestricted}
+use Rattle.restrict_eval.specs.Restricting.{IsConditional, AreConditional, Reads, IsLive, Finds, HasFound, ShowsMatch, IsRestrictable, AreRestricted}
 use Rattle.restrict_eval.specs.Restricting as lives
 use Rattle.share_plan.specs.Pruning.{IsDropped}
 use Rattle.share_plan.specs.Renumbering.{IsMoved}
@@ -45,6 +47,32 @@ runs_before : (number : ℕ → ℕ) (before : Node) (source col low high patter
     → WasRuns number before source col low high pattern
 runs_before number (TokenRegex s c l h p groups) source col low high pattern e = record { s = s; is = cc; source_number = cc }
 runs_before number node source col low high pattern e = absurd (subst is_runs e tt)
+
+record WasPart (number : ℕ → ℕ) (before : Node) (input place : ℕ) : Type 0 where
+  pub i : ℕ
+  pub is : before ≡ DictPart i place
+  pub input_number : number i ≡ input
+
+abbrev is_part : Node → Type 0
+is_part (DictPart i place) = Unit {0}
+is_part node = ⊥
+
+part_before : (number : ℕ → ℕ) (before : Node) (input place : ℕ) → DictPart input place ≡ with_inputs number before → WasPart number before input place
+part_before number (DictPart i p) input place e = record { i = i; is = cc; input_number = cc }
+part_before number node input place e = absurd (subst is_part e tt)
+
+record WasDict (number : ℕ → ℕ) (before : Node) (source col : ℕ) (dicts : List ℕ) : Type 0 where
+  pub s : ℕ
+  pub is : before ≡ Dict s col dicts
+  pub source_number : number s ≡ source
+
+abbrev is_dict : Node → Type 0
+is_dict (Dict s c dicts) = Unit {0}
+is_dict node = ⊥
+
+dict_before : (number : ℕ → ℕ) (before : Node) (source col : ℕ) (dicts : List ℕ) → Dict source col dicts ≡ with_inputs number before → WasDict number before source col dicts
+dict_before number (Dict s c ds) source col dicts e = record { s = s; is = cc; source_number = cc }
+dict_before number node source col dicts e = absurd (subst is_dict e tt)
 
 record WasShown (number : ℕ → ℕ) (before : Node) (input : ℕ) (items : List Term) : Type 0 where
   pub i : ℕ
@@ -175,32 +203,46 @@ module _ (old : List Node) (shown : List ℕ) (new : List Node) (shown_now : Lis
 
   -- ---- what can be looked for
 
-  record HadRuns (n : ℕ) : Type 0 where
+  record HadFound (n : ℕ) : Type 0 where
     pub i : ℕ
     pub stays : Stays i n
-    pub runs : HasRuns old i
+    pub found : HasFound old i
 
-  had_runs : (n : ℕ) → HasRuns new n → HadRuns n
-  had_runs n runs =
-      let w = was n (TokenRegex runs.source runs.column runs.low runs.high runs.pattern (0 ∷ [])) runs.is in
-      let b = runs_before w.moved.number w.before runs.source runs.column runs.low runs.high runs.pattern w.moved.same in
-      let at : slice_get old w.i ≡ Some (TokenRegex b.s runs.column runs.low runs.high runs.pattern (0 ∷ [])) = w.at ∙ ap (λ (x : Node). Some x) b.is in
-      let source_stays : Stays b.s runs.source = left_stays w.before _ w.moved b.s (ap left_input b.is) ∙ ap (λ (k : ℕ). Some k) b.source_number in
-      let d = was runs.source Doc runs.document in
-      let document : slice_get old d.i ≡ Some Doc = d.at ∙ ap (λ (x : Node). Some x) (document_before d.moved.number d.before d.moved.same) in
-      record {
-        i = w.i;
-        stays = w.stays;
-        runs = record {
-          source = b.s;
-          column = runs.column;
-          low = runs.low;
-          high = runs.high;
-          pattern = runs.pattern;
-          is = at;
-          document = subst (λ (k : ℕ). slice_get old k ≡ Some Doc) (dropped.apart d.i b.s runs.source d.stays source_stays) document;
-        };
-      }
+  document_was : (s n : ℕ) → Stays s n → slice_get new n ≡ Some Doc → slice_get old s ≡ Some Doc
+  document_was s n stays document =
+      let d = was n Doc document in
+      let at : slice_get old d.i ≡ Some Doc = d.at ∙ ap (λ (x : Node). Some x) (document_before d.moved.number d.before d.moved.same) in
+      subst (λ (k : ℕ). slice_get old k ≡ Some Doc) (dropped.apart d.i s n d.stays stays) at
+
+  had_found : (n : ℕ) → HasFound new n → HadFound n
+  had_found n found = by found.part found.finds
+    where
+      by : (part : Local) → Finds new n found.source part → HadFound n
+      by (sought.TokenRegex low high pattern) finds =
+          let w = was n (TokenRegex found.source finds.0 low high pattern (0 ∷ [])) finds.1 in
+          let b = runs_before w.moved.number w.before found.source finds.0 low high pattern w.moved.same in
+          let at : slice_get old w.i ≡ Some (TokenRegex b.s finds.0 low high pattern (0 ∷ [])) = w.at ∙ ap (λ (x : Node). Some x) b.is in
+          let source_stays : Stays b.s found.source = left_stays w.before _ w.moved b.s (ap left_input b.is) ∙ ap (λ (k : ℕ). Some k) b.source_number in
+          record {
+            i = w.i;
+            stays = w.stays;
+            found = record { source = b.s; part = sought.TokenRegex low high pattern; finds = (finds.0, at); document = document_was b.s found.source source_stays found.document };
+          }
+      by (sought.Dict d) finds =
+          let w = was n (DictPart finds.0 0) finds.2 in
+          let b = part_before w.moved.number w.before finds.0 0 w.moved.same in
+          let at : slice_get old w.i ≡ Some (DictPart b.i 0) = w.at ∙ ap (λ (x : Node). Some x) b.is in
+          let dict_stays : Stays b.i finds.0 = left_stays w.before _ w.moved b.i (ap left_input b.is) ∙ ap (λ (k : ℕ). Some k) b.input_number in
+          let v = was finds.0 (Dict found.source finds.1 (d ∷ [])) finds.3 in
+          let a = dict_before v.moved.number v.before found.source finds.1 (d ∷ []) v.moved.same in
+          let at_dict : slice_get old v.i ≡ Some (Dict a.s finds.1 (d ∷ [])) = v.at ∙ ap (λ (x : Node). Some x) a.is in
+          let source_stays : Stays a.s found.source = left_stays v.before _ v.moved a.s (ap left_input a.is) ∙ ap (λ (k : ℕ). Some k) a.source_number in
+          let here : slice_get old b.i ≡ Some (Dict a.s finds.1 (d ∷ [])) = ap (slice_get old) (dropped.apart b.i v.i finds.0 dict_stays v.stays) ∙ at_dict in
+          record {
+            i = w.i;
+            stays = w.stays;
+            found = record { source = a.s; part = sought.Dict d; finds = (b.i, finds.1, at, here); document = document_was a.s found.source source_stays found.document };
+          }
 
   shows_before : (t r rc i j : ℕ) → Stays i t → Stays j r → ShowsMatch new t r rc → ShowsMatch old i j rc
   shows_before t r rc i j t_stays r_stays (inl same) = inl (dropped.apart j i t (r_stays ∙ ap (λ (k : ℕ). Some k) same.0) t_stays, same.1)
@@ -217,8 +259,8 @@ module _ (old : List Node) (shown : List ℕ) (new : List Node) (shown_now : Lis
       not (subst (Contains shown_now) (one_number i s.0 n s.1 stays) s.2)
 
   module _ (j r rc i k : ℕ) (j_stays : Stays i j) (r_stays : Stays k r) (may : IsRestrictable new shown_now j r rc) where
-    had : HadRuns may.t
-    had = had_runs may.t may.runs
+    had : HadFound may.t
+    had = had_found may.t may.found
 
     alone_before : (m : ℕ) (node : Node) → slice_get old m ≡ Some node → IsLive old shown m → Reads node k ⊎ Reads node had.i → (m ≡ i) ⊎ (m ≡ k)
     alone_before m node at live reads =
@@ -237,7 +279,7 @@ module _ (old : List Node) (shown : List ℕ) (new : List Node) (shown_now : Lis
     restrictable_before : IsRestrictable old shown i k rc
     restrictable_before = record {
       t = had.i;
-      runs = had.runs;
+      found = had.found;
       match = shows_before may.t r rc had.i k had.stays r_stays may.match;
       unshown = (unshown_before r k r_stays may.unshown.0, unshown_before may.t had.i had.stays may.unshown.1);
       alone = alone_before;

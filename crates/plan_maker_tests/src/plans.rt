@@ -85,9 +85,10 @@ out far away 6
 /// Programs and the plans by which they are run: products become joins, what stands twice stands once, and
 /// views that nobody reads aren't there; conditions go through a projection, also where an output shows it
 /// too, and to both sides of a union; of three views those are joined first that a predicate
-/// connects, also where their product is turned; a selection stands right behind its product. A token-bounded pattern is looked for near the other side, on
-/// whichever side of the query it stands.
-static MADE: [(&str, &str); 10] = [
+/// connects, also where their product is turned; a selection stands right behind its product. A token-bounded
+/// pattern is looked for near the other side, on whichever side of the query it stands, and a dictionary on the
+/// right one, where no other that is needed is looked for with it.
+static MADE: [(&str, &str); 12] = [
     (
         "create view Word as extract regex /[a-z]+/ on d.text as word from Document d;
          create view Unread as select w.word as w from Word w;
@@ -246,6 +247,45 @@ out C 5
 4 Project 3
 5 Project 4
 out C 5
+",
+    ),
+    (
+        "create dictionary Words as ('b');
+         create dictionary Names as ('c', 'd');
+         create view A as extract regex /a/ on d.text as x from Document d;
+         create view B as extract dictionary Words on d.text as y from Document d;
+         create view N as extract dictionary Names on d.text as z from Document d;
+         create view T as select a.x, b.y from A a, B b where FollowsTok(a.x, b.y, 0, 2);
+         output view T;",
+        "0 Doc
+1 Regex 0
+2 Project 1
+3 Restricted 2 0
+4 Project 3
+5 Project 4
+out T 5
+",
+    ),
+    (
+        "create dictionary Words as ('b');
+         create dictionary Names as ('c', 'd');
+         create view A as extract regex /a/ on d.text as x from Document d;
+         create view B as extract dictionary Words on d.text as y from Document d;
+         create view N as extract dictionary Names on d.text as z from Document d;
+         create view T as select a.x, b.y from A a, B b where FollowsTok(a.x, b.y, 0, 2);
+         output view N; output view T;",
+        "0 Doc
+1 Dict 0
+2 DictPart 1
+3 Project 2
+4 Regex 0
+5 Project 4
+6 DictPart 1
+7 Project 6
+8 SpanJoin 5 7
+9 Project 8
+out N 3
+out T 9
 ",
     ),
     (

@@ -1,12 +1,12 @@
 -- How far what is found from a token reaches: it lies in a run of tokens from there, and what stands behind a run as long
 -- as a match may be changes nothing.
-use Rattle.std.proofs.Common.{◌≡◌, ◌∙◌, ◌+◌, ◌-◌, ◌<◌, ◌≤◌, ◌++◌, ◌*◌, min, ℕ, zero, suc, true, false, List, [], ◌∷◌, length, map, take, drop, Option, Some, None, option_map, refl, sym, ap, subst, arith, slice_get, slice_range, IsUtf8, encode_utf8_all, inl, inr}
+use Rattle.std.proofs.Common.{◌≡◌, ◌∙◌, ◌+◌, ◌-◌, ◌<◌, ◌≤◌, ◌++◌, ◌*◌, min, ℕ, zero, suc, true, false, List, [], ◌∷◌, length, map, take, drop, Option, Some, None, option_map, refl, sym, ap, subst, arith, slice_get, slice_range, IsUtf8, encode_utf8_all, inl, inr, IsTrue}
 use Rattle.std.specs.List.{cons_option, filter, range_with_len}
 use Rattle.std.specs.Option.{option_or}
 use Rattle.std.specs.Str.{chars, chars_after, continuation_len, lead_bits}
 use Rattle.std.proofs.Math.Utf8.{scalar, scalars}
-use Rattle.std.proofs.lemmas.Bool.{and_parts, and_from, cases_Bool}
-use Rattle.std.proofs.lemmas.List.{length-take, append-nil}
+use Rattle.std.proofs.lemmas.Bool.{and_parts, and_from, cases_Bool, cases_lt}
+use Rattle.std.proofs.lemmas.List.{length-take, length-map, append-nil}
 use Rattle.std.proofs.lemmas.List.Elements.{filter-append}
 use Rattle.std.proofs.lemmas.Option.{none-some, same_Some}
 use Rattle.std.proofs.lemmas.Str.{chars-encodes, scalars-chars}
@@ -26,6 +26,7 @@ use Rattle.algebra.specs.declared.node.Local.{Local}
 use Rattle.algebra.specs.declared.node.Local.TheVariants.{TokenRegex, Dict}
 use Rattle.algebra.specs.Shapes.{IsSought}
 use Rattle.plan_operators.specs.Neighbourhoods.{EndsIn, IsInRun, IsReach, found_from}
+use Rattle.plan_operators.proofs.Found.{part-long}
 use Rattle.plan_operators.proofs.Numbers.{Each, each-map, each-passing, none-passing, range-split}
 use Rattle.plan_operators.proofs.TokenNumbers.{tokens-in-order, begins-rise}
 
@@ -223,3 +224,25 @@ module _ (doc : Doc) (utf8 : IsUtf8 doc.text) where
             ≡ of_some (λ dictionary. matches_from dictionary doc (tokens_of (characters doc)) first (first + reach)) o
         of_dict None at = refl
         of_dict (Some the) at = entries the at
+
+-- ---- how many tokens the match of a dictionary has at most
+
+-- as many as its longest entry
+pub reach_by : (lists : Lists) (doc : Doc) (d most : ℕ) →
+    ((the : DictUse) (texts : List (List ℕ)) → slice_get lists.dicts d ≡ Some the → IsTrue (does_agree the texts) → length texts ≤ most) →
+    IsReach lists doc (Dict d) most
+reach_by lists doc d most entries = λ the first past is there agrees.
+    let tokens = tokens_of (characters doc) in
+    elim (cases_lt past first) [
+      | inl before ↦ omega (arith, before)
+      | inr from ↦ omega (
+        arith,
+        entries the (texts_of doc (slice_range tokens first past)) is agrees,
+        length-map (slice_range tokens first past) (text_in doc),
+        part-long tokens first past from there,
+      )
+    ]
+
+-- or as many as there are
+pub reach_all : (lists : Lists) (doc : Doc) (d : ℕ) → IsReach lists doc (Dict d) (length (tokens_of (characters doc)))
+reach_all lists doc d = λ the first past is there agrees. omega arith

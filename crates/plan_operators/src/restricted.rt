@@ -5,7 +5,7 @@ ghost use Rattle.span_token.specs.Documents.{characters};
 ghost use Rattle.span_token.specs.Tokens.{tokens_of};
 ghost use Rattle.row_values.specs.Datums.{Datum, IsOfDocument};
 ghost use Rattle.row_values.specs.Rows.{RowsLieIn};
-ghost use Rattle.scalar_ops.specs.Tables.{Lists};
+ghost use Rattle.algebra.specs.declared.node.Local.TheVariants as sought;
 ghost use Rattle.algebra.specs.Operators.{restricted, sought_by, followed};
 ghost use Rattle.algebra.specs.Shapes.{IsSought};
 ghost use Rattle.row_operators.specs.Searches.{extraction_for};
@@ -44,7 +44,7 @@ pub(crate) fn restricted<'d>(
     ensures lies { IfOk result (λ out. RowsLieIn doc.now out.rows) }
     ensures same { tools.new ≡ tools.old }
 {
-    let reach = reach_of(doc, local);
+    let reach = reach_of(tools, doc, local);
     let stretches = stretches_around(alloc, doc, kind, outer, lc, reach)?;
     let stretches = stretches.as_slice();
     let _width = source.width();
@@ -57,16 +57,30 @@ pub(crate) fn restricted<'d>(
 }
 
 /// How many tokens a match has at most, and one or more.
-fn reach_of(doc: &Document<'_>, local: Local) -> u64
-    ensures reach { (lists : Lists) → IsReach lists doc.now local result }
+fn reach_of(tools: &Tools<'_>, doc: &Document<'_>, local: Local) -> u64
+    ensures reach { IsReach tools.now doc.now local result }
     ensures some { 1 ≤ result }
     ensures few { result < 2 ^ 32 }
 {
     let most = match local {
         Local::TokenRegex { high, .. } => high,
-        Local::Dict { .. } => doc.token_count(),
+        Local::Dict { dict } => most_tokens(tools, doc, dict),
     };
     u64::from(most.max(1))
+}
+
+/// How many tokens of the document a match of a dictionary has at most.
+#[tactic(auto, using(crate::proofs::Reached::reach_by, crate::proofs::Reached::reach_all))]
+fn most_tokens(tools: &Tools<'_>, doc: &Document<'_>, dict: u32) -> u32
+    ensures { IsReach tools.now doc.now (sought.Dict dict) result }
+{
+    let all = doc.token_count();
+    let most = tools.most_tokens(dict);
+    if most < all as usize {
+        most as u32
+    } else {
+        all
+    }
 }
 
 /// Puts the row, followed by a span, after the others, for each match in it that begins in one of the

@@ -5,22 +5,22 @@ use Rattle.std.specs.List.{AllPairs}
 use Rattle.std.proofs.lemmas.Bool.{cases_lt}
 use Rattle.std.proofs.lemmas.Option.{none-some, same_Some, slice_get_within, slice_get-get_or, get_or_from_slice_get}
 use Rattle.scalar_ops.specs.Expressions.{Term, column}
+use Rattle.algebra.specs.declared.node.Local.{Local}
 use Rattle.algebra.specs.declared.node.Local.TheVariants as sought
 use Rattle.algebra.specs.declared.node.Node.{Node}
 use Rattle.algebra.specs.declared.node.Node.TheVariants.{Doc, Regex, TokenRegex, Dict, DictPart, Blocks, Select, Project, Cross, SpanJoin, Restricted, Union, Minus, Consolidate, Group, OrderLimit}
-use Rattle.algebra.specs.declared.shape.Shape.{Shape}
 use Rattle.algebra.specs.Inputs.{left_input, right_input, IsAmong}
 use Rattle.algebra.specs.Mapping.{new_number}
 use Rattle.algebra.specs.Nodes.{IsPlan}
-use Rattle.algebra.specs.Shapes.{no_shape, shapes_of}
 use Rattle.restrict_eval.specs.Rebuilding.{IsNearJoin, IsStood, IsFor, IsRestrictedFrom}
 use Rattle.restrict_eval.specs.Rebuilding as words
 use Rattle.restrict_eval.specs.Keeping.{IsUnrestricted, AreUnrestricted, AreApart}
-use Rattle.restrict_eval.specs.Restricting.{Reads, HasRuns, ShowsMatch}
+use Rattle.restrict_eval.specs.Restricting.{Reads, Finds, HasFound, ShowsMatch}
 use Rattle.restrict_eval.specs.Restricting as lives
 use Rattle.restrict_eval.specs.TakenLaws.{carried, carried-left, carried-right, from_project, from_dict, from_restricted}
-use Rattle.restrict_eval.proofs.Living.{tag, one_node, one_number, within}
-use Rattle.restrict_eval.proofs.Nearing.{at, document_there}
+use Rattle.restrict_eval.proofs.Finding.{apart, one_node, finds_other}
+use Rattle.restrict_eval.proofs.Living.{one_number, within}
+use Rattle.restrict_eval.proofs.Nearing.{at, runs_column, dict_column}
 
 -- ---- a node is told by its inputs and by what it is carried to
 
@@ -65,22 +65,19 @@ filled_carried to (Consolidate i policy target) plain = refl
 filled_carried to (Group i keys aggs) plain = refl
 filled_carried to (OrderLimit i keys limit) plain = refl
 
-apart : (x y : Node) → x ≡ y → (tag x ≡ tag y → ⊥) → ⊥
-apart x y same other = other (ap tag same)
-
 module _ (old : List Node) (outputs : List ℕ) (new : List Node) (to : List ℕ) (plan : IsPlan old) (rebuilt : IsRestrictedFrom old outputs new to) (plain : AreUnrestricted old) where
   abbrev look : ℕ → ℕ
   look i = new_number to i
 
   abbrev near_node : (j n : ℕ) → IsNearJoin old outputs new to j n → Node
-  near_node j n near = Restricted (look near.left) (look near.may.runs.source) near.kind near.lc (sought.TokenRegex near.may.runs.low near.may.runs.high near.may.runs.pattern)
+  near_node j n near = Restricted (look near.left) (look near.may.found.source) near.kind near.lc near.may.found.part
 
   plain_at : (i : ℕ) (x : Node) → slice_get old i ≡ Some x → IsUnrestricted x
   plain_at i x is = subst IsUnrestricted (get_or_from_slice_get old i x x is) (plain i x (slice_get_within old i x is))
 
   no_restricted : (i : ℕ) (x : Node) → slice_get old i ≡ Some x → (j n : ℕ) (near : IsNearJoin old outputs new to j n) → carried look x ≡ near_node j n near → ⊥
   no_restricted i x is j n near same =
-      let from = from_restricted look x (look near.left) (look near.may.runs.source) near.kind near.lc (sought.TokenRegex near.may.runs.low near.may.runs.high near.may.runs.pattern) same in
+      let from = from_restricted look x (look near.left) (look near.may.found.source) near.kind near.lc near.may.found.part same in
       subst IsUnrestricted from.2 (plain_at i x is)
 
   -- inputs that are carried to the same are the same
@@ -124,17 +121,20 @@ module _ (old : List Node) (outputs : List ℕ) (new : List Node) (to : List ℕ
       ]
     ]
 
-    -- patterns with the same matches in the document are one node
-    first_column : (t : ℕ) (runs : HasRuns old t) → runs.column ≡ 0
-    first_column t runs =
-        let below : runs.column < (get_or (shapes_of old) runs.source no_shape).width = (at old plan t (TokenRegex runs.source runs.column runs.low runs.high runs.pattern (0 ∷ [])) runs.is).valid.made.1 in
-        omega (arith, below, ap (λ (s : Shape). s.width) (document_there old plan runs.source runs.document))
+    -- nodes that have the same matches in the document are one
+    finds_once : (source : ℕ) → slice_get old source ≡ Some Doc → (part : Local) (t u : ℕ) → Finds old t source part → Finds old u source part → t ≡ u
+    finds_once source document (sought.TokenRegex low high pattern) t u finds others =
+        let column_same : finds.0 ≡ others.0 = runs_column old plan source t finds.0 low high pattern document finds.1 ∙ sym (runs_column old plan source u others.0 low high pattern document others.1) in
+        one_place t u _ _ finds.1 others.1 (ap (λ (c : ℕ). TokenRegex source c low high pattern (0 ∷ [])) column_same)
+    finds_once source document (sought.Dict d) t u finds others =
+        let column_same : finds.1 ≡ others.1 = dict_column old plan source finds.0 finds.1 d document finds.3 ∙ sym (dict_column old plan source others.0 others.1 d document others.3) in
+        let dict_same : finds.0 ≡ others.0 = one_place finds.0 others.0 _ _ finds.3 others.3 (ap (λ (c : ℕ). Dict source c (d ∷ [])) column_same) in
+        one_place t u _ _ finds.2 others.2 (ap (λ (n : ℕ). DictPart n 0) dict_same)
 
-    runs_once : (t u : ℕ) (runs : HasRuns old t) (others : HasRuns old u) → runs.source ≡ others.source → runs.low ≡ others.low → runs.high ≡ others.high → runs.pattern ≡ others.pattern → t ≡ u
-    runs_once t u runs others source low high pattern =
-        let column_same : runs.column ≡ others.column = first_column t runs ∙ sym (first_column u others) in
-        let same : TokenRegex runs.source runs.column runs.low runs.high runs.pattern (0 ∷ []) ≡ TokenRegex others.source others.column others.low others.high others.pattern (0 ∷ []) = cc in
-        one_place t u _ _ runs.is others.is same
+    found_once : (t u : ℕ) (found : HasFound old t) (others : HasFound old u) → found.source ≡ others.source → found.part ≡ others.part → t ≡ u
+    found_once t u found others source part =
+        finds_once found.source found.document found.part t u found.finds
+        (subst (λ (s : ℕ). Finds old u s found.part) (sym source) (subst (λ (p : Local). Finds old u others.source p) (sym part) others.finds))
 
     -- joins that look for the matches of one node are one
     base_once : (i k n m : ℕ) (near : IsNearJoin old outputs new to i n) (other : IsNearJoin old outputs new to k m) → near.may.t ≡ other.may.t → k ≡ i
@@ -145,9 +145,7 @@ module _ (old : List Node) (outputs : List ℕ) (new : List Node) (to : List ℕ
 
         -- a join is no right input of another
         not_right : k ≡ near.right → ShowsMatch old near.may.t near.right near.rc → k ≡ i
-        not_right is (inl whole) =
-            absurd (apart join (TokenRegex near.may.runs.source near.may.runs.column near.may.runs.low near.may.runs.high near.may.runs.pattern (0 ∷ []))
-            (one_node old k near.may.t join _ (is ∙ whole.0) other.is near.may.runs.is) (λ e. omega (arith, e)))
+        not_right is (inl whole) = absurd (finds_other old near.may.t k join near.may.found (sym (is ∙ whole.0)) other.is (λ e. omega (arith, e)))
         not_right is (inr part) = absurd (apart join (Project near.may.t (map column part.0)) (one_node old k near.right join _ is other.is part.1) (λ e. omega (arith, e)))
 
         by : (k ≡ i) ⊎ (k ≡ near.right) → k ≡ i
@@ -170,13 +168,11 @@ module _ (old : List Node) (outputs : List ℕ) (new : List Node) (to : List ℕ
 
     near_once : (i k n m : ℕ) (near : IsNearJoin old outputs new to i n) (other : IsNearJoin old outputs new to k m) → near_node i n near ≡ near_node k m other → k ≡ i
     near_once i k n m near other same =
-        let source_new : look near.may.runs.source ≡ look other.may.runs.source = cc in
-        let low : near.may.runs.low ≡ other.may.runs.low = cc in
-        let high : near.may.runs.high ≡ other.may.runs.high = cc in
-        let pattern : near.may.runs.pattern ≡ other.may.runs.pattern = cc in
-        let source : near.may.runs.source ≡ other.may.runs.source =
-        one_number old outputs new to rebuilt near.may.runs.source other.may.runs.source (within old outputs new to rebuilt near.may.runs.source Doc near.may.runs.document) (within old outputs new to rebuilt other.may.runs.source Doc other.may.runs.document) source_new in
-        base_once i k n m near other (runs_once near.may.t other.may.t near.may.runs other.may.runs source low high pattern)
+        let source_new : look near.may.found.source ≡ look other.may.found.source = cc in
+        let part : near.may.found.part ≡ other.may.found.part = cc in
+        let source : near.may.found.source ≡ other.may.found.source =
+        one_number old outputs new to rebuilt near.may.found.source other.may.found.source (within old outputs new to rebuilt near.may.found.source Doc near.may.found.document) (within old outputs new to rebuilt other.may.found.source Doc other.may.found.document) source_new in
+        base_once i k n m near other (found_once near.may.t other.may.t near.may.found other.may.found source part)
 
     -- what stands for a node, and where the join below it stands
     no_columns : (i : ℕ) (x : Node) → slice_get old i ≡ Some x → (k n : ℕ) (items : List Term) (near : IsNearJoin old outputs new to k n) → look k ≡ n + 1 → carried look x ≡ Project n items → ⊥

@@ -15,11 +15,12 @@ use Rattle.algebra.specs.declared.node.JoinKind.{JoinKind}
 use Rattle.algebra.specs.declared.node.Local.{Local}
 use Rattle.algebra.specs.declared.node.Local.TheVariants as sought
 use Rattle.algebra.specs.declared.node.Node.{Node}
-use Rattle.algebra.specs.declared.node.Node.TheVariants.{Doc, TokenRegex, Project, SpanJoin}
+use Rattle.algebra.specs.declared.node.Node.TheVariants.{Doc, TokenRegex, Dict, DictPart, Project, SpanJoin}
 use Rattle.restrict_eval.specs.declared.nearness.Near.{Near}
-use Rattle.restrict_eval.specs.Nears.{plain_columns, Finds, ShowsBy, IsNear, IsRestriction, IsFate}
+use Rattle.restrict_eval.specs.Nears.{plain_columns, ShowsBy, IsNear, IsRestriction, IsFate}
 use Rattle.restrict_eval.specs.Readers.{IsOnly}
-use Rattle.restrict_eval.specs.Restricting.{Reads, IsLive, HasRuns, ShowsMatch, IsRestrictable}
+use Rattle.restrict_eval.specs.Restricting.{Reads, IsLive, Finds, HasFound, ShowsMatch, IsRestrictable}
+use Rattle.restrict_eval.proofs.Finding.{finds_other}
 
 -- ---- plain columns
 
@@ -78,48 +79,75 @@ plain_stopped items i e cs below is other so_far =
     ∙ (ap plain_columns (map-append term_of (take i items) (e ∷ rest) ∙ ap (λ (ts : List Term). ts ++ term_of e ∷ map term_of rest) (plain_are (map term_of (take i items)) cs so_far))
     ∙ stop_behind cs e (map term_of rest) other)
 
+-- a list of one
+pub only_dict : (dicts : List ℕ) → length dicts ≡ 1 → dicts ≡ get_or dicts 0 0 ∷ []
+only_dict [] e = absurd (omega (arith, e))
+only_dict (d ∷ []) e = refl
+only_dict (d ∷ x ∷ dicts) e = absurd (omega (arith, e))
+
 -- what holds of an option
 pub none_then : {A B : Type 0} (o : Option Near) → (A → B) → IfNone o A → IfNone o B
 none_then None f a = f a
 none_then (Some near) f a = tt
 
-runs_project : (i c low high p j : ℕ) (groups : List ℕ) (items : List Term) → TokenRegex i c low high p groups ≡ Project j items → ⊥
-runs_project i c low high p j groups items e = cc
-
 module _ (nodes : List Node) where
   -- ---- what isn't found
 
   -- in place of a node that isn't columns of another
-  pub none_other : (right rc : ℕ) (node : Node) → slice_get nodes right ≡ Some node → ((i : ℕ) (items : List Term) → node ≡ Project i items → ⊥) → (rc ≡ 1 → HasRuns nodes right → ⊥)
-      → (t : ℕ) → HasRuns nodes t → ShowsMatch nodes t right rc → ⊥
-  none_other right rc node is other none t runs (inl whole) = none whole.1 (subst (HasRuns nodes) (sym whole.0) runs)
-  none_other right rc node is other none t runs (inr part) = other t (map column part.0) (same_Some node (Project t (map column part.0)) (sym is ∙ part.1))
+  pub none_other : (right rc : ℕ) (node : Node) → slice_get nodes right ≡ Some node → ((i : ℕ) (items : List Term) → node ≡ Project i items → ⊥) → (rc ≡ 1 → HasFound nodes right → ⊥)
+      → (t : ℕ) → HasFound nodes t → ShowsMatch nodes t right rc → ⊥
+  none_other right rc node is other none t found (inl whole) = none whole.1 (subst (HasFound nodes) (sym whole.0) found)
+  none_other right rc node is other none t found (inr part) = other t (map column part.0) (same_Some node (Project t (map column part.0)) (sym is ∙ part.1))
 
   -- in place of columns of another
   pub none_columns : (right rc input : ℕ) (items : List Term) → slice_get nodes right ≡ Some (Project input items)
-      → ((cs : List ℕ) → plain_columns items ≡ Some cs → slice_get cs rc ≡ Some 1 → HasRuns nodes input → ⊥)
-      → (t : ℕ) → HasRuns nodes t → ShowsMatch nodes t right rc → ⊥
-  none_columns right rc input items is none t runs (inl whole) =
-      runs_project runs.source runs.column runs.low runs.high runs.pattern input (0 ∷ []) items
-      (same_Some (TokenRegex runs.source runs.column runs.low runs.high runs.pattern (0 ∷ [])) (Project input items) (sym runs.is ∙ (ap (slice_get nodes) (sym whole.0) ∙ is)))
-  none_columns right rc input items is none t runs (inr part) =
+      → ((cs : List ℕ) → plain_columns items ≡ Some cs → slice_get cs rc ≡ Some 1 → HasFound nodes input → ⊥)
+      → (t : ℕ) → HasFound nodes t → ShowsMatch nodes t right rc → ⊥
+  none_columns right rc input items is none t found (inl whole) = finds_other nodes t right (Project input items) found (sym whole.0) is (λ e. omega (arith, e))
+  none_columns right rc input items is none t found (inr part) =
       let same : Project input items ≡ Project t (map column part.0) = same_Some (Project input items) (Project t (map column part.0)) (sym is ∙ part.1) in
       let input_is : t ≡ input = cc in
       let items_are : items ≡ map column part.0 = cc in
-      none part.0 (ap plain_columns items_are ∙ plain_of part.0) part.2 (subst (HasRuns nodes) input_is runs)
+      none part.0 (ap plain_columns items_are ∙ plain_of part.0) part.2 (subst (HasFound nodes) input_is found)
 
-  -- no runs
-  pub no_runs : (base : ℕ) (node : Node) → slice_get nodes base ≡ Some node → ((i c low high p : ℕ) (groups : List ℕ) → node ≡ TokenRegex i c low high p groups → ⊥) → HasRuns nodes base → ⊥
-  no_runs base node is other runs =
-      other runs.source runs.column runs.low runs.high runs.pattern (0 ∷ []) (same_Some node (TokenRegex runs.source runs.column runs.low runs.high runs.pattern (0 ∷ [])) (sym is ∙ runs.is))
+  -- in place of a node that has nothing that is found
+  pub no_found : (base : ℕ) (node : Node) → slice_get nodes base ≡ Some node → ((i c low high p : ℕ) (groups : List ℕ) → node ≡ TokenRegex i c low high p groups → ⊥)
+      → ((i place : ℕ) → node ≡ DictPart i place → ⊥) → HasFound nodes base → ⊥
+  no_found base node is no_runs no_part found = by found.part found.finds
+    where
+      by : (part : Local) → Finds nodes base found.source part → ⊥
+      by (sought.TokenRegex low high pattern) finds =
+          no_runs found.source finds.0 low high pattern (0 ∷ []) (same_Some node (TokenRegex found.source finds.0 low high pattern (0 ∷ [])) (sym is ∙ finds.1))
+      by (sought.Dict d) finds = no_part finds.0 0 (same_Some node (DictPart finds.0 0) (sym is ∙ finds.2))
 
   -- others than the whole match in the document
-  pub other_runs : (base i c low high p : ℕ) (groups : List ℕ) → slice_get nodes base ≡ Some (TokenRegex i c low high p groups) → (groups ≡ 0 ∷ [] → slice_get nodes i ≡ Some Doc → ⊥) → HasRuns nodes base → ⊥
-  other_runs base i c low high p groups is other runs =
-      let same : TokenRegex i c low high p groups ≡ TokenRegex runs.source runs.column runs.low runs.high runs.pattern (0 ∷ []) = same_Some _ _ (sym is ∙ runs.is) in
-      let groups_are : groups ≡ 0 ∷ [] = cc in
-      let source_is : runs.source ≡ i = cc in
-      other groups_are (subst (λ (n : ℕ). slice_get nodes n ≡ Some Doc) source_is runs.document)
+  pub other_runs : (base i c low high p : ℕ) (groups : List ℕ) → slice_get nodes base ≡ Some (TokenRegex i c low high p groups) → (groups ≡ 0 ∷ [] → slice_get nodes i ≡ Some Doc → ⊥) → HasFound nodes base → ⊥
+  other_runs base i c low high p groups is other found = by found.part found.finds
+    where
+      by : (part : Local) → Finds nodes base found.source part → ⊥
+      by (sought.TokenRegex l h pattern) finds =
+          let same : TokenRegex i c low high p groups ≡ TokenRegex found.source finds.0 l h pattern (0 ∷ []) = same_Some _ _ (sym is ∙ finds.1) in
+          let groups_are : groups ≡ 0 ∷ [] = cc in
+          let source_is : found.source ≡ i = cc in
+          other groups_are (subst (λ (n : ℕ). slice_get nodes n ≡ Some Doc) source_is found.document)
+      by (sought.Dict d) finds =
+          let same : TokenRegex i c low high p groups ≡ DictPart finds.0 0 = same_Some _ _ (sym is ∙ finds.2) in
+          cc
+
+  -- others than the only dictionary in the document
+  pub other_part : (base input place : ℕ) (node : Node) → slice_get nodes base ≡ Some (DictPart input place) → slice_get nodes input ≡ Some node
+      → ((source c d : ℕ) → node ≡ Dict source c (d ∷ []) → place ≡ 0 → slice_get nodes source ≡ Some Doc → ⊥) → HasFound nodes base → ⊥
+  other_part base input place node is is_node other found = by found.part found.finds
+    where
+      by : (part : Local) → Finds nodes base found.source part → ⊥
+      by (sought.TokenRegex low high pattern) finds =
+          let same : DictPart input place ≡ TokenRegex found.source finds.0 low high pattern (0 ∷ []) = same_Some _ _ (sym is ∙ finds.1) in
+          cc
+      by (sought.Dict d) finds =
+          let same : DictPart input place ≡ DictPart finds.0 0 = same_Some _ _ (sym is ∙ finds.2) in
+          let input_is : input ≡ finds.0 = cc in
+          let place_is : place ≡ 0 = cc in
+          other found.source finds.1 d (same_Some node (Dict found.source finds.1 (d ∷ [])) (sym is_node ∙ (ap (slice_get nodes) input_is ∙ finds.3))) place_is found.document
 
   -- ---- what is found
 
@@ -137,21 +165,19 @@ module _ (nodes : List Node) where
   some_near right rc base shown (Some near) is finds shows = near_by right rc base shown near is.0 is.1 finds.0 finds.1 shows
 
   -- there is one node of which it can be
-  once_by : (right rc base source : ℕ) (part : Local) (shown : Option (List ℕ)) → Finds nodes base source part → ShowsBy nodes base right rc shown → (t : ℕ) → HasRuns nodes t → ShowsMatch nodes t right rc → t ≡ base
-  once_by right rc base source part None finds shows t runs (inl whole) = sym whole.0 ∙ shows.0
-  once_by right rc base source (sought.TokenRegex low high pattern) None finds shows t runs (inr shown) =
-      absurd (runs_project source finds.0 low high pattern t (0 ∷ []) (map column shown.0)
-      (same_Some (TokenRegex source finds.0 low high pattern (0 ∷ [])) (Project t (map column shown.0)) (sym finds.1 ∙ (ap (slice_get nodes) (sym shows.0) ∙ shown.1))))
-  once_by right rc base source (sought.Dict d) None finds shows t runs (inr shown) = absurd finds
-  once_by right rc base source part (Some cs) finds shows t runs (inl whole) =
-      absurd (runs_project runs.source runs.column runs.low runs.high runs.pattern base (0 ∷ []) (map column cs)
-      (same_Some (TokenRegex runs.source runs.column runs.low runs.high runs.pattern (0 ∷ [])) (Project base (map column cs)) (sym runs.is ∙ (ap (slice_get nodes) (sym whole.0) ∙ shows.0))))
-  once_by right rc base source part (Some cs) finds shows t runs (inr shown) =
-      let same : Project base (map column cs) ≡ Project t (map column shown.0) = same_Some _ _ (sym shows.0 ∙ shown.1) in
+  once_by : (right rc base : ℕ) (shown : Option (List ℕ)) → HasFound nodes base → ShowsBy nodes base right rc shown → (t : ℕ) → HasFound nodes t → ShowsMatch nodes t right rc → t ≡ base
+  once_by right rc base None here shows t found (inl whole) = sym whole.0 ∙ shows.0
+  once_by right rc base None here shows t found (inr part) = absurd (finds_other nodes base right (Project t (map column part.0)) here (sym shows.0) part.1 (λ e. omega (arith, e)))
+  once_by right rc base (Some cs) here shows t found (inl whole) = absurd (finds_other nodes t right (Project base (map column cs)) found (sym whole.0) shows.0 (λ e. omega (arith, e)))
+  once_by right rc base (Some cs) here shows t found (inr part) =
+      let same : Project base (map column cs) ≡ Project t (map column part.0) = same_Some _ _ (sym shows.0 ∙ part.1) in
       let is : t ≡ base = cc in is
 
-  pub base_once : (right rc : ℕ) (near : Near) → IsNear nodes right rc near → (t : ℕ) → HasRuns nodes t → ShowsMatch nodes t right rc → t ≡ near.base
-  base_once right rc near is t runs match = once_by right rc near.base near.source near.sought near.columns is.finds is.shows t runs match
+  abbrev pub near_found : (right rc : ℕ) (near : Near) → IsNear nodes right rc near → HasFound nodes near.base
+  near_found right rc near is = record { source = near.source; part = near.sought; finds = is.finds; document = is.document }
+
+  pub base_once : (right rc : ℕ) (near : Near) → IsNear nodes right rc near → (t : ℕ) → HasFound nodes t → ShowsMatch nodes t right rc → t ≡ near.base
+  base_once right rc near is t found match = once_by right rc near.base near.columns (near_found right rc near is) is.shows t found match
 
   abbrev pub shown_match : (base right rc : ℕ) (shown : Option (List ℕ)) → ShowsBy nodes base right rc shown → ShowsMatch nodes base right rc
   shown_match base right rc None shows = inl shows
@@ -163,7 +189,7 @@ module _ (nodes : List Node) where
     -- nobody else needs what can be found
     pub only_both : (near : Near) → IsNear nodes right rc near → IsRestrictable nodes outputs j right rc → IsOnly nodes outputs right j right × IsOnly nodes outputs near.base j right
     only_both near is may =
-        let same : may.t ≡ near.base = base_once right rc near is may.t may.runs may.match in (
+        let same : may.t ≡ near.base = base_once right rc near is may.t may.found may.match in (
           record { unshown = may.unshown.0; alone = λ k node at live reads. may.alone k node at live (inl reads) },
           record {
             unshown = λ listed. may.unshown.1 (subst (λ (n : ℕ). Contains outputs n) (sym same) listed);
@@ -205,24 +231,15 @@ module _ (nodes : List Node) where
       let column_is : rc' ≡ rc = cc in
       never live (subst (λ (c : ℕ). IsRestrictable nodes outputs j r c) column_is (subst (λ (i : ℕ). IsRestrictable nodes outputs j i rc') right_is may))
 
-  -- what can be found is the matches of a token-bounded pattern
-  module _ (outputs : List ℕ) (j : ℕ) (near : Near) (is : IsRestriction nodes outputs j near) where
-    abbrev pub runs_by : (base source : ℕ) (part : Local) → Finds nodes base source part → slice_get nodes source ≡ Some Doc → (runs : HasRuns nodes base) × (runs.source ≡ source) × (part ≡ sought.TokenRegex runs.low runs.high runs.pattern)
-    runs_by base source (sought.TokenRegex low high pattern) finds document =
-        (record { source = source; column = finds.0; low = low; high = high; pattern = pattern; is = finds.1; document = document }, refl, refl)
-    runs_by base source (sought.Dict d) finds document = absurd finds
-
-    abbrev pub near_runs : (runs : HasRuns nodes near.base) × (runs.source ≡ near.source) × (near.sought ≡ sought.TokenRegex runs.low runs.high runs.pattern)
-    near_runs = runs_by near.base near.source near.sought is.is_near.finds is.is_near.document
-
-    abbrev pub restrictable : IsRestrictable nodes outputs j is.right is.rc
-    restrictable = record {
-      t = near.base;
-      runs = near_runs.0;
-      match = shown_match near.base is.right is.rc near.columns is.is_near.shows;
-      unshown = is.unshown;
-      alone = is.alone;
-    }
+  -- a join of which it can be may look near its left rows
+  abbrev pub restrictable : (outputs : List ℕ) (j : ℕ) (near : Near) (is : IsRestriction nodes outputs j near) → IsRestrictable nodes outputs j is.right is.rc
+  restrictable outputs j near is = record {
+    t = near.base;
+    found = near_found is.right is.rc near is.is_near;
+    match = shown_match near.base is.right is.rc near.columns is.is_near.shows;
+    unshown = is.unshown;
+    alone = is.alone;
+  }
 
 -- one fate more
 pub fates_more : (nodes : List Node) (outputs : List ℕ) (found later : List (Option Near)) (near : Option Near) (j : ℕ) → length found ≡ j → later ≡ found ++ near ∷ []

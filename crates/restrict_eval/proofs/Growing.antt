@@ -9,9 +9,8 @@ use Rattle.std.proofs.lemmas.List.Elements.{All-nil, All-cons, All-append}
 use Rattle.std.proofs.lemmas.Option.{none-some, same_Some, slice_get_within}
 use Rattle.scalar_ops.specs.Expressions.{Term, column}
 use Rattle.algebra.specs.declared.node.JoinKind.{JoinKind}
-use Rattle.algebra.specs.declared.node.Local.TheVariants as sought
 use Rattle.algebra.specs.declared.node.Node.{Node}
-use Rattle.algebra.specs.declared.node.Node.TheVariants.{TokenRegex, Project, Cross, SpanJoin, Restricted}
+use Rattle.algebra.specs.declared.node.Node.TheVariants.{Project, Cross, SpanJoin, Restricted}
 use Rattle.algebra.specs.FoldLaws.{length-each}
 use Rattle.algebra.specs.Growth.{Stands, IsAt}
 use Rattle.algebra.specs.GrowthLaws.{stands-added}
@@ -27,9 +26,9 @@ use Rattle.restrict_eval.specs.Putting.{beside, width_at, near_nodes, put_for, M
 use Rattle.restrict_eval.specs.Rebuilding.{made_conditional, taken_over, IsNearJoin, IsLeft, IsStood, IsFor, IsRestrictedFrom}
 use Rattle.restrict_eval.specs.Rebuilding as words
 use Rattle.restrict_eval.specs.Restricting.{IsConditional, AreConditional, ShowsMatch, IsRestrictable}
-use Rattle.restrict_eval.proofs.Fates.{near_runs, restrictable}
+use Rattle.restrict_eval.proofs.Fates.{restrictable}
 use Rattle.restrict_eval.specs.TakenLaws.{carried, with_inputs-agree, carried_conditional}
-use Rattle.restrict_eval.proofs.Nearing.{at, source_below, near_below, near_valid, near_stands}
+use Rattle.restrict_eval.proofs.Nearing.{at, finds_below, source_below, near_below, near_valid, near_stands}
 
 -- the nodes so far of a plan, and what stands for them
 pub record IsBuilt (old : List Node) (outputs : List ℕ) (front new : List Node) (to : List ℕ) : Type 0 where
@@ -168,9 +167,9 @@ module _ (old : List Node) (outputs : List ℕ) (front new : List Node) (to : Li
     match_below t right rc (inl same) = omega (arith, same.0)
     match_below t right rc (inr part) = let below : t < right = (at old plan right (Project t (map column part.0)) part.1).left_lower in omega (arith, below)
 
-    source_among : (i right rc : ℕ) → right < i → i ≤ length to → (may : IsRestrictable old outputs i right rc) → may.runs.source < length to
+    source_among : (i right rc : ℕ) → right < i → i ≤ length to → (may : IsRestrictable old outputs i right rc) → may.found.source < length to
     source_among i right rc lower below may =
-        let source : may.runs.source < may.t = (at old plan may.t (TokenRegex may.runs.source may.runs.column may.runs.low may.runs.high may.runs.pattern (0 ∷ [])) may.runs.is).left_lower in
+        let source : may.found.source < may.t = finds_below old plan may.t may.found.source may.found.part may.found.finds in
         let base : may.t ≤ right = match_below may.t right rc may.match in
         omega (arith, source, base, lower, below)
 
@@ -180,7 +179,7 @@ module _ (old : List Node) (outputs : List ℕ) (front new : List Node) (to : Li
         let left : is.left < i = at_join.left_lower in
         let right : is.right < i = at_join.right_lower in
         let left_is : new_number to is.left ≡ new_number more is.left = sym (look_kept is.left (omega (arith, left, below))) in
-        let source_is : new_number to is.may.runs.source ≡ new_number more is.may.runs.source = sym (look_kept is.may.runs.source (source_among i is.right is.rc right (omega (arith, below)) is.may)) in
+        let source_is : new_number to is.may.found.source ≡ new_number more is.may.found.source = sym (look_kept is.may.found.source (source_among i is.right is.rc right (omega (arith, below)) is.may)) in
         record {
           left = is.left;
           right = is.right;
@@ -192,8 +191,8 @@ module _ (old : List Node) (outputs : List ℕ) (front new : List Node) (to : Li
           live = is.live;
           may = is.may;
           at = ap (slice_get later) (sym same)
-              ∙ (there_later m (Restricted (new_number to is.left) (new_number to is.may.runs.source) is.kind is.lc (sought.TokenRegex is.may.runs.low is.may.runs.high is.may.runs.pattern)) is.at
-              ∙ ap₂ (λ (o s : ℕ). Some (Restricted o s is.kind is.lc (sought.TokenRegex is.may.runs.low is.may.runs.high is.may.runs.pattern))) left_is source_is);
+              ∙ (there_later m (Restricted (new_number to is.left) (new_number to is.may.found.source) is.kind is.lc is.may.found.part) is.at
+              ∙ ap₂ (λ (o s : ℕ). Some (Restricted o s is.kind is.lc is.may.found.part)) left_is source_is);
         }
 
     stood_later : (i : ℕ) (x : Node) → slice_get old i ≡ Some x → i < length to → IsStood old outputs new to i x → IsStood old outputs later more i x
@@ -230,13 +229,11 @@ module _ (old : List Node) (outputs : List ℕ) (front new : List Node) (to : Li
     near_put : (near : Near) (is : IsRestriction old outputs j near) (m : ℕ)
         → slice_get later m ≡ Some (Restricted (new_number to is.left) (new_number to near.source) is.kind is.lc near.sought) → IsNearJoin old outputs later more j m
     near_put near is m stands =
-        let runs = near_runs old outputs j near is in
         let at_join = join_at near is in
         let left : is.left < j = at_join.left_lower in
         let right : is.right < j = at_join.right_lower in
         let source : near.source < is.right = source_below old plan is.right is.rc near is.is_near in
-        let source_is : new_number to near.source ≡ new_number more runs.0.source =
-        sym (look_kept near.source (omega (arith, source, right, long))) ∙ ap (new_number more) (sym runs.1) in
+        let source_is : new_number to near.source ≡ new_number more near.source = sym (look_kept near.source (omega (arith, source, right, long))) in
         record {
           left = is.left;
           right = is.right;
@@ -247,9 +244,7 @@ module _ (old : List Node) (outputs : List ℕ) (front new : List Node) (to : Li
           is = is.is;
           live = is.live;
           may = restrictable old outputs j near is;
-          at = stands
-              ∙ (ap (λ (part : _). Some (Restricted (new_number to is.left) (new_number to near.source) is.kind is.lc part)) runs.2
-              ∙ ap₂ (λ (o s : ℕ). Some (Restricted o s is.kind is.lc (sought.TokenRegex runs.0.low runs.0.high runs.0.pattern))) (sym (look_kept is.left (omega (arith, left, long)))) source_is);
+          at = stands ∙ ap₂ (λ (o s : ℕ). Some (Restricted o s is.kind is.lc near.sought)) (sym (look_kept is.left (omega (arith, left, long)))) source_is;
         }
 
     -- the columns above it, where they stand

@@ -5,24 +5,22 @@ use Rattle.std.specs.List.{Contains}
 use Rattle.std.proofs.lemmas.Option.{none-some, same_Some, slice_get_within, slice_get-get_or}
 use Rattle.scalar_ops.specs.Expressions.{column}
 use Rattle.algebra.specs.declared.node.JoinKind.{JoinKind}
+use Rattle.algebra.specs.declared.node.Local.{Local}
 use Rattle.algebra.specs.declared.node.Local.TheVariants as sought
 use Rattle.algebra.specs.declared.node.Node.{Node}
-use Rattle.algebra.specs.declared.node.Node.TheVariants.{Doc, TokenRegex, Project, SpanJoin, Restricted}
+use Rattle.algebra.specs.declared.node.Node.TheVariants.{Doc, TokenRegex, Dict, DictPart, Project, SpanJoin, Restricted}
 use Rattle.algebra.specs.Growth.{IsAt}
 use Rattle.algebra.specs.Inputs.{IsAmong}
 use Rattle.algebra.specs.Mapping.{new_number}
 use Rattle.algebra.specs.Nodes.{IsPlan}
 use Rattle.restrict_eval.specs.Rebuilding.{IsNearJoin, IsLeft, IsStood, IsFor, IsRestrictedFrom}
 use Rattle.restrict_eval.specs.Rebuilding as words
-use Rattle.restrict_eval.specs.Restricting.{Reads, IsLive, HasRuns, ShowsMatch, IsRestrictable, AreRestricted}
+use Rattle.restrict_eval.specs.Restricting.{Reads, IsLive, Finds, HasFound, ShowsMatch, IsRestrictable, AreRestricted}
 use Rattle.restrict_eval.specs.Restricting as lives
-use Rattle.restrict_eval.specs.TakenLaws.{carried, from_doc, from_runs, from_project, from_join, reads_carried}
-use Rattle.restrict_eval.proofs.Living.{tag, one_node, mapped_contains, one_number, within, IsAbsorbed, live_over, live_under}
+use Rattle.restrict_eval.specs.TakenLaws.{carried, from_doc, from_runs, from_dict, from_dict_part, from_project, from_join, reads_carried}
+use Rattle.restrict_eval.proofs.Finding.{tag, apart, one_node, IsDictOn, finds_other}
+use Rattle.restrict_eval.proofs.Living.{mapped_contains, one_number, within, IsAbsorbed, live_over, live_under}
 use Rattle.restrict_eval.proofs.Nearing.{at}
-
--- nodes of two kinds aren't the same
-apart : (x y : Node) → x ≡ y → (tag x ≡ tag y → ⊥) → ⊥
-apart x y same other = other (ap tag same)
 
 pub lower_read : (nodes : List Node) (k i : ℕ) (node : Node) → IsAt nodes k node → Reads node i → i < k
 lower_read nodes k i node at (inl left) = subst (λ (o : Option ℕ). IsAmong k o) left at.left_lower
@@ -40,11 +38,8 @@ module _ (old : List Node) (outputs : List ℕ) (new : List Node) (to : List ℕ
   abbrev shown_now : List ℕ
   shown_now = map look outputs
 
-  abbrev runs_node : (nodes : List Node) (t : ℕ) → HasRuns nodes t → Node
-  runs_node nodes t runs = TokenRegex runs.source runs.column runs.low runs.high runs.pattern (0 ∷ [])
-
   abbrev near_node : (j n : ℕ) → IsNearJoin old outputs new to j n → Node
-  near_node j n near = Restricted (look near.left) (look near.may.runs.source) near.kind near.lc (sought.TokenRegex near.may.runs.low near.may.runs.high near.may.runs.pattern)
+  near_node j n near = Restricted (look near.left) (look near.may.found.source) near.kind near.lc near.may.found.part
 
   -- ---- what a node of the old plan is, by what stands for it
 
@@ -54,30 +49,67 @@ module _ (old : List Node) (outputs : List ℕ) (new : List Node) (to : List ℕ
   document_back i x document (words.shown n cs near above stands) =
       absurd (apart (Project n (map column cs)) Doc (one_node new (look i) (look i) _ Doc refl stands document) (λ e. omega (arith, e)))
 
-  runs_stood : (i t : ℕ) (x : Node) → slice_get old i ≡ Some x → look i ≡ t → (runs : HasRuns new t) → IsStood old outputs new to i x → HasRuns old i
-  runs_stood i t x is same runs (words.same left stands) =
-      let from = from_runs look x runs.source runs.column runs.low runs.high runs.pattern (0 ∷ []) (one_node new (look i) t (carried look x) (runs_node new t runs) same stands runs.is) in
-      let is_runs : slice_get old i ≡ Some (TokenRegex from.0 runs.column runs.low runs.high runs.pattern (0 ∷ [])) = is ∙ ap (λ (y : Node). Some y) from.1 in
-      let lower : from.0 < i = (at old plan i (TokenRegex from.0 runs.column runs.low runs.high runs.pattern (0 ∷ [])) is_runs).left_lower in
-      let there = slice_get-get_or old from.0 Doc (omega (arith, lower, slice_get_within old i x is)) in
-      record {
-        source = from.0;
-        column = runs.column;
-        low = runs.low;
-        high = runs.high;
-        pattern = runs.pattern;
-        is = is_runs;
-        document = there ∙ ap (λ (y : Node). Some y) (document_back from.0 (get_or old from.0 Doc) (ap (slice_get new) from.2 ∙ runs.document) (rebuilt.stood from.0 (get_or old from.0 Doc) there));
-      }
-  runs_stood i t x is same runs (words.near near) =
-      absurd (apart (near_node i (look i) near) (runs_node new t runs) (one_node new (look i) t _ _ same near.at runs.is) (λ e. omega (arith, e)))
-  runs_stood i t x is same runs (words.shown n cs near above stands) =
-      absurd (apart (Project n (map column cs)) (runs_node new t runs) (one_node new (look i) t _ _ same stands runs.is) (λ e. omega (arith, e)))
-
-  runs_back : (i t : ℕ) → i < length old → look i ≡ t → HasRuns new t → HasRuns old i
-  runs_back i t below same runs =
+  document_at : (i source : ℕ) → i < length old → look i ≡ source → slice_get new source ≡ Some Doc → slice_get old i ≡ Some Doc
+  document_at i source below same document =
       let there = slice_get-get_or old i Doc below in
-      runs_stood i t (get_or old i Doc) there same runs (rebuilt.stood i (get_or old i Doc) there)
+      there ∙ ap (λ (y : Node). Some y) (document_back i (get_or old i Doc) (ap (slice_get new) same ∙ document) (rebuilt.stood i (get_or old i Doc) there))
+
+  -- the node is carried to this one, which is no restricted join and no columns
+  stood_back : (i t : ℕ) (x y : Node) → look i ≡ t → slice_get new t ≡ Some y → (tag y ≡ 4 → ⊥) → (tag y ≡ 2 → ⊥) → IsStood old outputs new to i x → carried look x ≡ y
+  stood_back i t x y same at_new no_near no_columns (words.same left stands) = one_node new (look i) t (carried look x) y same stands at_new
+  stood_back i t x y same at_new no_near no_columns (words.near near) = absurd (no_near (sym (ap tag (one_node new (look i) t (near_node i (look i) near) y same near.at at_new))))
+  stood_back i t x y same at_new no_near no_columns (words.shown n cs near above stands) =
+      absurd (no_columns (sym (ap tag (one_node new (look i) t (Project n (map column cs)) y same stands at_new))))
+
+  -- a node of the old plan that is carried to this one
+  record IsCarried (i : ℕ) (y : Node) : Type 0 where
+    x : Node
+    is : slice_get old i ≡ Some x
+    carries : carried look x ≡ y
+
+  carried_back : (i t : ℕ) (y : Node) → i < length old → look i ≡ t → slice_get new t ≡ Some y → (tag y ≡ 4 → ⊥) → (tag y ≡ 2 → ⊥) → IsCarried i y
+  carried_back i t y below same at_new no_near no_columns =
+      let there = slice_get-get_or old i Doc below in
+      record { x = get_or old i Doc; is = there; carries = stood_back i t (get_or old i Doc) y same at_new no_near no_columns (rebuilt.stood i (get_or old i Doc) there) }
+
+  runs_carried : (i source c low high pattern : ℕ) → IsCarried i (TokenRegex source c low high pattern (0 ∷ [])) → (o : ℕ) × (slice_get old i ≡ Some (TokenRegex o c low high pattern (0 ∷ []))) × (look o ≡ source)
+  runs_carried i source c low high pattern back =
+      let from = from_runs look back.x source c low high pattern (0 ∷ []) back.carries in
+      (from.0, back.is ∙ ap (λ (y : Node). Some y) from.1, from.2)
+
+  part_carried : (i n : ℕ) → IsCarried i (DictPart n 0) → (o : ℕ) × (slice_get old i ≡ Some (DictPart o 0)) × (look o ≡ n)
+  part_carried i n back =
+      let from = from_dict_part look back.x n 0 back.carries in
+      (from.0, back.is ∙ ap (λ (y : Node). Some y) from.1, from.2)
+
+  dict_carried : (i source c d : ℕ) → IsCarried i (Dict source c (d ∷ [])) → (o : ℕ) × (slice_get old i ≡ Some (Dict o c (d ∷ []))) × (look o ≡ source)
+  dict_carried i source c d back =
+      let from = from_dict look back.x source c (d ∷ []) back.carries in
+      (from.0, back.is ∙ ap (λ (y : Node). Some y) from.1, from.2)
+
+  found_back : (i t : ℕ) → i < length old → look i ≡ t → HasFound new t → HasFound old i
+  found_back i t below same found = by found.part found.finds
+    where
+      by : (part : Local) → Finds new t found.source part → HasFound old i
+      by (sought.TokenRegex low high pattern) finds = runs
+          (runs_carried i found.source finds.0 low high pattern (carried_back i t (TokenRegex found.source finds.0 low high pattern (0 ∷ [])) below same finds.1 (λ e. omega (arith, e)) (λ e. omega (arith, e))))
+        where
+          runs : (o : ℕ) × (slice_get old i ≡ Some (TokenRegex o finds.0 low high pattern (0 ∷ []))) × (look o ≡ found.source) → HasFound old i
+          runs (o, is, number) =
+              let lower : o < i = (at old plan i (TokenRegex o finds.0 low high pattern (0 ∷ [])) is).left_lower in
+              record { source = o; part = sought.TokenRegex low high pattern; finds = (finds.0, is); document = document_at o found.source (omega (arith, lower, below)) number found.document }
+      by (sought.Dict d) finds = part (part_carried i finds.0 (carried_back i t (DictPart finds.0 0) below same finds.2 (λ e. omega (arith, e)) (λ e. omega (arith, e))))
+        where
+          dict : (n : ℕ) → slice_get old i ≡ Some (DictPart n 0) → n < length old → (o : ℕ) × (slice_get old n ≡ Some (Dict o finds.1 (d ∷ []))) × (look o ≡ found.source) → HasFound old i
+          dict n is there (o, is_dict, number) =
+              let lower : o < n = (at old plan n (Dict o finds.1 (d ∷ [])) is_dict).left_lower in
+              record { source = o; part = sought.Dict d; finds = (n, finds.1, is, is_dict); document = document_at o found.source (omega (arith, lower, there)) number found.document }
+
+          part : (n : ℕ) × (slice_get old i ≡ Some (DictPart n 0)) × (look n ≡ finds.0) → HasFound old i
+          part (n, is, number) =
+              let lower : n < i = (at old plan i (DictPart n 0) is).left_lower in
+              let there : n < length old = omega (arith, lower, below) in
+              dict n is there (dict_carried n found.source finds.1 d (carried_back n finds.0 (Dict found.source finds.1 (d ∷ [])) there number finds.3 (λ e. omega (arith, e)) (λ e. omega (arith, e))))
 
   -- ---- a join of the new plan that could be restricted
 
@@ -150,7 +182,7 @@ module _ (old : List Node) (outputs : List ℕ) (new : List Node) (to : List ℕ
       -- what it could look for
       record IsOfBase : Type 0 where
         t0 : ℕ
-        runs0 : HasRuns old t0
+        found0 : HasFound old t0
         match0 : ShowsMatch old t0 of.r0 rc
         t_is : look t0 ≡ may.t
 
@@ -160,18 +192,18 @@ module _ (old : List Node) (outputs : List ℕ) (new : List Node) (to : List ℕ
           let is_project : slice_get old of.r0 ≡ Some (Project from.0 (map column cs)) = is ∙ ap (λ (y : Node). Some y) from.1 in
           let lower : from.0 < of.r0 = (at old plan of.r0 (Project from.0 (map column cs)) is_project).left_lower in
           let below : from.0 < length old = (let r = right_below in omega (arith, lower, r)) in
-          record { t0 = from.0; runs0 = runs_back from.0 may.t below from.2 may.runs; match0 = inr (cs, is_project, match_at); t_is = from.2 }
+          record { t0 = from.0; found0 = found_back from.0 may.t below from.2 may.found; match0 = inr (cs, is_project, match_at); t_is = from.2 }
       of_shown x is cs stands_new match_at (words.near near) =
           absurd (apart (near_node of.r0 (look of.r0) near) (Project may.t (map column cs)) (one_node new (look of.r0) right _ _ of.right_is near.at stands_new) (λ e. omega (arith, e)))
       of_shown x is cs stands_new match_at (words.shown n ds near above stands) =
           let same : Project n (map column ds) ≡ Project may.t (map column cs) = one_node new (look of.r0) right _ _ of.right_is stands stands_new in
           let base : n ≡ may.t = cc in
-          absurd (apart (near_node of.r0 n near) (runs_node new may.t may.runs) (one_node new n may.t _ _ base near.at may.runs.is) (λ e. omega (arith, e)))
+          absurd (finds_other new may.t n (near_node of.r0 n near) may.found (sym base) near.at (λ e. omega (arith, e)))
 
       of_match : ShowsMatch new may.t right rc → IsOfBase
       of_match (inl whole) =
           let same : look of.r0 ≡ may.t = of.right_is ∙ whole.0 in
-          record { t0 = of.r0; runs0 = runs_back of.r0 may.t right_below same may.runs; match0 = inl (refl, whole.1); t_is = same }
+          record { t0 = of.r0; found0 = found_back of.r0 may.t right_below same may.found; match0 = inl (refl, whole.1); t_is = same }
       of_match (inr part) =
           let there = slice_get-get_or old of.r0 Doc right_below in
           of_shown (get_or old of.r0 Doc) there part.0 part.1 part.2 (rebuilt.stood of.r0 (get_or old of.r0 Doc) there)
@@ -212,12 +244,17 @@ module _ (old : List Node) (outputs : List ℕ) (new : List Node) (to : List ℕ
 
         -- it isn't the document
         no_document : (i : ℕ) → IsSoughtNode i → ShowsMatch old base.t0 of.r0 rc → slice_get old i ≡ Some Doc → ⊥
-        no_document i (inr same) match document =
-            apart Doc (runs_node old base.t0 base.runs0) (one_node old i base.t0 _ _ same document base.runs0.is) (λ e. omega (arith, e))
-        no_document i (inl same) (inl whole) document =
-            apart Doc (runs_node old base.t0 base.runs0) (one_node old i base.t0 _ _ (same ∙ whole.0) document base.runs0.is) (λ e. omega (arith, e))
+        no_document i (inr same) match document = finds_other old base.t0 i Doc base.found0 (sym same) document (λ e. omega (arith, e))
+        no_document i (inl same) (inl whole) document = finds_other old base.t0 i Doc base.found0 (sym (same ∙ whole.0)) document (λ e. omega (arith, e))
         no_document i (inl same) (inr part) document =
             apart Doc (Project base.t0 (map column part.0)) (one_node old i of.r0 _ _ same document part.1) (λ e. omega (arith, e))
+
+        -- nor a `Dict` node
+        no_dict : (i source c : ℕ) (dicts : List ℕ) → IsSoughtNode i → ShowsMatch old base.t0 of.r0 rc → slice_get old i ≡ Some (Dict source c dicts) → ⊥
+        no_dict i source c dicts (inr same) match dict = finds_other old base.t0 i (Dict source c dicts) base.found0 (sym same) dict (λ e. omega (arith, e))
+        no_dict i source c dicts (inl same) (inl whole) dict = finds_other old base.t0 i (Dict source c dicts) base.found0 (sym (same ∙ whole.0)) dict (λ e. omega (arith, e))
+        no_dict i source c dicts (inl same) (inr part) dict =
+            apart (Dict source c dicts) (Project base.t0 (map column part.0)) (one_node old i of.r0 _ _ same dict part.1) (λ e. omega (arith, e))
 
         -- the join itself isn't one that was restricted
         not_near : (j2 n : ℕ) (near : IsNearJoin old outputs new to j2 n) → j2 ≡ of.i → ⊥
@@ -258,7 +295,7 @@ module _ (old : List Node) (outputs : List ℕ) (new : List Node) (to : List ℕ
         read_new node i (inr same) reads = inr (subst (λ (m : ℕ). Reads node m) (ap look same ∙ base.t_is) reads)
 
         no_right : (n : ℕ) (k : ℕ) (near : IsNearJoin old outputs new to k n) → n ≡ right → ShowsMatch new may.t right rc → ⊥
-        no_right n k near same (inl whole) = apart (near_node k n near) (runs_node new may.t may.runs) (one_node new n may.t _ _ (same ∙ whole.0) near.at may.runs.is) (λ e. omega (arith, e))
+        no_right n k near same (inl whole) = finds_other new may.t n (near_node k n near) may.found (sym (same ∙ whole.0)) near.at (λ e. omega (arith, e))
         no_right n k near same (inr part) = apart (near_node k n near) (Project may.t (map column part.0)) (one_node new n right _ _ same near.at part.1) (λ e. omega (arith, e))
 
         near_reader : (k i n : ℕ) (node : Node) → slice_get old k ≡ Some node → IsSoughtNode i → Reads node i → (near : IsNearJoin old outputs new to k n) → IsLive new shown_now n → IsOneOf k
@@ -287,13 +324,30 @@ module _ (old : List Node) (outputs : List ℕ) (new : List Node) (to : List ℕ
         stood_reader k i node is sought_node reads alive (words.shown n cs near above stands) =
             near_reader k i n node is sought_node reads near (lives.input (look k) n (Project n (map column cs)) stands (inl refl) alive)
 
-        -- a node that another join looked for
-        runs_reader : (k i : ℕ) (node : Node) → slice_get old k ≡ Some node → IsSoughtNode i → Reads node i → (t : ℕ) (runs : HasRuns old t) → k ≡ t → IsOneOf k
-        runs_reader k i node is sought_node reads t runs same = read (subst (λ (x : Node). Reads x i) (one_node old k t node (runs_node old t runs) same is runs.is) reads)
+        -- nodes that another join looked for
+        dict_reader : (k i : ℕ) (node : Node) → slice_get old k ≡ Some node → IsSoughtNode i → Reads node i → (source : ℕ) → slice_get old source ≡ Some Doc → IsDictOn old source k → IsOneOf k
+        dict_reader k i node is sought_node reads source document dict =
+            read (subst (λ (x : Node). Reads x i) (one_node old k k node (Dict source dict.0 (dict.1 ∷ [])) refl is dict.2) reads)
           where
-            read : Reads (runs_node old t runs) i → IsOneOf k
-            read (inl e) = absurd (no_document i sought_node base.match0 (ap (slice_get old) (sym (same_Some runs.source i e)) ∙ runs.document))
+            read : Reads (Dict source dict.0 (dict.1 ∷ [])) i → IsOneOf k
+            read (inl e) = absurd (no_document i sought_node base.match0 (ap (slice_get old) (sym (same_Some source i e)) ∙ document))
             read (inr e) = absurd (none-some i e)
+
+        found_reader : (k i : ℕ) (node : Node) → slice_get old k ≡ Some node → IsSoughtNode i → Reads node i → (t : ℕ) (found : HasFound old t) → k ≡ t → IsOneOf k
+        found_reader k i node is sought_node reads t found same = by found.part found.finds
+          where
+            by : (part : Local) → Finds old t found.source part → IsOneOf k
+            by (sought.TokenRegex low high pattern) finds =
+                read (subst (λ (x : Node). Reads x i) (one_node old k t node (TokenRegex found.source finds.0 low high pattern (0 ∷ [])) same is finds.1) reads)
+              where
+                read : Reads (TokenRegex found.source finds.0 low high pattern (0 ∷ [])) i → IsOneOf k
+                read (inl e) = absurd (no_document i sought_node base.match0 (ap (slice_get old) (sym (same_Some found.source i e)) ∙ found.document))
+                read (inr e) = absurd (none-some i e)
+            by (sought.Dict d) finds = read (subst (λ (x : Node). Reads x i) (one_node old k t node (DictPart finds.0 0) same is finds.2) reads)
+              where
+                read : Reads (DictPart finds.0 0) i → IsOneOf k
+                read (inl e) = absurd (no_dict i found.source finds.1 (d ∷ []) sought_node base.match0 (ap (slice_get old) (sym (same_Some finds.0 i e)) ∙ finds.3))
+                read (inr e) = absurd (none-some i e)
 
         owner_here : (k i : ℕ) (owner : IsOwner i) → owner.o ≡ k → IsOneOf k
         owner_here k i owner same = by owner.which
@@ -302,12 +356,14 @@ module _ (old : List Node) (outputs : List ℕ) (new : List Node) (to : List ℕ
             by (inl is_join) = inl (sym same ∙ is_join)
             by (inr is_columns) = inr (sym same ∙ is_columns.0)
 
-        absorbed_reader : (k i : ℕ) (node : Node) → slice_get old k ≡ Some node → IsSoughtNode i → Reads node i → (j2 n : ℕ) (near : IsNearJoin old outputs new to j2 n) → (k ≡ near.right) ⊎ (k ≡ near.may.t) → IsOneOf k
-        absorbed_reader k i node is sought_node reads j2 n near (inr same) = runs_reader k i node is sought_node reads near.may.t near.may.runs same
+        absorbed_reader : (k i : ℕ) (node : Node) → slice_get old k ≡ Some node → IsSoughtNode i → Reads node i → (j2 n : ℕ) (near : IsNearJoin old outputs new to j2 n)
+            → (k ≡ near.right) ⊎ ((k ≡ near.may.t) ⊎ IsDictOn old near.may.found.source k) → IsOneOf k
+        absorbed_reader k i node is sought_node reads j2 n near (inr (inr dict)) = dict_reader k i node is sought_node reads near.may.found.source near.may.found.document dict
+        absorbed_reader k i node is sought_node reads j2 n near (inr (inl same)) = found_reader k i node is sought_node reads near.may.t near.may.found same
         absorbed_reader k i node is sought_node reads j2 n near (inl same) = shown near.may.match
           where
             shown : ShowsMatch old near.may.t near.right near.rc → IsOneOf k
-            shown (inl whole) = runs_reader k i node is sought_node reads near.may.t near.may.runs (same ∙ whole.0)
+            shown (inl whole) = found_reader k i node is sought_node reads near.may.t near.may.found (same ∙ whole.0)
             shown (inr part) = read (subst (λ (x : Node). Reads x i) (one_node old k near.right node (Project near.may.t (map column part.0)) same is part.1) reads)
               where
                 read : Reads (Project near.may.t (map column part.0)) i → IsOneOf k
@@ -331,7 +387,7 @@ module _ (old : List Node) (outputs : List ℕ) (new : List Node) (to : List ℕ
         could : IsRestrictable old outputs of.i of.r0 rc
         could = record {
           t = base.t0;
-          runs = base.runs0;
+          found = base.found0;
           match = base.match0;
           unshown = (
             λ listed. may.unshown.0 (subst (λ (m : ℕ). Contains shown_now m) of.right_is (mapped_contains look outputs of.r0 listed)),

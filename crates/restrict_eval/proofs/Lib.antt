@@ -1,3 +1,5 @@
+-- the node that has what is found
+pub mod Finding
 -- columns of what is found
 pub mod Showing
 -- who reads a node

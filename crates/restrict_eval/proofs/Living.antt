@@ -9,29 +9,17 @@ use Rattle.span_token.specs.RisingLists.{Contains-here}
 use Rattle.std.proofs.lemmas.Option.{none-some, same_Some, slice_get_within, slice_get-get_or}
 use Rattle.scalar_ops.specs.Expressions.{column}
 use Rattle.algebra.specs.declared.node.Node.{Node}
-use Rattle.algebra.specs.declared.node.Node.TheVariants.{Doc, TokenRegex, Project, SpanJoin, Restricted}
+use Rattle.algebra.specs.declared.node.Node.TheVariants.{Doc, TokenRegex, Dict, DictPart, Project, SpanJoin, Restricted}
+use Rattle.algebra.specs.declared.node.Local.{Local}
 use Rattle.algebra.specs.declared.node.Local.TheVariants as sought
 use Rattle.algebra.specs.Inputs.{left_input, right_input}
 use Rattle.algebra.specs.Mapping.{new_number}
 use Rattle.restrict_eval.specs.Rebuilding.{IsNearJoin, IsLeft, IsStood, IsFor, IsRestrictedFrom}
 use Rattle.restrict_eval.specs.Rebuilding as words
-use Rattle.restrict_eval.specs.Restricting.{Reads, IsLive, HasRuns, ShowsMatch, IsRestrictable}
+use Rattle.restrict_eval.specs.Restricting.{Reads, IsLive, Finds, ShowsMatch, IsRestrictable}
 use Rattle.restrict_eval.specs.Restricting as lives
 use Rattle.restrict_eval.specs.TakenLaws.{carried, carried-left, carried-right, reads_carried}
-
--- ---- nodes of different kinds
-
-abbrev pub tag : Node → ℕ
-tag Doc = 0
-tag (TokenRegex i c low high p groups) = 1
-tag (Project i items) = 2
-tag (SpanJoin l r kind lc rc conditional) = 3
-tag (Restricted o s kind lc part) = 4
-tag node = 5
-
--- there is one node at a place
-pub one_node : (nodes : List Node) (m k : ℕ) (x y : Node) → m ≡ k → slice_get nodes m ≡ Some x → slice_get nodes k ≡ Some y → x ≡ y
-one_node nodes m k x y same at_m at_k = same_Some x y (sym at_m ∙ (ap (slice_get nodes) same ∙ at_k))
+use Rattle.restrict_eval.proofs.Finding.{one_node, IsDictOn}
 
 -- ---- lists
 
@@ -92,47 +80,63 @@ module _ (old : List Node) (outputs : List ℕ) (new : List Node) (to : List ℕ
   pub within : (i : ℕ) (x : Node) → slice_get old i ≡ Some x → i < length to
   within i x is = omega (arith, slice_get_within old i x is, rebuilt.mapped.long)
 
-  -- a node that is looked for near rows: the right input of a join, or that of which it shows columns
+  -- a node that is looked for near rows: the right input of a join, or that of which it shows columns, or the `Dict` node below it
   pub record IsAbsorbed (i : ℕ) : Type 0 where
     pub j : ℕ
     pub n : ℕ
     pub near : IsNearAt j n
     pub live : IsLive new shown_now n
-    pub is : (i ≡ near.right) ⊎ (i ≡ near.may.t)
+    pub is : (i ≡ near.right) ⊎ ((i ≡ near.may.t) ⊎ IsDictOn old near.may.found.source i)
 
   abbrev IsLiveOver : ℕ → Type 0
   IsLiveOver i = IsLive new shown_now (look i) ⊎ IsAbsorbed i
 
   -- what a restricted join reads is live
-  source_live : (j n : ℕ) (near : IsNearAt j n) → IsLive new shown_now n → IsLive new shown_now (look near.may.runs.source)
-  source_live j n near live = lives.input n (look near.may.runs.source) _ near.at (inr refl) live
+  source_live : (j n : ℕ) (near : IsNearAt j n) → IsLive new shown_now n → IsLive new shown_now (look near.may.found.source)
+  source_live j n near live = lives.input n (look near.may.found.source) _ near.at (inr refl) live
 
-  -- the pattern's node reads its source
-  runs_read : (j n : ℕ) (near : IsNearAt j n) → IsLive new shown_now n → (k i : ℕ) (node : Node) → slice_get old k ≡ Some node → k ≡ near.may.t → Reads node i → IsLiveOver i
-  runs_read j n near live k i node is same reads =
-      let runs = near.may.runs in
-      let is_runs = one_node old k near.may.t node (TokenRegex runs.source runs.column runs.low runs.high runs.pattern (0 ∷ [])) same is runs.is in
-      read (subst (λ (x : Node). Reads x i) is_runs reads)
+  -- the `Dict` node reads the source
+  dict_read : (j n : ℕ) (near : IsNearAt j n) → IsLive new shown_now n → (k i : ℕ) (node : Node) → slice_get old k ≡ Some node → IsDictOn old near.may.found.source k → Reads node i → IsLiveOver i
+  dict_read j n near live k i node is dict reads =
+      read (subst (λ (x : Node). Reads x i) (one_node old k k node (Dict near.may.found.source dict.0 (dict.1 ∷ [])) refl is dict.2) reads)
     where
-      read : Reads (TokenRegex near.may.runs.source near.may.runs.column near.may.runs.low near.may.runs.high near.may.runs.pattern (0 ∷ [])) i → IsLiveOver i
-      read (inl e) = inl (subst (λ (m : ℕ). IsLive new shown_now (look m)) (same_Some near.may.runs.source i e) (source_live j n near live))
+      read : Reads (Dict near.may.found.source dict.0 (dict.1 ∷ [])) i → IsLiveOver i
+      read (inl e) = inl (subst (λ (m : ℕ). IsLive new shown_now (look m)) (same_Some near.may.found.source i e) (source_live j n near live))
       read (inr e) = absurd (none-some i e)
+
+  -- the pattern's node reads the source, and a part of a `Dict` node that node
+  found_read : (j n : ℕ) (near : IsNearAt j n) → IsLive new shown_now n → (k i : ℕ) (node : Node) → slice_get old k ≡ Some node → k ≡ near.may.t → Reads node i → IsLiveOver i
+  found_read j n near live k i node is same reads = by near.may.found.part near.may.found.finds
+    where
+      by : (part : Local) → Finds old near.may.t near.may.found.source part → IsLiveOver i
+      by (sought.TokenRegex low high pattern) finds =
+          read (subst (λ (x : Node). Reads x i) (one_node old k near.may.t node (TokenRegex near.may.found.source finds.0 low high pattern (0 ∷ [])) same is finds.1) reads)
+        where
+          read : Reads (TokenRegex near.may.found.source finds.0 low high pattern (0 ∷ [])) i → IsLiveOver i
+          read (inl e) = inl (subst (λ (m : ℕ). IsLive new shown_now (look m)) (same_Some near.may.found.source i e) (source_live j n near live))
+          read (inr e) = absurd (none-some i e)
+      by (sought.Dict d) finds = read (subst (λ (x : Node). Reads x i) (one_node old k near.may.t node (DictPart finds.0 0) same is finds.2) reads)
+        where
+          read : Reads (DictPart finds.0 0) i → IsLiveOver i
+          read (inl e) = inr (record { j = j; n = n; near = near; live = live; is = inr (inr (finds.1, d, ap (slice_get old) (sym (same_Some finds.0 i e)) ∙ finds.3)) })
+          read (inr e) = absurd (none-some i e)
 
   -- what an absorbed node reads
   absorbed_read : (k i : ℕ) (node : Node) → slice_get old k ≡ Some node → Reads node i → IsAbsorbed k → IsLiveOver i
   absorbed_read k i node is reads absorbed = by absorbed.is
     where
       shown : k ≡ absorbed.near.right → ShowsMatch old absorbed.near.may.t absorbed.near.right absorbed.near.rc → IsLiveOver i
-      shown same (inl whole) = runs_read absorbed.j absorbed.n absorbed.near absorbed.live k i node is (same ∙ whole.0) reads
+      shown same (inl whole) = found_read absorbed.j absorbed.n absorbed.near absorbed.live k i node is (same ∙ whole.0) reads
       shown same (inr part) = columns_read (subst (λ (x : Node). Reads x i) (one_node old k absorbed.near.right node (Project absorbed.near.may.t (map column part.0)) same is part.1) reads)
         where
           columns_read : Reads (Project absorbed.near.may.t (map column part.0)) i → IsLiveOver i
-          columns_read (inl e) = inr (record { j = absorbed.j; n = absorbed.n; near = absorbed.near; live = absorbed.live; is = inr (sym (same_Some absorbed.near.may.t i e)) })
+          columns_read (inl e) = inr (record { j = absorbed.j; n = absorbed.n; near = absorbed.near; live = absorbed.live; is = inr (inl (sym (same_Some absorbed.near.may.t i e))) })
           columns_read (inr e) = absurd (none-some i e)
 
-      by : (k ≡ absorbed.near.right) ⊎ (k ≡ absorbed.near.may.t) → IsLiveOver i
+      by : (k ≡ absorbed.near.right) ⊎ ((k ≡ absorbed.near.may.t) ⊎ IsDictOn old absorbed.near.may.found.source k) → IsLiveOver i
       by (inl right) = shown right absorbed.near.may.match
-      by (inr base) = runs_read absorbed.j absorbed.n absorbed.near absorbed.live k i node is base reads
+      by (inr (inl base)) = found_read absorbed.j absorbed.n absorbed.near absorbed.live k i node is base reads
+      by (inr (inr dict)) = dict_read absorbed.j absorbed.n absorbed.near absorbed.live k i node is dict reads
 
   -- what a join reads in place of which node n looks near rows
   near_read : (k i n : ℕ) (node : Node) → slice_get old k ≡ Some node → Reads node i → (near : IsNearAt k n) → IsLive new shown_now n → IsLiveOver i
@@ -162,22 +166,25 @@ module _ (old : List Node) (outputs : List ℕ) (new : List Node) (to : List ℕ
   abbrev IsLiveUnder : ℕ → Type 0
   IsLiveUnder m = ((i : ℕ) × (m ≡ look i) × IsLive old outputs i) ⊎ ((i : ℕ) × IsNearAt i m)
 
-  source_under : (j n : ℕ) (near : IsNearAt j n) → IsLive old outputs near.may.runs.source
+  source_under : (j n : ℕ) (near : IsNearAt j n) → IsLive old outputs near.may.found.source
   source_under j n near =
       let right : IsLive old outputs near.right = lives.input j near.right _ near.is (inr refl) near.live in
-      let base : IsLive old outputs near.may.t = shown right near.may.match in
-      lives.input near.may.t near.may.runs.source _ near.may.runs.is (inl refl) base
+      below (shown right near.may.match) near.may.found.part near.may.found.finds
     where
       shown : IsLive old outputs near.right → ShowsMatch old near.may.t near.right near.rc → IsLive old outputs near.may.t
       shown right (inl whole) = subst (IsLive old outputs) whole.0 right
       shown right (inr part) = lives.input near.right near.may.t _ part.1 (inl refl) right
 
+      below : IsLive old outputs near.may.t → (part : Local) → Finds old near.may.t near.may.found.source part → IsLive old outputs near.may.found.source
+      below base (sought.TokenRegex low high pattern) finds = lives.input near.may.t near.may.found.source _ finds.1 (inl refl) base
+      below base (sought.Dict d) finds = lives.input finds.0 near.may.found.source _ finds.3 (inl refl) (lives.input near.may.t finds.0 _ finds.2 (inl refl) base)
+
   near_under : (j n m : ℕ) (node : Node) → slice_get new n ≡ Some node → Reads node m → IsNearAt j n → IsLiveUnder m
   near_under j n m node is reads near = read (subst (λ (x : Node). Reads x m) (one_node new n n node _ refl is near.at) reads)
     where
-      read : Reads (Restricted (look near.left) (look near.may.runs.source) near.kind near.lc (sought.TokenRegex near.may.runs.low near.may.runs.high near.may.runs.pattern)) m → IsLiveUnder m
+      read : Reads (Restricted (look near.left) (look near.may.found.source) near.kind near.lc near.may.found.part) m → IsLiveUnder m
       read (inl e) = inl (near.left, sym (same_Some (look near.left) m e), lives.input j near.left _ near.is (inl refl) near.live)
-      read (inr e) = inl (near.may.runs.source, sym (same_Some (look near.may.runs.source) m e), source_under j n near)
+      read (inr e) = inl (near.may.found.source, sym (same_Some (look near.may.found.source) m e), source_under j n near)
 
   stood_under : (i m : ℕ) (x node : Node) → slice_get old i ≡ Some x → IsLive old outputs i → slice_get new (look i) ≡ Some node → Reads node m → IsStood old outputs new to i x → IsLiveUnder m
   stood_under i m x node is live at reads (words.same left stands) =

@@ -1,5 +1,5 @@
 -- What is looked for near the left rows of a join: when it may be put in place of the join, and that it stands for it.
-use Rattle.std.proofs.Common.{◌≡◌, ◌∙◌, ℕ, zero, suc, ◌+◌, ◌<◌, ◌≤◌, Bool, List, [], ◌∷◌, ◌++◌, map, length, append_assoc, get_or, refl, sym, ap, ap₂, subst, arith, Option, Some, None}
+use Rattle.std.proofs.Common.{◌≡◌, ◌∙◌, ℕ, zero, suc, ◌+◌, ◌-◌, ◌<◌, ◌≤◌, Bool, List, [], ◌∷◌, ◌++◌, map, length, append_assoc, get_or, refl, sym, ap, ap₂, subst, arith, Option, Some, None}
 use Rattle.std.specs.Prelude.{slice_get}
 use Rattle.std.specs.List.{All, range_with_len}
 use Rattle.std.specs.Option.{IfSome}
@@ -12,27 +12,29 @@ use Rattle.span_token.specs.Documents.{Doc as Document}
 use Rattle.span_joins.specs.Joins.{joined_where}
 use Rattle.scalar_ops.specs.Expressions.{column, ReadsBelow}
 use Rattle.scalar_ops.specs.Tables.{Lists}
-use Rattle.aql_typed.specs.Trees.{token_regex, plain}
+use Rattle.aql_typed.specs.Trees.{token_regex, dict, plain}
 use Rattle.aql_typed.specs.Meaning.{Rows, projected}
 use Rattle.algebra.specs.declared.node.JoinKind.{JoinKind}
 use Rattle.algebra.specs.declared.node.Local.{Local}
 use Rattle.algebra.specs.declared.node.Local.TheVariants as sought
 use Rattle.algebra.specs.declared.node.Node.{Node}
-use Rattle.algebra.specs.declared.node.Node.TheVariants.{Doc, TokenRegex, Project, SpanJoin, Restricted}
+use Rattle.algebra.specs.declared.node.Node.TheVariants.{Doc, TokenRegex, Dict, DictPart, Project, SpanJoin, Restricted}
 use Rattle.algebra.specs.declared.shape.Shape.{Shape}
+use Rattle.algebra.specs.DictLaws.{dict_part}
 use Rattle.algebra.specs.ExtractionLaws.{columns_from}
 use Rattle.algebra.specs.Growth.{Grows, Has, Stands, IsAt}
 use Rattle.algebra.specs.GrowthLaws.{has-same, has-shape, is-at, val-is, val-kept, shape-kept, stands-added, stands-by}
 use Rattle.algebra.specs.KindLaws.{node-restricted, has-restricted, has-project}
 use Rattle.algebra.specs.Mapping.{every, new_number, IsMapped}
 use Rattle.algebra.specs.Nodes.{IsNode, IsPlan}
-use Rattle.algebra.specs.Operators.{does_join, sought_by, with_found, restricted}
+use Rattle.algebra.specs.Operators.{does_join, sought_by, with_found, part_of, restricted}
 use Rattle.algebra.specs.Shapes.{columns, document_shape, no_shape, shapes_of, IsSought}
 use Rattle.algebra.specs.Values.{val, value_after}
 use Rattle.algebra.specs.WidthLaws.{AreWide, val-wide}
 use Rattle.restrict_eval.specs.declared.nearness.Near.{Near}
-use Rattle.restrict_eval.specs.Nears.{Finds, ShowsBy, IsNear}
+use Rattle.restrict_eval.specs.Nears.{ShowsBy, IsNear}
 use Rattle.restrict_eval.specs.Putting.{beside, width_at, near_nodes}
+use Rattle.restrict_eval.specs.Restricting.{Finds}
 use Rattle.restrict_eval.proofs.Showing.{joined-shown}
 
 -- ---- columns
@@ -98,31 +100,45 @@ module _ (old : List Node) (plan : IsPlan old) where
   pub document_there : (source : ℕ) → slice_get old source ≡ Some Doc → get_or (shapes_of old) source no_shape ≡ document_shape
   document_there source is = (at source Doc is).stands.has.shaped
 
-  -- what is found, and where it stands
-  first_column : (source base c low high pattern : ℕ) → slice_get old source ≡ Some Doc → slice_get old base ≡ Some (TokenRegex source c low high pattern (0 ∷ [])) → c ≡ 0
-  first_column source base c low high pattern document is =
-      let below : c < (get_or (shapes_of old) source no_shape).width = (at base (TokenRegex source c low high pattern (0 ∷ [])) is).valid.made.1 in
-      omega (arith, below, ap (λ (s : Shape). s.width) (document_there source document))
+  -- what is found, and where it stands: the document has one column
+  pub only_column : (source c : ℕ) → slice_get old source ≡ Some Doc → c < (get_or (shapes_of old) source no_shape).width → c ≡ 0
+  only_column source c document below = omega (arith, below, ap (λ (s : Shape). s.width) (document_there source document))
+
+  pub runs_column : (source base c low high pattern : ℕ) → slice_get old source ≡ Some Doc → slice_get old base ≡ Some (TokenRegex source c low high pattern (0 ∷ [])) → c ≡ 0
+  runs_column source base c low high pattern document is = only_column source c document (at base (TokenRegex source c low high pattern (0 ∷ [])) is).valid.made.1
+
+  pub dict_column : (source n c d : ℕ) → slice_get old source ≡ Some Doc → slice_get old n ≡ Some (Dict source c (d ∷ [])) → c ≡ 0
+  dict_column source n c d document is = only_column source c document (at n (Dict source c (d ∷ [])) is).valid.made.1
 
   pub finds_below : (base source : ℕ) (part : Local) → Finds old base source part → source < base
   finds_below base source (sought.TokenRegex low high pattern) finds = (at base (TokenRegex source finds.0 low high pattern (0 ∷ [])) finds.1).left_lower
-  finds_below base source (sought.Dict d) finds = absurd finds
+  finds_below base source (sought.Dict d) finds =
+      let part : finds.0 < base = (at base (DictPart finds.0 0) finds.2).left_lower in
+      let all : source < finds.0 = (at finds.0 (Dict source finds.1 (d ∷ [])) finds.3).left_lower in
+      omega (arith, part, all)
 
   finds_rows : (lists : Lists) (doc : Document) (base source : ℕ) (part : Local) → slice_get old source ≡ Some Doc → Finds old base source part
       → val lists doc old base ≡ with_found lists doc (sought_by part) (val lists doc old source)
   finds_rows lists doc base source (sought.TokenRegex low high pattern) document finds =
       worth lists doc base (TokenRegex source finds.0 low high pattern (0 ∷ [])) finds.1
-      ∙ ap (λ (c : ℕ). with_found lists doc (token_regex c low high pattern (0 ∷ [])) (val lists doc old source)) (first_column source base finds.0 low high pattern document finds.1)
-  finds_rows lists doc base source (sought.Dict d) document finds = absurd finds
+      ∙ ap (λ (c : ℕ). with_found lists doc (token_regex c low high pattern (0 ∷ [])) (val lists doc old source)) (runs_column source base finds.0 low high pattern document finds.1)
+  finds_rows lists doc base source (sought.Dict d) document finds =
+      worth lists doc base (DictPart finds.0 0) finds.2
+      ∙ (ap (part_of 0) (worth lists doc finds.0 (Dict source finds.1 (d ∷ [])) finds.3)
+      ∙ (dict_part lists doc source finds.1 (d ∷ []) finds.0 0 d (val lists doc old source) [] [] (omega arith) refl
+      ∙ ap (λ (c : ℕ). with_found lists doc (dict c d) (val lists doc old source)) (dict_column source finds.0 finds.1 d document finds.3)))
 
   finds_wide : (base source : ℕ) (part : Local) → slice_get old source ≡ Some Doc → Finds old base source part → get_or (shapes_of old) base no_shape ≡ columns 2
   finds_wide base source (sought.TokenRegex low high pattern) document finds =
       (at base (TokenRegex source finds.0 low high pattern (0 ∷ [])) finds.1).stands.has.shaped ∙ ap (λ (s : Shape). columns (s.width + 1)) (document_there source document)
-  finds_wide base source (sought.Dict d) document finds = absurd finds
+  finds_wide base source (sought.Dict d) document finds =
+      (at base (DictPart finds.0 0) finds.2).stands.has.shaped
+      ∙ (ap (λ (s : Shape). columns (s.width - 1)) (at finds.0 (Dict source finds.1 (d ∷ [])) finds.3).stands.has.shaped
+      ∙ ap (λ (s : Shape). columns (s.width + 2 - 1)) (document_there source document))
 
   finds_sought : (base source : ℕ) (part : Local) → Finds old base source part → IsSought part
   finds_sought base source (sought.TokenRegex low high pattern) finds = (at base (TokenRegex source finds.0 low high pattern (0 ∷ [])) finds.1).valid.made.2
-  finds_sought base source (sought.Dict d) finds = absurd finds
+  finds_sought base source (sought.Dict d) finds = tt
 
   module _ (r rc : ℕ) where
     base_shown : (base source : ℕ) (part : Local) (shown : Option (List ℕ)) → ShowsBy old base r rc shown → base ≤ r

@@ -1,5 +1,5 @@
 -- Products with their sides turned.
-use Rattle.std.proofs.Common.{◌≡◌, ◌∙◌, ◌⊎◌, inl, inr, ◌↔◌, IsTrue, ℕ, zero, suc, ◌+◌, ◌<◌, ◌≤◌, Bool, List, [], ◌∷◌, ◌++◌, map, length, refl, sym, ap, ap₂, subst, arith, Some, None}
+use Rattle.std.proofs.Common.{◌≡◌, ◌∙◌, ◌⊎◌, inl, inr, ◌↔◌, IsTrue, ℕ, zero, suc, ◌+◌, ◌<◌, ◌≤◌, Bool, false, true≢false, List, [], ◌∷◌, ◌++◌, map, length, refl, sym, ap, ap₂, subst, arith, Some, None}
 use Rattle.std.specs.Prelude.{slice_get}
 use Rattle.std.specs.List.{All, flat_map, range_with_len}
 use Rattle.std.proofs.lemmas.Bool.{cases_lt}
@@ -21,7 +21,7 @@ use Rattle.aql_typed.specs.Meaning.{Rows, row_of, projected}
 use Rattle.algebra.specs.declared.node.Node.{Node}
 use Rattle.algebra.specs.declared.node.Local.{Local}
 use Rattle.algebra.specs.declared.node.Local.TheVariants as sought
-use Rattle.algebra.specs.declared.node.Node.TheVariants.{Doc, TokenRegex, Project, Cross}
+use Rattle.algebra.specs.declared.node.Node.TheVariants.{Doc, TokenRegex, DictPart, Project, Cross}
 use Rattle.algebra.specs.ExtractionLaws.{columns_from}
 use Rattle.algebra.specs.FoldLaws.{length-each}
 use Rattle.algebra.specs.Growth.{Has, Stands}
@@ -32,12 +32,11 @@ use Rattle.algebra.specs.Nodes.{IsNode, IsPlan}
 use Rattle.algebra.specs.Shapes.{columns, shape_by, no_shape, shapes_of}
 use Rattle.algebra.specs.Values.{val}
 use Rattle.algebra.specs.WidthLaws.{AreWide, val-wide}
-use Rattle.restrict_eval.specs.declared.nearness.Near.{Near}
-use Rattle.restrict_eval.specs.Nears.{plain_columns, Finds}
+use Rattle.restrict_eval.specs.Nears.{plain_columns}
 use Rattle.restrict_eval.specs.Putting.{width_at}
-use Rattle.restrict_eval.specs.Restricting.{HasRuns}
-use Rattle.restrict_eval.specs.Turning.{HasMatches, AreTurned, turned_back}
-use Rattle.restrict_eval.proofs.Fates.{plain_of, plain_are, no_runs}
+use Rattle.restrict_eval.specs.Restricting.{Finds, HasFound}
+use Rattle.restrict_eval.specs.Turning.{HasRuns, HasMatches, AreTurned, turned_back}
+use Rattle.restrict_eval.proofs.Fates.{plain_of, plain_are}
 use Rattle.restrict_eval.proofs.Growing.{get_front}
 use Rattle.restrict_eval.proofs.Nearing.{at, first_read}
 use Rattle.restrict_eval.proofs.Showing.{between}
@@ -213,14 +212,27 @@ project_runs j i c low high p items groups e = cc
 
 -- ---- what a node has
 
+module _ (nodes : List Node) where
+  no_runs : (base : ℕ) (node : Node) → slice_get nodes base ≡ Some node → ((i c low high p : ℕ) (groups : List ℕ) → node ≡ TokenRegex i c low high p groups → ⊥) → HasRuns nodes base → ⊥
+  no_runs base node is other runs =
+      other runs.source runs.column runs.low runs.high runs.pattern (0 ∷ []) (same_Some node (TokenRegex runs.source runs.column runs.low runs.high runs.pattern (0 ∷ [])) (sym is ∙ runs.is))
+
+  -- what is found is the matches of a pattern, or it isn't
+  runs_found : (base source low high pattern : ℕ) → Finds nodes base source (sought.TokenRegex low high pattern) → slice_get nodes source ≡ Some Doc → HasRuns nodes base
+  runs_found base source low high pattern finds document = record { source = source; column = finds.0; low = low; high = high; pattern = pattern; is = finds.1; document = document }
+
+  pub found_runs : (base : ℕ) → HasRuns nodes base → HasFound nodes base
+  found_runs base runs = record { source = runs.source; part = sought.TokenRegex runs.low runs.high runs.pattern; finds = (runs.column, runs.is); document = runs.document }
+
+  entries_found : (base source d : ℕ) → Finds nodes base source (sought.Dict d) → HasRuns nodes base → ⊥
+  entries_found base source d finds = no_runs base (DictPart finds.0 0) finds.2 (λ i c low high p groups e. cc)
+
+  pub told_runs : (base source : ℕ) (part : Local) (b : Bool) → Finds nodes base source part → slice_get nodes source ≡ Some Doc
+      → ((low high pattern : ℕ) → part ≡ sought.TokenRegex low high pattern → IsTrue b) → ((d : ℕ) → part ≡ sought.Dict d → b ≡ false) → IsTrue b ↔ HasRuns nodes base
+  told_runs base source (sought.TokenRegex low high pattern) b finds document told other = (λ t. runs_found base source low high pattern finds document, λ runs. told low high pattern refl)
+  told_runs base source (sought.Dict d) b finds document told other = (λ t. absurd (true≢false (sym t ∙ other d refl)), λ runs. absurd (entries_found base source d finds runs))
+
 module _ (nodes : List Node) (n : ℕ) where
-  runs_found : (base source : ℕ) (part : Local) → Finds nodes base source part → slice_get nodes source ≡ Some Doc → HasRuns nodes base
-  runs_found base source (sought.TokenRegex low high pattern) finds document = record { source = source; column = finds.0; low = low; high = high; pattern = pattern; is = finds.1; document = document }
-  runs_found base source (sought.Dict d) finds document = absurd finds
-
-  pub runs_near : (near : Near) → Finds nodes n near.source near.sought × (slice_get nodes near.source ≡ Some Doc) → HasRuns nodes n
-  runs_near near found = runs_found n near.source near.sought found.0 found.1
-
   -- of columns of another
   pub columns_have : (input : ℕ) (items : List Term) (cs : List ℕ) (b : Bool) → slice_get nodes n ≡ Some (Project input items) → plain_columns items ≡ Some cs → IsTrue b ↔ HasRuns nodes input → IsTrue b ↔ HasMatches nodes n
   columns_have input items cs b is plain_is test = (

@@ -3,12 +3,10 @@ use Rattle.std.specs.Prelude.{ℕ, ◌≡◌, ◌<◌, ◌⊎◌, Bool, List, []
 use Rattle.std.specs.Option.{option_map}
 use Rattle.scalar_ops.specs.Expressions.{Term, column, number, string, call}
 use Rattle.algebra.specs.declared.node.JoinKind.{JoinKind}
-use Rattle.algebra.specs.declared.node.Local.{Local}
-use Rattle.algebra.specs.declared.node.Local.TheVariants as sought
 use Rattle.algebra.specs.declared.node.Node.{Node}
-use Rattle.algebra.specs.declared.node.Node.TheVariants.{Doc, TokenRegex, Project, SpanJoin}
+use Rattle.algebra.specs.declared.node.Node.TheVariants.{Doc, Project, SpanJoin}
 use Rattle.restrict_eval.specs.declared.nearness.Near.{Near}
-use Rattle.restrict_eval.specs.Restricting.{Reads, IsLive, IsRestrictable}
+use Rattle.restrict_eval.specs.Restricting.{Reads, IsLive, Finds, IsRestrictable}
 
 -- the numbers of plain columns, where all are
 abbrev pub plain_columns : List Term → Option (List ℕ)
@@ -17,11 +15,6 @@ plain_columns (column n ∷ terms) = option_map (λ ns. n ∷ ns) (plain_columns
 plain_columns (number n ∷ terms) = None
 plain_columns (string t ∷ terms) = None
 plain_columns (call o args ∷ terms) = None
-
--- node t is what is found in the source
-abbrev pub Finds : List Node → ℕ → ℕ → Local → Type 0
-Finds nodes t source (sought.TokenRegex low high pattern) = (c : ℕ) × (slice_get nodes t ≡ Some (TokenRegex source c low high pattern (0 ∷ [])))
-Finds nodes t source (sought.Dict d) = ⊥
 
 -- column rc of node r is the match of node t: r is t, or these columns of it
 abbrev pub ShowsBy : List Node → ℕ → ℕ → ℕ → Option (List ℕ) → Type 0

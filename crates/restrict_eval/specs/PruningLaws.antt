@@ -5,14 +5,16 @@ use Rattle.std.specs.List.{Contains}
 use Rattle.std.proofs.lemmas.Option.{none-some, same_Some, slice_get_within}
 use Rattle.scalar_ops.specs.Expressions.{column}
 use Rattle.algebra.specs.declared.node.JoinKind.{JoinKind}
+use Rattle.algebra.specs.declared.node.Local.{Local}
+use Rattle.algebra.specs.declared.node.Local.TheVariants as sought
 use Rattle.algebra.specs.declared.node.Node.{Node}
-use Rattle.algebra.specs.declared.node.Node.TheVariants.{Doc, TokenRegex, Project, SpanJoin}
+use Rattle.algebra.specs.declared.node.Node.TheVariants.{Doc, TokenRegex, Dict, DictPart, Project, SpanJoin}
 use Rattle.algebra.specs.Inputs.{left_input, right_input, with_inputs}
 use Rattle.algebra.specs.OperatorLaws.{left-renamed, right-renamed}
-use Rattle.restrict_eval.specs.Restricting.{Reads, IsLive, HasRuns, ShowsMatch, IsRestrictable, AreRestricted}
+use Rattle.restrict_eval.specs.Restricting.{Reads, IsLive, Finds, HasFound, ShowsMatch, IsRestrictable, AreRestricted}
 use Rattle.restrict_eval.specs.Restricting as lives
 use Rattle.restrict_eval.specs.Rebuilding.{made_conditional}
-use Rattle.restrict_eval.specs.TakenLaws.{from_doc, from_runs, from_project, from_join}
+use Rattle.restrict_eval.specs.TakenLaws.{from_doc, from_runs, from_dict, from_dict_part, from_project, from_join}
 
 -- node i of the old plan has the new number `to i`, if any, and is there with its inputs renumbered; each live node has one, no
 -- two nodes have the same, and the new plan has no other node. Outputs show the nodes that they showed
@@ -75,24 +77,51 @@ module _ (old : List Node) (outputs : List ℕ) (new : List Node) (shown : List 
   live_from _ (lives.output n listed) = let from = thin.shows n listed in (from.0, from.2, lives.output from.0 from.1)
   live_from _ (lives.input k n node is reads live) = live_step k n node is reads (live_from k live)
 
-  -- patterns that are searched in the document are searched in the old plan
-  runs_from : (i n : ℕ) → to i ≡ Some n → HasRuns new n → HasRuns old i
-  runs_from i n e runs =
-      let there = TokenRegex runs.source runs.column runs.low runs.high runs.pattern (0 ∷ []) in
-      let moved = moved_at i n e (slice_get_within new n there runs.is) in
-      let from = from_runs thin.number moved.node runs.source runs.column runs.low runs.high runs.pattern (0 ∷ []) (ap made_conditional (same_node i n moved there runs.is)) in
-      let is : slice_get old i ≡ Some (TokenRegex from.0 runs.column runs.low runs.high runs.pattern (0 ∷ [])) = moved.is ∙ ap (λ (x : Node). Some x) from.1 in
-      let source : to from.0 ≡ Some runs.source = thin.inputs i n (TokenRegex from.0 runs.column runs.low runs.high runs.pattern (0 ∷ [])) from.0 e is (inl refl) ∙ ap (λ (m : ℕ). Some m) from.2 in
-      let document = moved_at from.0 runs.source source (slice_get_within new runs.source Doc runs.document) in
-      record {
-        source = from.0;
-        column = runs.column;
-        low = runs.low;
-        high = runs.high;
-        pattern = runs.pattern;
-        is = is;
-        document = document.is ∙ ap (λ (x : Node). Some x) (from_doc thin.number document.node (ap made_conditional (same_node from.0 runs.source document Doc runs.document)));
-      }
+  -- what is found in the document is found in the old plan
+  document_from : (i n : ℕ) → to i ≡ Some n → slice_get new n ≡ Some Doc → slice_get old i ≡ Some Doc
+  document_from i n e document =
+      let moved = moved_at i n e (slice_get_within new n Doc document) in
+      moved.is ∙ ap (λ (x : Node). Some x) (from_doc thin.number moved.node (ap made_conditional (same_node i n moved Doc document)))
+
+  -- the old node, and the number of its input
+  input_from : (i n o source : ℕ) (y : Node) → to i ≡ Some n → (moved : IsMoved i n) → moved.node ≡ y → left_input y ≡ Some o → thin.number o ≡ source → (slice_get old i ≡ Some y) × (to o ≡ Some source)
+  input_from i n o source y e moved same reads number =
+      let is : slice_get old i ≡ Some y = moved.is ∙ ap (λ (x : Node). Some x) same in
+      (is, thin.inputs i n y o e is (inl reads) ∙ ap (λ (m : ℕ). Some m) number)
+
+  found_from : (i n : ℕ) → to i ≡ Some n → HasFound new n → HasFound old i
+  found_from i n e found = by found.part found.finds
+    where
+      by : (part : Local) → Finds new n found.source part → HasFound old i
+      by (sought.TokenRegex low high pattern) finds =
+          let there = TokenRegex found.source finds.0 low high pattern (0 ∷ []) in
+          let moved = moved_at i n e (slice_get_within new n there finds.1) in
+          runs moved (from_runs thin.number moved.node found.source finds.0 low high pattern (0 ∷ []) (ap made_conditional (same_node i n moved there finds.1)))
+        where
+          runs : (moved : IsMoved i n) → (o : ℕ) × (moved.node ≡ TokenRegex o finds.0 low high pattern (0 ∷ [])) × (thin.number o ≡ found.source) → HasFound old i
+          runs moved (o, same, number) =
+              let was = input_from i n o found.source (TokenRegex o finds.0 low high pattern (0 ∷ [])) e moved same refl number in
+              record { source = o; part = sought.TokenRegex low high pattern; finds = (finds.0, was.0); document = document_from o found.source was.1 found.document }
+      by (sought.Dict d) finds =
+          let moved = moved_at i n e (slice_get_within new n (DictPart finds.0 0) finds.2) in
+          part moved (from_dict_part thin.number moved.node finds.0 0 (ap made_conditional (same_node i n moved (DictPart finds.0 0) finds.2)))
+        where
+          dict : (m : ℕ) → slice_get old i ≡ Some (DictPart m 0) → to m ≡ Some finds.0 → (moved : IsMoved m finds.0)
+              → (o : ℕ) × (moved.node ≡ Dict o finds.1 (d ∷ [])) × (thin.number o ≡ found.source) → HasFound old i
+          dict m is stays moved (o, same, number) =
+              let was = input_from m finds.0 o found.source (Dict o finds.1 (d ∷ [])) stays moved same refl number in
+              record { source = o; part = sought.Dict d; finds = (m, finds.1, is, was.0); document = document_from o found.source was.1 found.document }
+
+          below : (m : ℕ) → slice_get old i ≡ Some (DictPart m 0) → to m ≡ Some finds.0 → HasFound old i
+          below m is stays =
+              let all = Dict found.source finds.1 (d ∷ []) in
+              let moved = moved_at m finds.0 stays (slice_get_within new finds.0 all finds.3) in
+              dict m is stays moved (from_dict thin.number moved.node found.source finds.1 (d ∷ []) (ap made_conditional (same_node m finds.0 moved all finds.3)))
+
+          part : (moved : IsMoved i n) → (m : ℕ) × (moved.node ≡ DictPart m 0) × (thin.number m ≡ finds.0) → HasFound old i
+          part moved (m, same, number) =
+              let was = input_from i n m finds.0 (DictPart m 0) e moved same refl number in
+              below m was.0 was.1
 
   module _ (j left right lc rc : ℕ) (kind : JoinKind) (conditional : Bool) (at_new : slice_get new j ≡ Some (SpanJoin left right kind lc rc conditional)) (may : IsRestrictable new shown j right rc) (i : ℕ) (e : to i ≡ Some j) (r0 : ℕ) (right_to : to r0 ≡ Some right) where
     -- the node whose matches are shown
@@ -117,7 +146,7 @@ module _ (old : List Node) (outputs : List ℕ) (new : List Node) (shown : List 
     could : IsBase → IsRestrictable old outputs i r0 rc
     could base = record {
       t = base.t0;
-      runs = runs_from base.t0 may.t base.base_to may.runs;
+      found = found_from base.t0 may.t base.base_to may.found;
       match = base.match0;
       unshown = (λ listed. may.unshown.0 (thin.listed r0 right listed right_to), λ listed. may.unshown.1 (thin.listed base.t0 may.t listed base.base_to));
       alone = λ k node is live reads. told k (thin.live k live) node is live reads;

@@ -3,7 +3,6 @@
 use Rattle.std.specs.Prelude.{ℕ, ◌+◌, ◌≡◌, ◌<◌, Bool, true, List, length, map, Some, slice_get}
 use Rattle.scalar_ops.specs.Expressions.{column}
 use Rattle.algebra.specs.declared.node.JoinKind.{JoinKind}
-use Rattle.algebra.specs.declared.node.Local.TheVariants as sought
 use Rattle.algebra.specs.declared.node.Node.{Node}
 use Rattle.algebra.specs.declared.node.Node.TheVariants.{Project, Cross, SpanJoin, Restricted}
 use Rattle.algebra.specs.Inputs.{with_inputs}
@@ -32,8 +31,7 @@ module _ (old : List Node) (outputs : List ℕ) (new : List Node) (to : List ℕ
     pub is : slice_get old j ≡ Some (SpanJoin left right kind lc rc conditional)
     pub live : IsLive old outputs j
     pub may : IsRestrictable old outputs j right rc
-    pub at : slice_get new n
-        ≡ Some (Restricted (new_number to left) (new_number to may.runs.source) kind lc (sought.TokenRegex may.runs.low may.runs.high may.runs.pattern))
+    pub at : slice_get new n ≡ Some (Restricted (new_number to left) (new_number to may.found.source) kind lc may.found.part)
 
   -- the node isn't a live join of which the right input can be looked for near its left rows
   abbrev pub IsLeft : ℕ → Node → Type 0

@@ -163,6 +163,25 @@ module _ (to : ℕ → ℕ) where
   from_dict (Group i keys aggs) i' c' dicts' e = cc
   from_dict (OrderLimit i keys limit) i' c' dicts' e = cc
 
+  -- what is carried to a `DictPart` node is one
+  pub from_dict_part : (node : Node) (i' place' : ℕ) → carried to node ≡ DictPart i' place' → (j : ℕ) × (node ≡ DictPart j place') × (to j ≡ i')
+  from_dict_part Doc i' place' e = cc
+  from_dict_part (Regex i c p groups) i' place' e = cc
+  from_dict_part (TokenRegex i c low high p groups) i' place' e = cc
+  from_dict_part (Dict i c dicts) i' place' e = cc
+  from_dict_part (DictPart i place) i' place' e = (i, cc, cc)
+  from_dict_part (Blocks i c low high from upto tokens) i' place' e = cc
+  from_dict_part (Select i conds) i' place' e = cc
+  from_dict_part (Project i items) i' place' e = cc
+  from_dict_part (Cross l r conditional) i' place' e = cc
+  from_dict_part (SpanJoin l r join lc rc conditional) i' place' e = cc
+  from_dict_part (Restricted o s join lc part) i' place' e = cc
+  from_dict_part (Union l r) i' place' e = cc
+  from_dict_part (Minus l r) i' place' e = cc
+  from_dict_part (Consolidate i policy target) i' place' e = cc
+  from_dict_part (Group i keys aggs) i' place' e = cc
+  from_dict_part (OrderLimit i keys limit) i' place' e = cc
+
   -- what is carried to a `SpanJoin` node is one
   pub from_join : (node : Node) (l' r' : ℕ) (join' : JoinKind) (lc' rc' : ℕ) (conditional' : Bool) → carried to node ≡ SpanJoin l' r' join' lc' rc' conditional' → (i j : ℕ) × (b : Bool) × (node ≡ SpanJoin i j join' lc' rc' b) × (to i ≡ l') × (to j ≡ r')
   from_join Doc l' r' join' lc' rc' conditional' e = cc

@@ -1,12 +1,21 @@
 -- Which side of a product stands on its left.
-use Rattle.std.specs.Prelude.{ℕ, ◌≡◌, ◌⊎◌, Bool, List, ◌++◌, map, Some, slice_get}
+use Rattle.std.specs.Prelude.{ℕ, ◌≡◌, ◌⊎◌, Bool, List, [], ◌∷◌, ◌++◌, map, Some, slice_get}
 use Rattle.scalar_ops.specs.Expressions.{Term, column}
 use Rattle.algebra.specs.declared.node.Node.{Node}
-use Rattle.algebra.specs.declared.node.Node.TheVariants.{Project, Cross}
+use Rattle.algebra.specs.declared.node.Node.TheVariants.{Doc, TokenRegex, Project, Cross}
 use Rattle.algebra.specs.ExtractionLaws.{columns_from}
-use Rattle.restrict_eval.specs.Restricting.{HasRuns}
 
--- node n has the matches of a token-bounded pattern in the document, or plain columns of them
+-- node t has the matches of a token-bounded pattern in the document
+pub record HasRuns (nodes : List Node) (t : ℕ) : Type 0 where
+  pub source : ℕ
+  pub column : ℕ
+  pub low : ℕ
+  pub high : ℕ
+  pub pattern : ℕ
+  pub is : slice_get nodes t ≡ Some (TokenRegex source column low high pattern (0 ∷ []))
+  pub document : slice_get nodes source ≡ Some Doc
+
+-- node n has them, or plain columns of them
 pub record HasMatches (nodes : List Node) (n : ℕ) : Type 0 where
   pub t : ℕ
   pub runs : HasRuns nodes t

@@ -3,9 +3,9 @@
 ghost use Rattle.std.specs.Prelude.{◌≡◌, ◌<◌, ◌↔◌, ◌∷◌, [], ℕ, Some, None, List, IsTrue, length, map, slice_get, All, IfOk, IfSome, IfNone};
 ghost use Rattle.scalar_ops.specs.Views.{term_of};
 ghost use Rattle.algebra.specs.declared.node.Node.TheVariants as variant;
-ghost use Rattle.restrict_eval.specs.Nears.{plain_columns, Finds, IsNear, IsFate, AreFates};
+ghost use Rattle.restrict_eval.specs.Nears.{plain_columns, IsNear, IsFate, AreFates};
 ghost use Rattle.restrict_eval.specs.Readers.{AreReaders};
-ghost use Rattle.restrict_eval.specs.Restricting.{HasRuns, ShowsMatch};
+ghost use Rattle.restrict_eval.specs.Restricting.{Finds, HasFound, ShowsMatch};
 
 use crate::readers::{Readers, readers_of};
 use algebra::{Local, Node, Nodes, PlanOut};
@@ -78,7 +78,7 @@ fn restriction(
 fn near_of(alloc: Global, nodes: &Nodes, right: u32, rc: u32) -> Result<Option<Near>, OutOfMemory>
     requires there { right < length nodes.now }
     ensures some { IfOk result (λ near. IfSome near (λ near. IsNear nodes.now right rc near)) }
-    ensures none { IfOk result (λ near. IfNone near ((t : ℕ) → HasRuns nodes.now t → ShowsMatch nodes.now t right rc → ⊥)) }
+    ensures none { IfOk result (λ near. IfNone near ((t : ℕ) → HasFound nodes.now t → ShowsMatch nodes.now t right rc → ⊥)) }
 {
     match nodes.get(right) {
         Node::Project { input, items } => {
@@ -133,7 +133,7 @@ pub(crate) fn sought_by(nodes: &Nodes, base: u32, columns: Option<OwnedList<u32>
     requires there { base < length nodes.now }
     ensures base { IfSome result (λ near. (near.base ≡ base) × (near.columns ≡ columns)) }
     ensures some { IfSome result (λ near. Finds nodes.now base near.source near.sought × (slice_get nodes.now near.source ≡ Some variant.Doc)) }
-    ensures none { IfNone result (HasRuns nodes.now base → ⊥) }
+    ensures none { IfNone result (HasFound nodes.now base → ⊥) }
 {
     match nodes.get(base) {
         Node::TokenRegex {
@@ -159,8 +159,54 @@ pub(crate) fn sought_by(nodes: &Nodes, base: u32, columns: Option<OwnedList<u32>
                 None
             }
         }
+        Node::DictPart { input, place } => entries_of(nodes, base, *input, *place, columns),
         _ => None,
     }
+}
+
+/// The same, where node `base` has the matches at this place of node `input`. A node that has several
+/// dictionaries looks for all of them in one walk, which is made for the others anyway.
+fn entries_of(
+    nodes: &Nodes,
+    base: u32,
+    input: u32,
+    place: u32,
+    columns: Option<OwnedList<u32>>,
+) -> Option<Near>
+    requires there { input < length nodes.now }
+    requires is { slice_get nodes.now base ≡ Some (variant.DictPart input place) }
+    ensures base { IfSome result (λ near. (near.base ≡ base) × (near.columns ≡ columns)) }
+    ensures some { IfSome result (λ near. Finds nodes.now base near.source near.sought × (slice_get nodes.now near.source ≡ Some variant.Doc)) }
+    ensures none { IfNone result (HasFound nodes.now base → ⊥) }
+{
+    match nodes.get(input) {
+        Node::Dict {
+            input: source,
+            dicts,
+            ..
+        } => {
+            if is_single(dicts.as_slice(), place) && is_document(nodes.get(*source)) {
+                Some(Near {
+                    base,
+                    source: *source,
+                    sought: Local::Dict {
+                        dict: dicts.as_slice()[0],
+                    },
+                    columns,
+                })
+            } else {
+                None
+            }
+        }
+        _ => None,
+    }
+}
+
+/// Whether this is the place of the only dictionary.
+fn is_single(dicts: &[u32], place: u32) -> bool
+    ensures { IsTrue result ↔ ((place ≡ 0) × (length dicts.now ≡ 1)) }
+{
+    place == 0 && dicts.len() == 1
 }
 
 /// Whether the groups are the whole match alone.

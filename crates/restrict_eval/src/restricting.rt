@@ -13,13 +13,14 @@ use span_token::OutOfMemory;
 use std::alloc::Global;
 
 /// The plan in which every join is conditional, and the right input of a join is looked for near its left
-/// rows where it is the matches of a token-bounded pattern in the document that nobody else needs.
+/// rows where it is the matches in the document of a token-bounded pattern, or of a dictionary that is the
+/// only one of its `Dict` node, and nobody else needs it.
 ///
 /// Each output has its names and columns, stands where it stood, and shows on each document the same rows, as
 /// a bag. Any other node stands as it stood, with its inputs renumbered. A plain pattern is never looked for
-/// near rows: where it matches depends on what stands to the left. What a restricted join reads no more stays
-/// in the plan, where no output needs it. Takes time about linear in the plan. More nodes than `u32` can count
-/// are want of memory.
+/// near rows: where it matches depends on what stands to the left. Nor is one of several dictionaries of a
+/// node, which one walk over the document finds. What a restricted join reads no more stays in the plan, where
+/// no output needs it. Takes time about linear in the plan. More nodes than `u32` can count are want of memory.
 ///
 /// Meaning: `AreConditional`, `AreRestricted`, `specs/Restricting.antt`; `IsRestrictedFrom`,
 /// `specs/Rebuilding.antt`; `KeepsOutputs`, `specs/Plans.antt` of `algebra`.

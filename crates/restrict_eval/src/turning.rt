@@ -1,23 +1,23 @@
-//! Products with the side on their right that can be looked for near the rows of the other one.
+//! Products with the side on their right that has the matches of a token-bounded pattern.
 
-ghost use Rattle.std.specs.Prelude.{◌≡◌, ◌<◌, ◌↔◌, ◌++◌, length, map, IfOk, OnOk, IsTrue};
+ghost use Rattle.std.specs.Prelude.{◌≡◌, ◌<◌, ◌↔◌, ◌++◌, false, ℕ, length, map, IfOk, OnOk, IsTrue};
 ghost use Rattle.scalar_ops.specs.Views.{term_of};
+ghost use Rattle.algebra.specs.declared.node.Local.TheVariants as sought;
 ghost use Rattle.algebra.specs.declared.node.Node.TheVariants as variant;
 ghost use Rattle.algebra.specs.ExtractionLaws.{columns_from};
 ghost use Rattle.algebra.specs.Growth.{Stands};
 ghost use Rattle.algebra.specs.Nodes.{IsNode};
 ghost use Rattle.algebra.specs.Plans.{KeepsOutputs};
 ghost use Rattle.algebra.specs.Shapes.{shapes_of};
-ghost use Rattle.restrict_eval.specs.Turning.{HasMatches, AreTurned, turned_back};
-ghost use Rattle.restrict_eval.specs.Restricting.{HasRuns};
+ghost use Rattle.restrict_eval.specs.Turning.{HasRuns, HasMatches, AreTurned, turned_back};
 
 use crate::nearness::{plain_columns, sought_by};
-use algebra::{Node, Nodes, Plan, Rewrite, rewritten};
+use algebra::{Local, Node, Nodes, Plan, Rewrite, rewritten};
 use scalar_ops::{Expr, Exprs};
 use span_token::OutOfMemory;
 use std::alloc::Global;
 
-/// The plan in which a side of a product that can be looked for near rows isn't alone on the left.
+/// The plan in which the matches of a token-bounded pattern aren't alone on the left of a product.
 ///
 /// A product has its sides turned where the left one, and not the right one, has the matches of a
 /// token-bounded pattern in the document, or plain columns of them; a projection above it gives the columns
@@ -157,9 +157,17 @@ fn has_runs(nodes: &Nodes, n: u32) -> bool
     ensures { IsTrue result ↔ HasRuns nodes.now n }
 {
     match sought_by(nodes, n, None) {
-        Some(_near) => true,
+        Some(near) => is_pattern(&near.sought),
         None => false,
     }
+}
+
+/// Whether it is the matches of a pattern that are looked for.
+fn is_pattern(local: &Local) -> bool
+    ensures pattern { (low high pattern : ℕ) → local.now ≡ sought.TokenRegex low high pattern → IsTrue result }
+    ensures other { (d : ℕ) → local.now ≡ sought.Dict d → result ≡ false }
+{
+    matches!(local, Local::TokenRegex { .. })
 }
 
 /// The columns behind the first ones, then these.

@@ -128,6 +128,59 @@ out C 9
     ),
 ];
 
+/// Two views of a column each: `x` is found by a pattern in characters, `y` by a dictionary.
+const ENTRIES: &str = "create dictionary Words as ('b');
+     create dictionary Names as ('c', 'd');
+     create view A as extract regex /a/ on d.text as x from Document d;
+     create view B as extract dictionary Words on d.text as y from Document d;";
+
+/// Their nodes.
+const ENTRY_NODES: &str = "0 Doc
+1 Regex 0
+2 Project 1
+3 Dict 0
+4 DictPart 3
+5 Project 4
+";
+
+/// Views that join the two, and the nodes of their plans behind those. The entries are looked for near the
+/// left side where nobody else needs them: not where an output shows them, nor where another dictionary is
+/// looked for in the document, since one walk finds the entries of both.
+static ENTRY_PLANS: [(&str, &str); 3] = [
+    (
+        "create view T as select a.x, b.y from A a, B b where FollowsTok(a.x, b.y, 0, 2); output view T;",
+        "6 Cross 2 5
+7 Restricted 2 0
+8 Project 7
+9 Project 8
+out T 9
+",
+    ),
+    (
+        "create view N as extract dictionary Names on d.text as z from Document d;
+         create view T as select a.x, b.y from A a, B b where FollowsTok(a.x, b.y, 0, 2);
+         output view N; output view T;",
+        "6 DictPart 3
+7 Project 6
+8 Cross 2 5
+9 SpanJoin 2 5
+10 Project 9
+out N 7
+out T 10
+",
+    ),
+    (
+        "create view T as select a.x, b.y from A a, B b where FollowsTok(a.x, b.y, 0, 2);
+         output view B; output view T;",
+        "6 Cross 2 5
+7 SpanJoin 2 5
+8 Project 7
+out B 5
+out T 8
+",
+    ),
+];
+
 /// The plan of a program, shared, pushed and restricted.
 fn restricted(alloc: Global, program: &str) -> Result<Plan, Fail> {
     let plan = lower(alloc, typed(alloc, program)?)?;
@@ -144,6 +197,21 @@ fn joins_look_near_their_left_rows_for_what_nobody_else_needs(rt: HostRuntime) -
         let plan = restricted(alloc, program.as_str())?;
         let got = plan_text(alloc, &plan)?;
         let want = format!(in alloc; "{NODES}{want}")?;
+        assert_eq!(rt; got.as_str(), want.as_str(), "of {views}");
+    }
+    Ok(())
+}
+
+#[test]
+fn joins_look_near_their_left_rows_for_a_dictionary_that_nobody_else_needs(
+    rt: HostRuntime,
+) -> Result<(), Fail> {
+    let alloc = rt.alloc();
+    for (views, want) in &ENTRY_PLANS {
+        let program = format!(in alloc; "{ENTRIES} {views}")?;
+        let plan = restricted(alloc, program.as_str())?;
+        let got = plan_text(alloc, &plan)?;
+        let want = format!(in alloc; "{ENTRY_NODES}{want}")?;
         assert_eq!(rt; got.as_str(), want.as_str(), "of {views}");
     }
     Ok(())
@@ -217,5 +285,18 @@ fn what_can_be_looked_for_goes_right(rt: HostRuntime) -> Result<(), Fail> {
         let want = format!(in alloc; "{NODES}{want}")?;
         assert_eq!(rt; got.as_str(), want.as_str(), "of {views}");
     }
+    Ok(())
+}
+
+#[test]
+fn a_dictionary_may_stay_on_the_left(rt: HostRuntime) -> Result<(), Fail> {
+    let alloc = rt.alloc();
+    let program = format!(in alloc;
+        "{ENTRIES} create view T as select a.x, b.y from B b, A a where FollowsTok(b.y, a.x, 0, 2); output view T;"
+    )?;
+    let plan = turn(alloc, lower(alloc, typed(alloc, program.as_str())?)?)?;
+    let got = plan_text(alloc, &plan)?;
+    let want = format!(in alloc; "{ENTRY_NODES}6 Cross 5 2\n7 Select 6\n8 Project 7\nout T 8\n")?;
+    assert_eq!(rt; got.as_str(), want.as_str());
     Ok(())
 }

@@ -1,9 +1,10 @@
-ghost use Rattle.std.specs.Prelude.{◌≡◌, ◌<◌, List, length, replicate, slice_get, IfOk, IfSome};
+ghost use Rattle.std.specs.Prelude.{◌≡◌, ◌<◌, ◌≤◌, ℕ, List, Some, IsTrue, length, replicate, slice_get, IfOk, IfSome};
 ghost use Rattle.aql_regex_extract.specs.Matches.{has_match as does_match};
 ghost use Rattle.aql_regex_extract.specs.Patterns.{whole_form};
 ghost use Rattle.span_token.specs.Documents.{LiesIn};
 ghost use Rattle.span_token.specs.Extents.{extent_of};
 ghost use Rattle.span_token.specs.SourceTokens.{tokens_in};
+ghost use Rattle.dict_match.specs.declared.dict_use.DictUse.{DictUse};
 ghost use Rattle.dict_match.specs.Dictionaries.{texts_of};
 ghost use Rattle.dict_match.specs.DictMatches.{does_agree, does_match as has_dict_match};
 ghost use Rattle.scalar_ops.specs.Tables.{Lists, holds_of_pattern, holds_of_dict};
@@ -66,6 +67,16 @@ impl<'t> Tools<'t> {
             found: Vec::new(alloc),
             alloc,
         })
+    }
+
+    /// A number of tokens that no match of the dictionary with that number exceeds. No clause says that it is the
+    /// least one, nor what it is where there is no such dictionary (0).
+    pub fn most_tokens(&self, dict: u32) -> usize
+        ensures { (the : DictUse) (texts : List (List ℕ)) → slice_get self.now.dicts dict ≡ Some the → IsTrue (does_agree the texts)
+            → length texts ≤ result }
+    {
+        let tables = self.tables;
+        tables.pass.most_tokens(dict as usize)
     }
 
     /// Whether the pattern with that number matches somewhere in `text`; false where there is none.

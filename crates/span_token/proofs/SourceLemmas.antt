@@ -96,17 +96,17 @@ begin-le-end tokens first last order le lt = elim (cases_lt first last) [
 -- ---- the bytes of a run
 
 pub seen_run : (s : Inside) (now : SomeTokens) (first last : ℕ) → tokens_seen s ≡ now → AreKept s → IsUtf8 s.doc.now.text → first ≤ last →
-    last < length now.tokens →
+    last < length now.tokens → last < length s.offsets.now →
     IsBetween s.doc.now.text (run_extent now.tokens first last).begin (run_extent now.tokens first last).end
     (nth_bytes s.offsets.now first).begin (nth_bytes s.offsets.now last).end
-seen_run s now first last seen kept u le lt =
+seen_run s now first last seen kept u le lt inside =
     let tokens = tokens_of (characters s.doc.now) in
     let b = (nth_bytes s.offsets.now first).begin in
     let e = (nth_bytes s.offsets.now last).end in
     let long = seen-length s now seen kept in
     let one = seen-nth s now first seen kept (omega (arith, le, lt)) in
     let two = seen-nth s now last seen kept lt in
-    let between = run_bytes s.doc.now s.first first last s.offsets.now u le (omega (arith, lt, long, kept.number))
+    let between = run_bytes s.doc.now s.first first last s.offsets.now u le inside
     (omega (arith, lt, long, kept.in_list)) kept.offsets in
     let P : Extent → Type 0 = λ x. IsBetween s.doc.now.text x.begin (nth_token tokens (s.first + last)).end b e in
     let Q : Extent → Type 0 = λ x. IsBetween s.doc.now.text (nth_token now.tokens first).begin x.end b e in

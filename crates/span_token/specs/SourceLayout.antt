@@ -1,5 +1,6 @@
--- How `SourceTokens` keeps its tokens: by the numbers of the first and of the one behind the last, and by their bytes.
-use Rattle.std.specs.Prelude.{◌≡◌, ◌-◌, ◌≤◌, ◌<◌, ◌^◌, length, slice_range}
+-- How `SourceTokens` keeps its tokens: by the numbers of the first and of the one behind the last, and by the bytes of
+-- some of the first ones: of all, or of none where the text is ASCII, which only the time rests on.
+use Rattle.std.specs.Prelude.{◌≤◌, ◌<◌, ◌^◌, length, slice_range}
 use Rattle.span_token.specs.Documents.{characters}
 use Rattle.span_token.specs.Tokens.{tokens_of}
 use Rattle.span_token.specs.SourceTokens.{SomeTokens}
@@ -13,5 +14,4 @@ pub record AreKept (s : Inside) : Type 0 where
   pub ordered : s.first ≤ s.past
   pub in_list : s.past ≤ length (tokens_of (characters s.doc.now))
   pub fits : s.past < 2 ^ 32
-  pub number : length s.offsets.now ≡ s.past - s.first
   pub offsets : AreOffsets s.doc.now s.first s.offsets.now

@@ -233,6 +233,11 @@ impl<'d> Document<'d> {
         self.tokens.ended_by(self.text, place)
     }
 
+    /// Whether each character is known to be one byte.
+    pub(crate) fn is_ascii(&self) -> bool {
+        self.places.is_ascii()
+    }
+
     /// The byte at which character `place` begins, or the text ends.
     pub(crate) fn byte_of(&self, place: u32) -> usize
         requires { place ≤ len_of self.now }

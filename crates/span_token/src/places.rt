@@ -35,6 +35,11 @@ impl Places {
         Ok(Places::Blocks(counts))
     }
 
+    /// Whether nothing is kept, since each character is one byte.
+    pub(crate) fn is_ascii(&self) -> bool {
+        matches!(self, Places::Ascii)
+    }
+
     /// How many characters begin before byte `byte` of `text`.
     pub(crate) fn leads_before(&self, text: &str, byte: usize) -> usize
         requires fits { FitsText self.now text.now }

@@ -24,8 +24,9 @@ impl TokenRoom {
     }
 }
 
-/// Tokens of a document that stand in a row, with the bytes at which each begins and ends: the text of
-/// a run of them is found without a search. Contracts see the document and these tokens.
+/// Tokens of a document that stand in a row, with the bytes at which each begins and ends, where the text
+/// isn't ASCII: the text of a run of them is found without a search. Contracts see the document and
+/// these tokens.
 ///
 /// Tokens have numbers from 0 on.
 #[derive(Drop)]
@@ -51,8 +52,8 @@ impl<'a, 'd> Model for SourceTokens<'a, 'd> {
 impl<'a, 'd> SourceTokens<'a, 'd> {
     /// The tokens wholly in `source`.
     ///
-    /// Goes through the text of `source` once, where it isn't ASCII. Takes 8 bytes a token, and only
-    /// where `room` has none.
+    /// Where the text isn't ASCII, goes through that of `source` once, and takes 8 bytes a token, if
+    /// `room` doesn't have them.
     ///
     /// Meaning: `tokens_in`, `specs/SourceTokens.antt`.
     pub fn of(
@@ -149,6 +150,9 @@ impl<'a, 'd> SourceTokens<'a, 'd> {
         ensures text { result.now ≡ text_in self.now.doc (run_extent self.now.tokens first last) }
     {
         let offsets = self.offsets;
+        if last >= offsets.len() {
+            return self.doc.text_of(self.run(first, last));
+        }
         let begin = offsets[first].begin as usize;
         let end = offsets[last].end as usize;
         let text = self.doc.text();

@@ -12,6 +12,7 @@ mod answers;
 mod documents;
 mod hands;
 mod lines;
+mod order;
 mod ready;
 mod stretch;
 mod window;

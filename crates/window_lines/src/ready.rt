@@ -13,6 +13,7 @@ ghost use Rattle.window_lines.specs.Lines.{line_by, names_in, rows_by};
 
 use crate::answer::answer_line;
 use crate::hands::{First, Hand, Hands, Part};
+use crate::order::order_of;
 use crate::stretch::stretch_count;
 use corpus_json::{LINE_LIMIT, Layout};
 use memchr::memchr;
@@ -58,7 +59,9 @@ struct Ready<'a, 'l, 'p, P: Pool> {
     size: usize,
     /// How many pieces there are.
     count: usize,
-    /// The number of the next piece that nobody answers yet.
+    /// The numbers of pieces, in the order in which they are taken up.
+    order: &'a [usize],
+    /// The place in this order of the next piece that nobody answers yet.
     next: &'a AtomicUsize,
     ghost of_plan: { layout.now ≡ names_in schedule.now },
     ghost some: { 0 < size },
@@ -105,6 +108,8 @@ pub fn append_ready<R: Threads + Sync, P: Pool>(
 {
     let next = AtomicUsize::new(0);
     let size = piece_size(bytes.len(), hands.hands.len());
+    let count = stretch_count(bytes.len(), size);
+    let order = order_of(alloc, first, bytes, size, count)?;
     let ready = Ready {
         alloc,
         pool,
@@ -114,7 +119,8 @@ pub fn append_ready<R: Threads + Sync, P: Pool>(
         first,
         bytes,
         size,
-        count: stretch_count(bytes.len(), size),
+        count,
+        order: order.as_slice(),
         next: &next,
     };
     answer_in_threads(rt, &ready, hands.hands.as_mut_slice());
@@ -143,7 +149,7 @@ fn answer_in_threads<R: Threads + Sync, P: Pool>(
     ensures answered { HaveAnswered (line_by ready.now.schedule.now) ready.now.first.now ready.now.bytes.now hands.new }
 {
     let threads = if ready.bytes.len() >= MANY {
-        hands.len().min(ready.count).max(1)
+        hands.len().min(ready.order.len()).max(1)
     } else {
         1
     };
@@ -204,8 +210,12 @@ impl<'a, 'l, 'p, P: Pool> Ready<'a, 'l, 'p, P> {
         ensures parts { AreParts (line_by self.now.schedule.now) self.now.bytes.now hand.new.parts.items }
         ensures as_found { P.means pool.new ≡ P.means pool.old }
     {
-        'pieces: for _ in 0..self.count {
-            let n = self.next.fetch_add(1, Ordering::Relaxed);
+        'pieces: for _ in 0..self.order.len() {
+            let place = self.next.fetch_add(1, Ordering::Relaxed);
+            if place >= self.order.len() {
+                return;
+            }
+            let n = self.order[place];
             if n >= self.count {
                 return;
             }
@@ -339,7 +349,7 @@ impl<'a, 'l, 'p, P: Pool> Ready<'a, 'l, 'p, P> {
 
     /// Lets nobody take another piece, since nothing that stands behind a bad line is written.
     fn stop(&self) {
-        self.next.store(self.count, Ordering::Relaxed);
+        self.next.store(self.order.len(), Ordering::Relaxed);
     }
 }
 

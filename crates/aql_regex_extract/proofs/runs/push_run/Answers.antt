@@ -1,12 +1,10 @@
-use Rattle.std.proofs.Common.{◌≡◌, ◌∙◌, ◌+◌, ◌-◌, length, min, subst, sym, refl, arith, ap, ℕ, List}
-use Rattle.regex.specs.Patterns.{Re}
-use Rattle.regex.specs.Strings.{matcher_pattern}
+use Rattle.std.proofs.Common.{◌≡◌, ◌∙◌, ◌+◌, ◌-◌, length, min, refl, arith, ap, ℕ, List}
 use Rattle.span_token.specs.SourceTokens.{run_extent}
 use Rattle.aql_regex_extract.specs.Matches.{extents_of}
-use Rattle.aql_regex_extract.specs.Patterns.{whole_form}
 use Rattle.aql_regex_extract.specs.TokenRuns.{whole_row, longest_run, run_at}
-use Rattle.aql_regex_extract.specs.Views.{Finds}
+use Rattle.aql_regex_extract.specs.Views.{FindsWhole}
 use Rattle.aql_regex_extract.proofs.TokenRunLemmas.{PutsRow-found, longest-passed, run_at-count, ContainsExtent-run}
+use Rattle.aql_regex_extract.proofs.WholeMatchers.{IsSameWhole-trans, FindsWhole-same}
 use Rattle.aql_regex_extract.proofs.runs.push_run.Goals as goal
 use Rattle.aql_regex_extract.proofs.runs.push_run.Goals.{Else-branch}
 
@@ -14,7 +12,7 @@ pub lengths-init : goal.lengths-init
 lengths-init c =
     let n : c.min-count.result ≡ min c.args.high (length c.args.tokens.now.tokens - c.args.first) = omega (arith, c.min-count.ensures, c.len.ensures.len) in
     record {
-      same = refl;
+      same = record { pattern = refl; admitted = refl };
       count = omega (arith, n);
       left = λ pattern finds. (
         refl,
@@ -29,14 +27,14 @@ returns-then-branch-clause-run c = λ pattern finds.
     let tokens = c.args.tokens.now.tokens in
     let row = λ (k : ℕ). whole_row pattern doc c.args.groups.now (run_at tokens c.args.first k) in
     let run = run_at-count tokens c.args.first c.lengths.count (omega arith) in
-    let puts = c.in_ok-push_row.ensures.row pattern (subst (λ (re : Re). Finds re (whole_form pattern)) (sym c.lengths.invariant.same) finds) in
+    let puts = c.in_ok-push_row.ensures.row pattern (FindsWhole-same _ _ pattern c.lengths.invariant.same finds) in
     PutsRow-found row c.args.low c.lengths.count (min c.args.high (length tokens - c.args.first) + 1 - c.args.low)
     (whole_row pattern doc c.args.groups.now (run_extent tokens c.args.first (c.args.first + (c.lengths.count - 1)))) _ _ _ c.in_ok-push_row.field-0
     c.lengths-test.true (ap (whole_row pattern doc c.args.groups.now) run) (c.lengths.invariant.left pattern finds).1
     (c.lengths.invariant.left pattern finds).0 c.if-branch.true puts
 
 -- a length without a match puts nothing, and leaves the greatest to the lesser lengths
-left : (c : Else-branch) (pattern : List ℕ) → Finds (matcher_pattern c.args.matcher.now) (whole_form pattern) →
+left : (c : Else-branch) (pattern : List ℕ) → FindsWhole c.args.whole.now pattern →
     let row = longest_run pattern c.args.tokens.now.doc c.args.tokens.now.tokens c.args.groups.now c.args.first c.args.low in
     (extents_of c.push_row.new.into.items ≡ extents_of c.args.into.now.items)
     × (row (c.lengths.count - 1 + 1 - c.args.low) ≡ row (min c.args.high (length c.args.tokens.now.tokens - c.args.first) + 1 - c.args.low))
@@ -45,14 +43,14 @@ left c pattern finds =
     let tokens = c.args.tokens.now.tokens in
     let row = λ (k : ℕ). whole_row pattern doc c.args.groups.now (run_at tokens c.args.first k) in
     let run = run_at-count tokens c.args.first c.lengths.count (omega arith) in
-    let puts = c.in_ok-push_row.ensures.row pattern (subst (λ (re : Re). Finds re (whole_form pattern)) (sym c.lengths.invariant.same) finds) in
+    let puts = c.in_ok-push_row.ensures.row pattern (FindsWhole-same _ _ pattern c.lengths.invariant.same finds) in
     let passed = longest-passed row c.args.low c.lengths.count (whole_row pattern doc c.args.groups.now (run_extent tokens c.args.first (c.args.first + (c.lengths.count - 1)))) _ _
     c.in_ok-push_row.field-0 (omega arith) c.lengths-test.true (ap (whole_row pattern doc c.args.groups.now) run) c.if-branch.false puts in
     (passed.1 ∙ (c.lengths.invariant.left pattern finds).0, passed.0 ∙ (c.lengths.invariant.left pattern finds).1)
 
 pub lengths-preserved : goal.lengths-preserved
 lengths-preserved c = record {
-  same = c.push_row.ensures.same ∙ c.lengths.invariant.same;
+  same = IsSameWhole-trans _ _ _ c.lengths.invariant.same c.push_row.ensures.same;
   count = omega (arith, c.lengths.invariant.count);
   left = λ pattern finds. left c pattern finds;
   within = λ wide holds all.

@@ -1,19 +1,17 @@
 use Rattle.std.proofs.Common.{◌≡◌, ◌+◌, ◌-◌, ◌≤◌, ℕ, List, All, length, min}
-use Rattle.regex.specs.Strings.{matcher_pattern}
 use Rattle.span_token.specs.Extents.{Extent}
 use Rattle.span_token.specs.SourceTokens.{HoldsTokens}
 use Rattle.aql_regex_extract.specs.Matches.{extents_of, IsInside}
-use Rattle.aql_regex_extract.specs.Patterns.{whole_form}
 use Rattle.aql_regex_extract.specs.TokenRuns.{longest_run}
-use Rattle.aql_regex_extract.specs.Views.{Finds}
+use Rattle.aql_regex_extract.specs.Views.{FindsWhole, IsSameWhole}
 use Rattle.aql_regex_extract.proofs.runs.push_run.Given as goal
 
 abbrev pub invariant-lengths : goal.invariant-lengths
 invariant-lengths l =
     let tokens = l.tokens.tokens in record {
-      same : matcher_pattern l.matcher ≡ matcher_pattern l.initial.matcher;
+      same : IsSameWhole l.initial.whole l.whole;
       count : l.count ≤ min l.high (length tokens - l.first);
-      left : (pattern : List ℕ) → Finds (matcher_pattern l.initial.matcher) (whole_form pattern) →
+      left : (pattern : List ℕ) → FindsWhole l.initial.whole pattern →
           (extents_of l.into.items ≡ extents_of l.initial.into.items)
           × (longest_run pattern l.tokens.doc tokens l.groups l.first l.low (l.count + 1 - l.low)
           ≡ longest_run pattern l.tokens.doc tokens l.groups l.first l.low (min l.high (length tokens - l.first) + 1 - l.low));

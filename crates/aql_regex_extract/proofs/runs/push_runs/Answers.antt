@@ -1,12 +1,10 @@
-use Rattle.std.proofs.Common.{◌≡◌, ◌+◌, ◌++◌, [], ◌∙◌, ℕ, List, length, cond, ap, sym, subst, unwrap_or, append_assoc, arith}
+use Rattle.std.proofs.Common.{◌≡◌, ◌+◌, ◌++◌, [], ◌∙◌, ℕ, List, length, cond, ap, sym, unwrap_or, append_assoc, arith}
 use Rattle.std.specs.List.{filter_map, flat_map, range_with_len}
-use Rattle.regex.specs.Patterns.{Re}
-use Rattle.regex.specs.Strings.{matcher_pattern}
 use Rattle.aql_regex_extract.specs.Matches.{extents_of}
-use Rattle.aql_regex_extract.specs.Patterns.{whole_form}
 use Rattle.aql_regex_extract.specs.TokenRuns.{run_row}
-use Rattle.aql_regex_extract.specs.Views.{Finds}
+use Rattle.aql_regex_extract.specs.Views.{FindsWhole}
 use Rattle.aql_regex_extract.proofs.TokenRunLemmas.{flat-more, count-more}
+use Rattle.aql_regex_extract.proofs.WholeMatchers.{IsSameWhole-trans, FindsWhole-same}
 use Rattle.aql_regex_extract.proofs.runs.push_runs.Goals as goal
 
 pub loop-first-preserved : goal.loop-first-preserved
@@ -14,10 +12,10 @@ loop-first-preserved c =
     let doc = c.args.tokens.now.doc in
     let tokens = c.args.tokens.now.tokens in
     let first = c.loop-first.first in
-    let keeps = λ (pattern : List ℕ) (finds : Finds (matcher_pattern c.args.matcher.now) (whole_form pattern)).
-    subst (λ (re : Re). Finds re (whole_form pattern)) (sym c.loop-first.invariant.same) finds in
+    let keeps = λ (pattern : List ℕ) (finds : FindsWhole c.args.whole.now pattern).
+    FindsWhole-same _ _ pattern c.loop-first.invariant.same finds in
     record {
-      same = c.push_run.ensures.same ∙ c.loop-first.invariant.same;
+      same = IsSameWhole-trans _ _ _ c.loop-first.invariant.same c.push_run.ensures.same;
       rows = λ pattern finds.
           let row = run_row pattern doc tokens c.args.low c.args.high c.args.groups.now in
           let so_far = flat_map (λ r. r) (filter_map row (range_with_len 0 first)) in

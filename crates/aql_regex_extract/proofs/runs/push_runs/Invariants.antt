@@ -1,21 +1,19 @@
 use Rattle.std.proofs.Common.{◌≡◌, ◌≤◌, ◌++◌, ℕ, List, All, length}
 use Rattle.std.specs.List.{filter_map, flat_map, range_with_len}
-use Rattle.regex.specs.Strings.{matcher_pattern}
 use Rattle.span_token.specs.Extents.{Extent}
 use Rattle.span_token.specs.SourceTokens.{HoldsTokens}
 use Rattle.aql_regex_extract.specs.Matches.{extents_of, IsInside}
-use Rattle.aql_regex_extract.specs.Patterns.{whole_form}
 use Rattle.aql_regex_extract.specs.TokenRuns.{run_row}
-use Rattle.aql_regex_extract.specs.Views.{Finds}
+use Rattle.aql_regex_extract.specs.Views.{FindsWhole, IsSameWhole}
 use Rattle.aql_regex_extract.proofs.runs.push_runs.Given as goal
 
 abbrev pub invariant-loop-first : goal.invariant-loop-first
 invariant-loop-first l = record {
-  same : matcher_pattern l.matcher ≡ matcher_pattern l.initial.matcher;
-  rows : (pattern : List ℕ) → Finds (matcher_pattern l.initial.matcher) (whole_form pattern) →
+  same : IsSameWhole l.initial.whole l.whole;
+  rows : (pattern : List ℕ) → FindsWhole l.initial.whole pattern →
       extents_of l.into.items ≡ extents_of l.initial.into.items
       ++ flat_map (λ row. row) (filter_map (run_row pattern l.tokens.doc l.tokens.tokens l.low l.high l.groups) (range_with_len 0 l.first));
-  number : (pattern : List ℕ) → Finds (matcher_pattern l.initial.matcher) (whole_form pattern) →
+  number : (pattern : List ℕ) → FindsWhole l.initial.whole pattern →
       l.number ≡ length (filter_map (run_row pattern l.tokens.doc l.tokens.tokens l.low l.high l.groups) (range_with_len 0 l.first));
   few : l.number ≤ l.first;
   within : (wide : Extent) → HoldsTokens wide l.tokens.tokens → All (IsInside wide) l.initial.into.items → All (IsInside wide) l.into.items;

@@ -4,7 +4,7 @@ use Rattle.std.proofs.lemmas.Option.{slice_get_read}
 use Rattle.algebra.specs.declared.node.Node.{Node}
 use Rattle.restrict_eval.specs.declared.nearness.Near.{Near}
 use Rattle.restrict_eval.specs.Nears.{IsNear}
-use Rattle.restrict_eval.specs.Restricting.{HasRuns, ShowsMatch}
+use Rattle.restrict_eval.specs.Restricting.{HasFound, ShowsMatch}
 use Rattle.restrict_eval.proofs.Fates.{only_both, restriction_of, left_other, left_join}
 use Rattle.restrict_eval.proofs.nearness.restriction.Goals.{else-is_live-via-then-is_live+then-is_only+else-is_only-2, else-is_live-via-then-is_live+else-is_only, else-is_live-via-else-is_live}
 use Rattle.restrict_eval.proofs.nearness.restriction.Goals as goal
@@ -40,9 +40,9 @@ pub returns-in-None : goal.returns-in-None
 returns-in-None c outputs are =
     let nodes = c.args.nodes.now in
     let is = slice_get_read nodes (length nodes) c.args.j c.get.result.now refl c.requires.there c.get.ensures.node ∙ ap (λ (x : Node). Some x) c.in-SpanJoin.is in
-    let none : (t : ℕ) → HasRuns nodes t → ShowsMatch nodes t c.in-SpanJoin.right c.in-SpanJoin.rc → ⊥ =
-    subst (λ (o : Option Near). IfNone o ((t : ℕ) → HasRuns nodes t → ShowsMatch nodes t c.in-SpanJoin.right c.in-SpanJoin.rc → ⊥)) c.in-None.is c.in_ok-near-in-SpanJoin.ensures.none in
-    left_join nodes outputs c.args.j c.in-SpanJoin.left c.in-SpanJoin.right c.in-SpanJoin.lc c.in-SpanJoin.rc c.in-SpanJoin.kind c.in-SpanJoin.conditional is (λ live may. none may.t may.runs may.match)
+    let none : (t : ℕ) → HasFound nodes t → ShowsMatch nodes t c.in-SpanJoin.right c.in-SpanJoin.rc → ⊥ =
+    subst (λ (o : Option Near). IfNone o ((t : ℕ) → HasFound nodes t → ShowsMatch nodes t c.in-SpanJoin.right c.in-SpanJoin.rc → ⊥)) c.in-None.is c.in_ok-near-in-SpanJoin.ensures.none in
+    left_join nodes outputs c.args.j c.in-SpanJoin.left c.in-SpanJoin.right c.in-SpanJoin.lc c.in-SpanJoin.rc c.in-SpanJoin.kind c.in-SpanJoin.conditional is (λ live may. none may.t may.found may.match)
 
 pub returns-in_default : goal.returns-in_default
 returns-in_default c outputs are =

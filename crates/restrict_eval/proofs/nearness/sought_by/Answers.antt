@@ -2,9 +2,9 @@ use Rattle.std.proofs.Common.{◌≡◌, ◌∙◌, ◌<◌, ℕ, List, [], ◌�
 use Rattle.std.specs.Prelude.{slice_get}
 use Rattle.std.proofs.lemmas.Option.{same_Some, slice_get_read}
 use Rattle.algebra.specs.declared.node.Node.{Node}
-use Rattle.algebra.specs.declared.node.Node.TheVariants.{Doc, TokenRegex}
+use Rattle.algebra.specs.declared.node.Node.TheVariants.{Doc, TokenRegex, DictPart}
 use Rattle.algebra.specs.Inputs.{left_input, IsAmong}
-use Rattle.restrict_eval.proofs.Fates.{no_runs, other_runs}
+use Rattle.restrict_eval.proofs.Fates.{no_found, other_runs}
 use Rattle.restrict_eval.proofs.nearness.sought_by.Goals.{else-is_whole_match-via-then-is_whole_match+else-is_document, else-is_whole_match-via-else-is_whole_match}
 use Rattle.restrict_eval.proofs.nearness.sought_by.Goals as goal
 
@@ -46,5 +46,14 @@ returns-in_default c =
     record {
       base = tt;
       some = tt;
-      none = no_runs nodes c.args.base c.get.result.now is (λ i column low high pattern groups e. c.in_default.not-TokenRegex i column low high pattern groups e);
+      none = no_found nodes c.args.base c.get.result.now is (λ i column low high pattern groups e. c.in_default.not-TokenRegex i column low high pattern groups e) (λ i place e. c.in_default.not-DictPart i place e);
     }
+
+pub entries_of-requires : goal.entries_of-requires
+entries_of-requires c =
+    let nodes = c.args.nodes.now in
+    let t = c.in-DictPart in
+    let is : slice_get nodes c.args.base ≡ Some (DictPart t.input t.place) =
+    slice_get_read nodes (length nodes) c.args.base c.get.result.now refl c.requires.there c.get.ensures.node ∙ ap (λ (x : Node). Some x) t.is in
+    let lower : t.input < c.args.base = subst (λ (x : Node). IsAmong c.args.base (left_input x)) t.is c.get.ensures.at.left_lower in
+    record { there = omega (arith, lower, c.requires.there); is = is }

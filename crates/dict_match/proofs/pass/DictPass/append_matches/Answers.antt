@@ -13,9 +13,9 @@ returns c =
     let new = c.push_matches.new.into.items in
     let r = c.push_matches.result in
     appends-ok c.args.self.now c.args.doc.now (extent_of c.args.source) old new r
-    (subst (λ (ds : List DictUse). OnOk r (Extends (length ds) old new)) c.self.view_is (c.push_matches.ensures.added c.self.inside.dicts c.self.invariant))
+    (subst (λ (ds : List DictUse). OnOk r (Extends (length ds) old new)) c.self.view_is (c.push_matches.ensures.added c.self.inside.dicts c.self.invariant.tree))
     (λ i dict at.
     let kept = ap (λ (ds : List DictUse). slice_get ds i) c.self.view_is ∙ at in
     subst (λ (es : List Extent). OnOk r (extents_for i (map dict_and_extent new) ≡ extents_for i (map dict_and_extent old) ++ es))
     (ap₂ (matches_among dict) c.in_ok-tokens.ensures.doc c.in_ok-tokens.ensures.tokens)
-    (c.push_matches.ensures.matches c.self.inside.dicts i dict c.self.invariant kept))
+    (c.push_matches.ensures.matches c.self.inside.dicts i dict c.self.invariant.tree kept))

@@ -1,4 +1,4 @@
-use Rattle.std.proofs.Common.{◌∙◌, sym, subst, ap, length, arith, ◌-◌}
+use Rattle.std.proofs.Common.{sym, subst, arith, ◌-◌}
 use Rattle.std.proofs.lemmas.List.{take_all}
 use Rattle.span_token.specs.Documents.{characters}
 use Rattle.span_token.specs.Offsets.{AreOffsets}
@@ -10,7 +10,6 @@ invariant_of-result c = record {
   ordered = omega arith;
   in_list = omega (arith, c.token_count-past.ensures.count);
   fits = omega arith;
-  number = ap length c.as_slice.ensures.value ∙ c.in_ok-put_offsets.ensures.number;
   offsets = subst (AreOffsets c.args.doc.now 0) (sym c.as_slice.ensures.value) c.in_ok-put_offsets.ensures.offsets;
 }
 

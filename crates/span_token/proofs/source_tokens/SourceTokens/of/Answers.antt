@@ -1,4 +1,4 @@
-use Rattle.std.proofs.Common.{◌∙◌, sym, subst, ap, length, arith}
+use Rattle.std.proofs.Common.{sym, subst, arith}
 use Rattle.span_token.specs.Extents.{extent_of}
 use Rattle.span_token.specs.Offsets.{AreOffsets}
 use Rattle.span_token.specs.SourceTokens.{HoldsTokens}
@@ -14,7 +14,6 @@ invariant_of-result c = record {
   ordered = c.tokens_in-first.ensures.tokens.ordered;
   in_list = c.tokens_in-first.ensures.tokens.in_list;
   fits = omega arith;
-  number = ap length c.as_slice.ensures.value ∙ c.in_ok-put_offsets.ensures.number;
   offsets = subst (AreOffsets c.args.doc.now c.tokens_in-first.result.0) (sym c.as_slice.ensures.value) c.in_ok-put_offsets.ensures.offsets;
 }
 

@@ -2,21 +2,13 @@ use Rattle.std.proofs.Common.{◌∙◌, List, ℕ, ap, subst, arith, slice_rang
 use Rattle.span_token.specs.Documents.{text_in}
 use Rattle.span_token.specs.Offsets.{nth_bytes}
 use Rattle.span_token.specs.SourceTokens.{SomeTokens, run_extent}
-use Rattle.span_token.proofs.SourceLemmas.{seen-length, seen_run}
+use Rattle.span_token.proofs.SourceLemmas.{seen_run}
 use Rattle.span_token.proofs.source_tokens.SourceTokens.run_text.Goals as goal
-
-pub offset_bounds-offsets-first : goal.offset_bounds-offsets-first
-offset_bounds-offsets-first c =
-    omega (arith, c.requires, c.self.invariant.fits, c.self.invariant.number, seen-length c.self.inside c.args.self.now c.self.view_is c.self.invariant)
-
-pub offset_bounds-offsets-last : goal.offset_bounds-offsets-last
-offset_bounds-offsets-last c =
-    omega (arith, c.requires, c.self.invariant.fits, c.self.invariant.number, seen-length c.self.inside c.args.self.now c.self.view_is c.self.invariant)
 
 pub range-requires-clause-start_le_end : goal.range-requires-clause-start_le_end
 range-requires-clause-start_le_end c =
     (seen_run c.self.inside c.args.self.now c.args.first c.args.last c.self.view_is c.self.invariant (subst IsUtf8 c.text-text.ensures.text c.text-text.utf8)
-    c.requires.in_order c.requires.there).ordered
+    c.requires.in_order c.requires.there (omega arith)).ordered
 
 pub returns : goal.returns
 returns c =
@@ -26,6 +18,6 @@ returns c =
       text = c.range.ensures.value
           ∙ ap (λ (t : List ℕ). slice_range t b e) c.text-text.ensures.text
           ∙ (seen_run c.self.inside c.args.self.now c.args.first c.args.last c.self.view_is c.self.invariant (subst IsUtf8 c.text-text.ensures.text c.text-text.utf8)
-          c.requires.in_order c.requires.there).bytes
+          c.requires.in_order c.requires.there (omega arith)).bytes
           ∙ ap (λ (t : SomeTokens). text_in t.doc (run_extent c.args.self.now.tokens c.args.first c.args.last)) c.self.view_is;
     }
