@@ -6,12 +6,13 @@ use Rattle.std.proofs.lemmas.List.{length-map, length-take, length-drop, take_mo
 use Rattle.span_token.specs.Documents.{text_in}
 use Rattle.span_token.specs.Extents.{Extent}
 use Rattle.dict_match.specs.declared.dict_use.DictUse.{DictUse}
+use Rattle.dict_match.specs.declared.ahead.Ahead.{Ahead}
 use Rattle.dict_match.specs.declared.trie.Trie.{Trie}
 use Rattle.span_token.specs.SourceTokens.{nth_token}
 use Rattle.dict_match.specs.Dictionaries.{folded, entry_texts, texts_of, AgreesWith}
 use Rattle.span_token.specs.SourceTokens.{SomeTokens}
 use Rattle.dict_match.specs.Tries.{end_of, put_dicts, step, edge_from, Reaches}
-use Rattle.dict_match.specs.Walks.{numbers_of, run_texts, AreNumbers}
+use Rattle.dict_match.specs.Walks.{numbers_of, run_texts, AreAhead, IsNear}
 use Rattle.dict_match.proofs.PutLemmas.{agreed-put}
 
 abbrev Text : Type 0
@@ -81,13 +82,6 @@ none-longer trie dicts node tokens first last past i dict r none at le lt within
 
 -- ---- steps of loops
 
-pub numbers-step : (trie : Trie) (tokens : SomeTokens) (i : ℕ) (word : Option ℕ) → i < length tokens.tokens → word ≡ get_by_text trie.words (key tokens i) →
-    take i (numbers_of trie tokens) ++ word ∷ [] ≡ take (i + 1) (numbers_of trie tokens)
-numbers-step trie tokens i word lt is =
-    let f : Extent → Option ℕ = λ t. get_by_text trie.words (folded (text_in tokens.doc t)) in
-    sym (take_more (map f tokens.tokens) i None (omega (arith, length-map tokens.tokens f))
-    ∙ ap (λ (o : Option ℕ). take i (map f tokens.tokens) ++ o ∷ []) (get_or-map f tokens.tokens i (record { begin = 0; end = 0 }) None lt ∙ sym is))
-
 -- the text of a run's token
 pub run_texts-nth : (tokens : SomeTokens) (first past i : ℕ) → i < past - first → past ≤ length tokens.tokens → get_or (run_texts tokens first past) i [] ≡ text_in tokens.doc (nth_token tokens.tokens (first + i))
 run_texts-nth tokens first past i lt within =
@@ -111,27 +105,45 @@ pub step-of : (trie : Trie) (node : ℕ) (text : Text) (word next : Option ℕ) 
 unfolding step
 step-of trie node text word next is leads = sym (leads ∙ ap (option_and_then (edge_from trie node)) is)
 
-pub step-at : (trie : Trie) (tokens : SomeTokens) (words : List (Option ℕ)) (node last : ℕ) (d next : Option ℕ) → last < length tokens.tokens → words ≡ numbers_of trie tokens →
-    next ≡ option_and_then (edge_from trie node) (get_or words last d) → step trie node (key tokens last) ≡ next
-step-at trie tokens words node last d next lt are leads =
-    step-of trie node (key tokens last) (get_or words last d) next (ap (λ (ws : List (Option ℕ)). get_or ws last d) are ∙ number-of trie tokens last d lt) leads
+-- of those that a walk has looked at
+pub known-number : (trie : Trie) (tokens : SomeTokens) (ahead : Ahead) (i : ℕ) (d : Option ℕ) → AreAhead trie tokens ahead → ahead.begin ≤ i → i - ahead.begin < length ahead.numbers.items → i < length tokens.tokens →
+    get_or ahead.numbers.items (i - ahead.begin) d ≡ get_by_text trie.words (key tokens i)
+known-number trie tokens ahead i d are le known lt =
+    let words = ahead.numbers.items in
+    let all = numbers_of trie tokens in
+    let place : ahead.begin + (i - ahead.begin) ≡ i = omega (arith, le) in
+    ap (λ (ws : List (Option ℕ)). get_or ws (i - ahead.begin) d) are
+    ∙ get_or-take (length words) (drop ahead.begin all) (i - ahead.begin) d known
+    ∙ get_or-drop ahead.begin all (i - ahead.begin) d
+    ∙ ap (λ (n : ℕ). get_or all n d) place
+    ∙ number-of trie tokens i d lt
 
-pub known-number : (trie : Trie) (tokens : SomeTokens) (words : List (Option ℕ)) (i : ℕ) (d : Option ℕ) → AreNumbers trie tokens words → i < length words → i < length tokens.tokens →
-    get_or words i d ≡ get_by_text trie.words (key tokens i)
-known-number trie tokens words i d are known lt =
-    ap (λ (ws : List (Option ℕ)). get_or ws i d) are ∙ get_or-take (length words) (numbers_of trie tokens) i d known ∙ number-of trie tokens i d lt
-
-pub more-numbers : (trie : Trie) (tokens : SomeTokens) (words new : List (Option ℕ)) (i : ℕ) (word : Option ℕ) → AreNumbers trie tokens words → i ≡ length words → i < length tokens.tokens →
-    word ≡ get_by_text trie.words (key tokens i) → new ≡ words ++ word ∷ [] → AreNumbers trie tokens new
-more-numbers trie tokens words new i word are next lt is pushed =
-    let long : length new ≡ i + 1 = omega (arith, ap length pushed, length-append words (word ∷ []), next) in
+pub more-numbers : (trie : Trie) (tokens : SomeTokens) (ahead : Ahead) (new : List (Option ℕ)) (i : ℕ) (word : Option ℕ) → AreAhead trie tokens ahead → i ≡ ahead.begin + length ahead.numbers.items →
+    i < length tokens.tokens → word ≡ get_by_text trie.words (key tokens i) → new ≡ ahead.numbers.items ++ word ∷ [] → new ≡ take (length new) (drop ahead.begin (numbers_of trie tokens))
+more-numbers trie tokens ahead new i word are next lt is pushed =
+    let words = ahead.numbers.items in
+    let all = numbers_of trie tokens in
+    let rest = drop ahead.begin all in
+    let long : length new ≡ length words + 1 = omega (arith, ap length pushed, length-append words (word ∷ [])) in
+    let whole : length all ≡ length tokens.tokens = length-map tokens.tokens (λ (t : Extent). get_by_text trie.words (folded (text_in tokens.doc t))) in
+    let read : get_or rest (length words) None ≡ word =
+    get_or-drop ahead.begin all (length words) None ∙ ap (λ (n : ℕ). get_or all n None) (sym next) ∙ number-of trie tokens i None lt ∙ sym is in
     pushed
-    ∙ ap (λ (ws : List (Option ℕ)). ws ++ word ∷ []) (are ∙ ap (λ (n : ℕ). take n (numbers_of trie tokens)) (sym next))
-    ∙ numbers-step trie tokens i word lt is
-    ∙ ap (λ (n : ℕ). take n (numbers_of trie tokens)) (sym long)
+    ∙ ap (λ (ws : List (Option ℕ)). ws ++ word ∷ []) are
+    ∙ ap (λ (o : Option ℕ). take (length words) rest ++ o ∷ []) (sym read)
+    ∙ sym (take_more rest (length words) None (omega (arith, length-drop ahead.begin all, whole, next, lt)))
+    ∙ ap (λ (n : ℕ). take n rest) (sym long)
 
-pub no-numbers : (trie : Trie) (tokens : SomeTokens) (words : List (Option ℕ)) → words ≡ [] → AreNumbers trie tokens words
-no-numbers trie tokens words none = none ∙ sym (ap (λ (ws : List (Option ℕ)). take (length ws) (numbers_of trie tokens)) none)
+pub no-numbers : (trie : Trie) (tokens : SomeTokens) (ahead : Ahead) → ahead.numbers.items ≡ [] → AreAhead trie tokens ahead
+no-numbers trie tokens ahead none = none ∙ sym (ap (λ (ws : List (Option ℕ)). take (length ws) (drop ahead.begin (numbers_of trie tokens))) none)
+
+-- before the first token
+pub near-none : (ahead : Ahead) → ahead.begin ≡ 0 → IsNear 0 ahead
+near-none ahead is = record { «from» = omega (arith, is); to = omega (arith, is) }
+
+-- a walk goes on from the token behind its first one
+pub near-next : (first : ℕ) (ahead : Ahead) → ahead.begin ≤ first → first < ahead.begin + length ahead.numbers.items → IsNear (first + 1) ahead
+near-next first ahead le lt = record { «from» = omega (arith, le); to = omega (arith, lt) }
 
 -- all tokens as a run
 pub run-all : (tokens : SomeTokens) → run_texts tokens 0 (length tokens.tokens) ≡ texts_of tokens.doc tokens.tokens

@@ -1,10 +1,11 @@
 -- Steps of the walk over the tokens.
-use Rattle.std.specs.Prelude.{◌≡◌, ℕ, ◌<◌, ◌≤◌, ◌⊎◌, List, [], ◌∷◌, ◌++◌, ◌+◌, map, take, length, slice_index_or, slice_range, Option, Some, None}
+use Rattle.std.specs.Prelude.{◌≡◌, ℕ, ◌<◌, ◌≤◌, ◌⊎◌, List, [], ◌∷◌, ◌++◌, ◌+◌, map, take, drop, length, slice_index_or, slice_range, Option, Some, None}
 use Rattle.std.specs.List.{All, Contains}
 use Rattle.std.specs.HashMap.{get_by_text}
 use Rattle.span_token.specs.Documents.{text_in}
 use Rattle.span_token.specs.Extents.{Extent}
 use Rattle.dict_match.specs.declared.dict_use.DictUse.{DictUse}
+use Rattle.dict_match.specs.declared.ahead.Ahead.{Ahead}
 use Rattle.dict_match.specs.declared.trie.End.{End}
 use Rattle.dict_match.specs.declared.trie.Trie.{Trie}
 use Rattle.dict_match.specs.declared.walk.DictMatch.{DictMatch}
@@ -48,9 +49,14 @@ pub record HasRun (dict : DictUse) (tokens : SomeTokens) (first past : ℕ) : Ty
   pub before : last < past
   pub agrees : AgreesWith dict (run_texts tokens first (last + 1))
 
--- the numbers of the foldings of the first tokens
-abbrev pub AreNumbers : Trie → SomeTokens → List (Option ℕ) → Type 0
-AreNumbers trie tokens words = words ≡ take (length words) (numbers_of trie tokens)
+-- the numbers of the foldings of some tokens in a row
+abbrev pub AreAhead : Trie → SomeTokens → Ahead → Type 0
+AreAhead trie tokens ahead = ahead.numbers.items ≡ take (length ahead.numbers.items) (drop ahead.begin (numbers_of trie tokens))
+
+-- token number `i` is one of them, or the next one
+pub record IsNear (i : ℕ) (ahead : Ahead) : Type 0 where
+  pub «from» : ahead.begin ≤ i
+  pub to : i ≤ ahead.begin + length ahead.numbers.items
 
 -- a list goes on after another, with matches of dictionaries before place `n`
 pub record Extends (n : ℕ) (old new : List DictMatch) : Type 0 where

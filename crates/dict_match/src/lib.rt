@@ -9,6 +9,7 @@
 //! documents and tokens.
 #![tactic(auto)]
 
+mod ahead;
 mod dict_use;
 mod fold;
 mod marks;

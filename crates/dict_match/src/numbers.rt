@@ -4,7 +4,7 @@ ghost use Rattle.dict_match.specs.Dictionaries.{folded};
 ghost use Rattle.dict_match.specs.Tries.{IsTrie};
 
 use crate::fold::{fold_into, is_plain};
-use crate::marks::mark_of;
+use crate::marks::mark_where_ascii;
 use crate::trie::Trie;
 use span_token::OutOfMemory;
 
@@ -12,6 +12,7 @@ use span_token::OutOfMemory;
 ///
 /// Most ASCII texts that aren't words are told by their mark, without a fold and a look at the words. Takes
 /// memory only where `buffer` has no room for the folding.
+#[inline(always)]
 pub(crate) fn number_of_folded(
     trie: &Trie,
     text: &str,
@@ -20,9 +21,22 @@ pub(crate) fn number_of_folded(
     requires trie { IsTrie trie.now }
     ensures { IfOk result (λ number. number ≡ get_by_text trie.now.words (folded text.now)) }
 {
-    if text.is_ascii() && !trie.marks[mark_of(text)] {
-        return Ok(None);
+    if let Some(mark) = mark_where_ascii(text) {
+        if !trie.marks[mark] {
+            return Ok(None);
+        }
     }
+    number_by_words(trie, text, buffer)
+}
+
+/// The same by a look at the words.
+fn number_by_words(
+    trie: &Trie,
+    text: &str,
+    buffer: &mut String,
+) -> Result<Option<usize>, OutOfMemory>
+    ensures { IfOk result (λ number. number ≡ get_by_text trie.now.words (folded text.now)) }
+{
     if is_plain(text) {
         return Ok(trie.words.get(text).copied());
     }

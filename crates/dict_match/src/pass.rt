@@ -8,10 +8,11 @@ ghost use Rattle.dict_match.specs.Dictionaries.{texts_of, AgreesWith, IsMatch, A
 ghost use Rattle.dict_match.specs.DictMatches.{does_agree, does_match, dict_matches};
 ghost use Rattle.dict_match.specs.Rows.{dict_and_extent, extents_for, extents_of_rows, AreRowsOfEach, AppendsMatches};
 
+use crate::ahead::Ahead;
 use crate::dict_use::{DictUse, copied_dicts};
 use crate::probe::{has_run, is_entry};
 use crate::trie::Trie;
-use crate::walk::{DictMatch, number_tokens, push_matches};
+use crate::walk::{DictMatch, push_matches};
 use span_token::{Document, OutOfMemory, OwnedList, SourceTokens, Span, TokenRoom};
 use std::alloc::Global;
 use std::marker::Model;
@@ -45,7 +46,7 @@ impl Model for DictPass {
 pub struct DictScratch {
     room: TokenRoom,
     folded: String,
-    words: Vec<Option<usize>>,
+    ahead: Ahead,
 }
 
 impl DictScratch {
@@ -54,7 +55,7 @@ impl DictScratch {
         DictScratch {
             room: TokenRoom::new(alloc),
             folded: String::new(alloc),
-            words: Vec::new(alloc),
+            ahead: Ahead::new(alloc),
         }
     }
 }
@@ -128,8 +129,13 @@ impl DictPass {
         ensures { OnOk result (AppendsMatches self.now doc.now (extent_of source) (map dict_and_extent into.old.items) (map dict_and_extent into.new.items)) }
     {
         let tokens = SourceTokens::of(&mut scratch.room, doc, source)?;
-        number_tokens(&self.trie, &tokens, &mut scratch.folded, &mut scratch.words)?;
-        push_matches(&self.trie, &tokens, scratch.words.as_slice(), into)
+        push_matches(
+            &self.trie,
+            &tokens,
+            &mut scratch.folded,
+            &mut scratch.ahead,
+            into,
+        )
     }
 
     /// A number of tokens that no match of the dictionary at place `dict` of the pass exceeds: that of its longest
@@ -173,7 +179,7 @@ impl DictPass {
             dict,
             &tokens,
             &mut scratch.folded,
-            &mut scratch.words,
+            &mut scratch.ahead,
         )
     }
 

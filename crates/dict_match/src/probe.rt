@@ -1,4 +1,4 @@
-ghost use Rattle.std.specs.Prelude.{◌≡◌, ◌≤◌, ◌<◌, ◌↔◌, [], List, ℕ, length, slice_get, Some, IfOk, OnOk, IsTrue};
+ghost use Rattle.std.specs.Prelude.{◌≡◌, ◌≤◌, ◌<◌, ◌+◌, ◌↔◌, [], List, ℕ, length, slice_get, Some, IfOk, OnOk, IsTrue};
 ghost use Rattle.std.specs.HashMap.{get_by_text};
 ghost use Rattle.span_token.specs.Documents.{text_in};
 ghost use Rattle.span_token.specs.Extents.{Extent};
@@ -6,8 +6,9 @@ ghost use Rattle.span_token.specs.SourceTokens.{nth_token};
 ghost use Rattle.dict_match.specs.Dictionaries.{folded, texts_of, AgreesWith, IsMatch};
 ghost use Rattle.dict_match.specs.declared.dict_use.DictUse.{DictUse};
 ghost use Rattle.dict_match.specs.Tries.{Reaches, IsTrie, put_dicts};
-ghost use Rattle.dict_match.specs.Walks.{run_texts, IsSpelled, HasEndFor, HasRun, AreNumbers};
+ghost use Rattle.dict_match.specs.Walks.{run_texts, IsSpelled, HasEndFor, HasRun, AreAhead, IsNear};
 
+use crate::ahead::{Ahead, number_at};
 use crate::numbers::number_of_folded;
 use crate::trie::{End, Trie};
 use crate::walk::{does_agree, follow};
@@ -21,15 +22,16 @@ pub(crate) fn has_run(
     dict: usize,
     tokens: &SourceTokens<'_, '_>,
     buffer: &mut String,
-    words: &mut Vec<Option<usize>>,
+    ahead: &mut Ahead,
 ) -> Result<bool, OutOfMemory>
     requires trie { IsTrie trie.now }
     ensures { (dicts : List DictUse) (the : DictUse) → Reaches trie.now (put_dicts 0 dicts) 0 [] → slice_get dicts dict ≡ Some the
         → IfOk result (λ found. IsTrue found ↔ (e : Extent) × IsMatch the tokens.now.doc tokens.now.tokens e) }
 {
-    words.clear();
+    ahead.restart();
     for first in 0..tokens.len() {
-        if has_run_from(trie, dict, tokens, first, buffer, words)? {
+        ahead.go_to(first);
+        if has_run_from(trie, dict, tokens, first, buffer, ahead)? {
             return Ok(true);
         }
     }
@@ -43,20 +45,20 @@ fn has_run_from(
     tokens: &SourceTokens<'_, '_>,
     first: usize,
     buffer: &mut String,
-    words: &mut Vec<Option<usize>>,
+    ahead: &mut Ahead,
 ) -> Result<bool, OutOfMemory>
     requires trie { IsTrie trie.now }
     requires there { first < length tokens.now.tokens }
-    requires numbers { AreNumbers trie.now tokens.now words.old.items }
-    requires next { first ≤ length words.old.items }
+    requires numbers { AreAhead trie.now tokens.now ahead.old }
+    requires near { IsNear first ahead.old }
     ensures found { (dicts : List DictUse) (the : DictUse) → Reaches trie.now (put_dicts 0 dicts) 0 [] → slice_get dicts dict ≡ Some the
         → IfOk result (λ found. IsTrue found ↔ HasRun the tokens.now first (length tokens.now.tokens)) }
-    ensures numbers { OnOk result (AreNumbers trie.now tokens.now words.new.items) }
-    ensures past { OnOk result (first < length words.new.items) }
+    ensures numbers { OnOk result (AreAhead trie.now tokens.now ahead.new) }
+    ensures next { OnOk result (IsNear (first + 1) ahead.new) }
 {
     let mut node = 0;
     for last in first..tokens.len() {
-        let word = number_at(trie, tokens, last, buffer, words)?;
+        let word = number_at(trie, tokens, last, buffer, ahead)?;
         let Some(next) = follow(trie, node, word) else {
             return Ok(false);
         };
@@ -66,31 +68,6 @@ fn has_run_from(
         }
     }
     Ok(false)
-}
-
-/// The number of the folding of token `i`, which is put behind those of the tokens before it where it
-/// isn't there yet.
-fn number_at(
-    trie: &Trie,
-    tokens: &SourceTokens<'_, '_>,
-    i: usize,
-    buffer: &mut String,
-    words: &mut Vec<Option<usize>>,
-) -> Result<Option<usize>, OutOfMemory>
-    requires trie { IsTrie trie.now }
-    requires there { i < length tokens.now.tokens }
-    requires numbers { AreNumbers trie.now tokens.now words.old.items }
-    requires next { i ≤ length words.old.items }
-    ensures number { IfOk result (λ word. word ≡ get_by_text trie.now.words (folded (text_in tokens.now.doc (nth_token tokens.now.tokens i)))) }
-    ensures numbers { OnOk result (AreNumbers trie.now tokens.now words.new.items) }
-    ensures past { OnOk result (i < length words.new.items) }
-{
-    if i < words.len() {
-        return Ok(words[i]);
-    }
-    let word = number_of_folded(trie, tokens.text(i), buffer)?;
-    words.push(word)?;
-    Ok(word)
 }
 
 /// Whether these tokens, taken together, agree with an entry of the dictionary at a place.

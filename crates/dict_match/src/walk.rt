@@ -1,12 +1,12 @@
-ghost use Rattle.std.specs.Prelude.{◌≡◌, ◌≤◌, ◌<◌, ◌-◌, ◌↔◌, ◌++◌, [], List, ℕ, length, map, slice_get, Some, option_and_then, OnOk, IsTrue, All};
+ghost use Rattle.std.specs.Prelude.{◌≡◌, ◌≤◌, ◌<◌, ◌+◌, ◌-◌, ◌↔◌, ◌++◌, [], List, ℕ, length, map, slice_get, Some, option_and_then, OnOk, IsTrue, All};
 ghost use Rattle.span_token.specs.SourceTokens.{run_extent};
 ghost use Rattle.dict_match.specs.DictMatches.{matches_from, matches_among};
 ghost use Rattle.dict_match.specs.Rows.{dict_and_extent, extents_for};
 ghost use Rattle.dict_match.specs.declared.dict_use.DictUse.{DictUse};
 ghost use Rattle.dict_match.specs.Tries.{Reaches, IsTrie, put_dicts, edge_from};
-ghost use Rattle.dict_match.specs.Walks.{numbers_of, run_texts, IsSpelled, HasEndFor, HasOneEach, PutsWhere, Extends};
+ghost use Rattle.dict_match.specs.Walks.{run_texts, IsSpelled, HasEndFor, HasOneEach, PutsWhere, Extends, AreAhead, IsNear};
 
-use crate::numbers::number_of_folded;
+use crate::ahead::{Ahead, number_at};
 use crate::trie::{End, Trie};
 use span_token::{OutOfMemory, OwnedText, SourceTokens, Span};
 
@@ -17,64 +17,55 @@ pub struct DictMatch {
     pub span: Span,
 }
 
-/// The numbers of the tokens' foldings, in the place of what `words` holds.
-pub(crate) fn number_tokens(
-    trie: &Trie,
-    tokens: &SourceTokens<'_, '_>,
-    buffer: &mut String,
-    words: &mut Vec<Option<usize>>,
-) -> Result<(), OutOfMemory>
-    requires trie { IsTrie trie.now }
-    ensures { OnOk result (words.new.items ≡ numbers_of trie.now tokens.now) }
-{
-    words.clear();
-    words.reserve(tokens.len())?;
-    for i in 0..tokens.len() {
-        let word = number_of_folded(trie, tokens.text(i), buffer)?;
-        words.push(word)?;
-    }
-    Ok(())
-}
-
 /// Puts the matches that begin at any token after the others.
+///
+/// Each token is folded and looked up once.
 pub(crate) fn push_matches(
     trie: &Trie,
     tokens: &SourceTokens<'_, '_>,
-    words: &[Option<usize>],
+    buffer: &mut String,
+    ahead: &mut Ahead,
     into: &mut Vec<DictMatch>,
 ) -> Result<(), OutOfMemory>
     requires trie { IsTrie trie.now }
-    requires words { words.now ≡ numbers_of trie.now tokens.now }
     ensures matches { (dicts : List DictUse) (i : ℕ) (dict : DictUse) → Reaches trie.now (put_dicts 0 dicts) 0 [] → slice_get dicts i ≡ Some dict
         → OnOk result (extents_for i (map dict_and_extent into.new.items)
         ≡ extents_for i (map dict_and_extent into.old.items) ++ matches_among dict tokens.now.doc tokens.now.tokens) }
     ensures added { (dicts : List DictUse) → Reaches trie.now (put_dicts 0 dicts) 0 [] → OnOk result (Extends (length dicts) into.old.items into.new.items) }
 {
+    ahead.restart();
     for first in 0..tokens.len() {
-        push_matches_from(trie, tokens, words, first, into)?;
+        ahead.go_to(first);
+        push_matches_from(trie, tokens, first, buffer, ahead, into)?;
     }
     Ok(())
 }
 
 /// Puts the matches that begin at one token after the others.
+#[inline(always)]
 fn push_matches_from(
     trie: &Trie,
     tokens: &SourceTokens<'_, '_>,
-    words: &[Option<usize>],
     first: usize,
+    buffer: &mut String,
+    ahead: &mut Ahead,
     into: &mut Vec<DictMatch>,
 ) -> Result<(), OutOfMemory>
     requires trie { IsTrie trie.now }
-    requires words { words.now ≡ numbers_of trie.now tokens.now }
     requires there { first < length tokens.now.tokens }
+    requires numbers { AreAhead trie.now tokens.now ahead.old }
+    requires near { IsNear first ahead.old }
     ensures matches { (dicts : List DictUse) (i : ℕ) (dict : DictUse) → Reaches trie.now (put_dicts 0 dicts) 0 [] → slice_get dicts i ≡ Some dict
         → OnOk result (extents_for i (map dict_and_extent into.new.items)
         ≡ extents_for i (map dict_and_extent into.old.items) ++ matches_from dict tokens.now.doc tokens.now.tokens first (length tokens.now.tokens)) }
     ensures added { (dicts : List DictUse) → Reaches trie.now (put_dicts 0 dicts) 0 [] → OnOk result (Extends (length dicts) into.old.items into.new.items) }
+    ensures numbers { OnOk result (AreAhead trie.now tokens.now ahead.new) }
+    ensures next { OnOk result (IsNear (first + 1) ahead.new) }
 {
     let mut node = 0;
     for last in first..tokens.len() {
-        let Some(next) = follow(trie, node, words[last]) else {
+        let word = number_at(trie, tokens, last, buffer, ahead)?;
+        let Some(next) = follow(trie, node, word) else {
             return Ok(());
         };
         node = next;

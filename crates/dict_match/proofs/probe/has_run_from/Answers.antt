@@ -14,7 +14,8 @@ loop-last-init c = record {
   reached = λ put made. subst (λ (p : List (List ℕ)). Reaches c.args.trie.now put 0 p) (sym (keys-none c.args.tokens.now c.args.first)) made;
   none = λ dicts the made at run. let le = run.from in let lt = run.before in absurd (omega (arith, le, lt));
   numbers = c.requires.numbers;
-  next = c.requires.next;
+  begun = c.requires.near.«from»;
+  next = c.requires.near.to;
 }
 
 pub returns-in_default-clause-found : goal.returns-in_default-clause-found
@@ -81,6 +82,7 @@ loop-last-preserved c =
           (λ has. let yes : c.has_end.result ≡ true = c.has_end.ensures.1 (subst (λ (es : List End). HasEndFor c.args.dict texts es) (sym seen) has) in let no : c.has_end.result ≡ false = c.if-has_end.false in cc)
           (c.loop-last.invariant.none dicts the made at);
       numbers = c.in_ok-word.ensures.numbers;
+      begun = omega (arith, c.loop-last.invariant.begun, c.number_at.ensures.begin);
       next = omega (arith, c.in_ok-word.ensures.past);
     }
 

@@ -12,7 +12,7 @@ use Rattle.dict_match.proofs.PutLemmas.{one-each, ends-within}
 use Rattle.dict_match.proofs.RowLemmas.{extends-none, extends-more}
 use Rattle.dict_match.proofs.StepLemmas.{stops, one-more}
 use Rattle.dict_match.proofs.TrieLemmas.{Reaches-edge, node-there}
-use Rattle.dict_match.proofs.WalkLemmas.{key, keys, keys-more, keys-none, step-at}
+use Rattle.dict_match.proofs.WalkLemmas.{key, keys, keys-more, keys-none, step-of}
 use Rattle.dict_match.proofs.walk.push_matches_from.Goals as goal
 
 pub loop-last-init : goal.loop-last-init
@@ -25,6 +25,9 @@ loop-last-init c =
           let front = extents_for i (map dict_and_extent c.args.into.now.items) in
           sym (ap (λ (es : List Extent). front ++ es) (matches_from-none dict tokens.doc tokens.tokens first) ∙ append-nil front);
       added = λ dicts made. extends-none (length dicts) c.args.into.now.items;
+      numbers = c.requires.numbers;
+      begun = c.requires.near.«from»;
+      next = c.requires.near.to;
     }
 
 pub returns-in_default-clause-matches : goal.returns-in_default-clause-matches
@@ -34,7 +37,7 @@ returns-in_default-clause-matches c = λ dicts i dict made at.
     let last = c.loop-last.last in
     let lt : last < length tokens.tokens = omega (arith, c.loop-last-test.true, c.len-last-end.ensures.len) in
     let le : c.args.first ≤ last = omega arith in
-    let none : step trie c.loop-last.node (key tokens last) ≡ None = step-at trie tokens c.args.words.now c.loop-last.node last _ None lt c.requires.words c.in_default.ensures in
+    let none : step trie c.loop-last.node (key tokens last) ≡ None = step-of trie c.loop-last.node (key tokens last) c.in_ok-word.word None c.in_ok-word.ensures.number c.in_default.ensures in
     c.loop-last.invariant.matches dicts i dict made at
     ∙ ap (λ (es : List Extent). extents_for i (map dict_and_extent c.args.into.now.items) ++ es)
     (sym (stops trie dicts tokens i dict at c.loop-last.node c.args.first last (c.loop-last.invariant.reached (put_dicts 0 dicts) made) none le lt))
@@ -45,7 +48,7 @@ index-requires c =
     let tokens = c.args.tokens.now in
     let last = c.loop-last.last in
     let lt : last < length tokens.tokens = omega (arith, c.loop-last-test.true, c.len-last-end.ensures.len) in
-    let some : step trie c.loop-last.node (key tokens last) ≡ Some c.in-Some.next = step-at trie tokens c.args.words.now c.loop-last.node last _ (Some c.in-Some.next) lt c.requires.words c.in-Some.ensures in
+    let some : step trie c.loop-last.node (key tokens last) ≡ Some c.in-Some.next = step-of trie c.loop-last.node (key tokens last) c.in_ok-word.word (Some c.in-Some.next) c.in_ok-word.ensures.number c.in-Some.ensures in
     let there = Reaches-edge trie c.requires.trie.put c.loop-last.node c.in-Some.next (key tokens last) (keys tokens c.args.first last) some (c.loop-last.invariant.reached c.requires.trie.put c.requires.trie.made) in
     omega (arith, node-there trie c.requires.trie.put c.in-Some.next (keys tokens c.args.first last ++ key tokens last ∷ []) there, trie.ends.ok.0)
 
@@ -59,7 +62,7 @@ loop-last-preserved c =
     let texts = run_texts tokens first (last + 1) in
     let lt : last < length tokens.tokens = omega (arith, c.loop-last-test.true, c.len-last-end.ensures.len) in
     let le : first ≤ last = omega arith in
-    let some : step trie c.loop-last.node (key tokens last) ≡ Some next = step-at trie tokens c.args.words.now c.loop-last.node last _ (Some next) lt c.requires.words c.in-Some.ensures in
+    let some : step trie c.loop-last.node (key tokens last) ≡ Some next = step-of trie c.loop-last.node (key tokens last) c.in_ok-word.word (Some next) c.in_ok-word.ensures.number c.in-Some.ensures in
     let reached : (put : List (List (List ℕ) × End)) → Reaches trie put 0 [] → Reaches trie put next (map folded texts) =
     λ put made. subst (λ (p : List (List ℕ)). Reaches trie put next p) (sym (keys-more tokens first last le lt))
     (Reaches-edge trie put c.loop-last.node next (key tokens last) (keys tokens first last) some (c.loop-last.invariant.reached put made)) in
@@ -81,6 +84,9 @@ loop-last-preserved c =
           let r = reached (put_dicts 0 dicts) made in
           let below : All (λ (end : End). end.dict < length dicts) c.as_slice.result.now = subst (λ (es : List End). All (λ end. end.dict < length dicts) es) (sym seen) (ends-within trie dicts next texts r) in
           extends-more (length dicts) c.args.into.now.items c.loop-last.into.items c.push_ends.new.into.items (c.loop-last.invariant.added dicts made) (c.in_ok-push_ends.ensures.added (length dicts) below);
+      numbers = c.in_ok-word.ensures.numbers;
+      begun = omega (arith, c.loop-last.invariant.begun, c.number_at.ensures.begin);
+      next = omega (arith, c.in_ok-word.ensures.past);
     }
 
 pub returns-clause-matches : goal.returns-clause-matches
