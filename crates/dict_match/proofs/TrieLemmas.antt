@@ -7,15 +7,14 @@ use Rattle.std.specs.Map.{update}
 use Rattle.std.specs.Str.{bytes_eq}
 use Rattle.std.proofs.lemmas.Bool.{and_parts}
 use Rattle.std.proofs.lemmas.Bool.Decides.{Decides-eqb}
-use Rattle.std.proofs.lemmas.List.{length-append, length-set, take_all, get_or-set_same}
+use Rattle.std.proofs.lemmas.List.{length-append, take_all}
 use Rattle.std.proofs.lemmas.Option.{slice_get_within}
 use Rattle.std.proofs.lemmas.Slice.Eq.{bytes_eq-Decides}
 use Rattle.std.proofs.Math.ListN.{set}
 use Rattle.dict_match.specs.declared.trie.End.{End}
 use Rattle.dict_match.specs.declared.trie.Trie.{Trie}
-use Rattle.dict_match.specs.Marks.{mark_of}
+use Rattle.dict_match.specs.Marks.{IsSet, mark_of}
 use Rattle.dict_match.specs.Tries.{is_same_edge, edge_from, step, IsNumbered, HasEnds, Reaches}
-use Rattle.dict_match.proofs.MarkLemmas.{mark-below, set-marked}
 use Rattle.dict_match.proofs.TreeLemmas.{at_end, some_same, AddsStep, fresh, IsTree-added, IsTree-same, HasEnds-added, HasEnds-again, HasEnds-pushed}
 
 -- ---- tests
@@ -42,7 +41,8 @@ pub record AddsWord (old new : Trie) (text : List ℕ) : Type 0 where
   pub len : hash_map_len new.words ≡ hash_map_len old.words + 1
   pub edges : new.edges ≡ old.edges
   pub ends : new.ends ≡ old.ends
-  pub marks : new.marks.items ≡ set old.marks.items (mark_of text) true
+  pub set_is : IsSet new.marks (mark_of text)
+  pub marks : (mark : ℕ) → IsSet old.marks mark → IsSet new.marks mark
 
 module _ (old new : Trie) (text : List ℕ) (adds : AddsWord old new text) (numbered : IsNumbered old) where
   word_cases : (cs : List ℕ) → ((text ≡ cs) × (get_by_text new.words cs ≡ Some (hash_map_len old.words))) ⊎ ((text ≡ cs → ⊥) × (get_by_text new.words cs ≡ get_by_text old.words cs))
@@ -71,9 +71,6 @@ module _ (old new : Trie) (text : List ℕ) (adds : AddsWord old new text) (numb
     next_same None node = refl
     next_same (Some word) node = edge_same node word
 
-  mark_there : mark_of text < length old.marks.items
-  mark_there = omega (arith, mark-below text, numbered.marks)
-
   numbered-word : IsNumbered new
   numbered-word = record {
     below = λ cs word h. elim (word_cases cs) [
@@ -95,11 +92,10 @@ module _ (old new : Trie) (text : List ℕ) (adds : AddsWord old new text) (numb
       ]
     ];
     known = λ node word next h. let low = numbered.known node word next (sym (edge_same node word) ∙ h) in omega (arith, low, adds.len);
-    marks = ap length adds.marks ∙ length-set old.marks.items (mark_of text) true ∙ numbered.marks;
-    marked = λ cs word h. ap (λ (marks : List Bool). get_or marks (mark_of cs) false) adds.marks ∙ (elim (word_cases cs) [
-      | inl same ↦ ap (λ (t : List ℕ). get_or (set old.marks.items (mark_of text) true) (mark_of t) false) (sym same.0) ∙ get_or-set_same old.marks.items (mark_of text) true false mark_there
-      | inr other ↦ set-marked old.marks.items (mark_of text) (mark_of cs) mark_there (numbered.marked cs word (sym other.1 ∙ h))
-    ]);
+    marked = λ cs word h. elim (word_cases cs) [
+      | inl same ↦ subst (λ (t : List ℕ). IsSet new.marks (mark_of t)) same.0 adds.set_is
+      | inr other ↦ adds.marks (mark_of cs) (numbered.marked cs word (sym other.1 ∙ h))
+    ];
   }
 
 pub Reaches-word : (old new : Trie) (text : List ℕ) (put : List (List (List ℕ) × End)) (node : ℕ) (path : List (List ℕ)) → AddsWord old new text → Reaches old put node path → Reaches new put node path
@@ -170,8 +166,7 @@ module _ (old new : Trie) (node word : ℕ) (text : List ℕ) (adds : AddsNode o
       | inl same ↦ let low = numbered.below text word has in omega (arith, low, same.0.1, ap (λ ws. hash_map_len ws) adds.words)
       | inr other ↦ let low = numbered.known q w next (sym other.1 ∙ h) in omega (arith, low, ap (λ ws. hash_map_len ws) adds.words)
     ];
-    marks = ap (λ ms. length ms.items) adds.marks ∙ numbered.marks;
-    marked = λ cs w h. ap (λ ms. get_or ms.items (mark_of cs) false) adds.marks ∙ numbered.marked cs w (sym (word_same cs) ∙ h);
+    marked = λ cs w h. subst (λ (ms : List ℕ). IsSet ms (mark_of cs)) (sym adds.marks) (numbered.marked cs w (sym (word_same cs) ∙ h));
   }
 
 pub Reaches-node : (old new : Trie) (put : List (List (List ℕ) × End)) (node word : ℕ) (text : List ℕ) (path : List (List ℕ)) → AddsNode old new node word →
@@ -238,8 +233,7 @@ Reaches-end old new put node path end words edges marks ends gone r = record {
     below = λ cs w h. let low = r.numbered.below cs w (ap (λ ws. get_by_text ws cs) (sym words) ∙ h) in omega (arith, low, ap (λ ws. hash_map_len ws) words);
     apart = λ t u w h k. r.numbered.apart t u w (ap (λ ws. get_by_text ws t) (sym words) ∙ h) (ap (λ ws. get_by_text ws u) (sym words) ∙ k);
     known = λ q w next h. let low = r.numbered.known q w next (ap (λ es. get is_same_edge es (q, w)) (sym edges) ∙ h) in omega (arith, low, ap (λ ws. hash_map_len ws) words);
-    marks = ap (λ ms. length ms.items) marks ∙ r.numbered.marks;
-    marked = λ cs w h. ap (λ ms. get_or ms.items (mark_of cs) false) marks ∙ r.numbered.marked cs w (ap (λ ws. get_by_text ws cs) (sym words) ∙ h);
+    marked = λ cs w h. subst (λ (ms : List ℕ). IsSet ms (mark_of cs)) (sym marks) (r.numbered.marked cs w (ap (λ ws. get_by_text ws cs) (sym words) ∙ h));
   };
   tree = IsTree-same (step old) (step new) r.paths (step-same old new words edges) r.tree;
   ends = subst (λ es. HasEnds es r.paths (put ++ (path, end) ∷ [])) (sym ends)
@@ -273,15 +267,14 @@ none_longer n j low = let none = ap length (empty_there n) in omega arith
 none_there : (n : ℕ) (e : End) → Contains (get_or no_ends n []) e → ⊥
 none_there n e c = none_longer n c.0 c.1
 
-pub Reaches-nothing : (trie : Trie) → ((cs : List ℕ) → get_by_text trie.words cs ≡ None) → ((node word : ℕ) → edge_from trie node word ≡ None) → trie.ends.items ≡ [] ∷ [] → length trie.marks.items ≡ 65536
-    → Reaches trie [] 0 []
-Reaches-nothing trie word_none edge_none ends marks = record {
+pub Reaches-nothing : (trie : Trie) → ((cs : List ℕ) → get_by_text trie.words cs ≡ None) → ((node word : ℕ) → edge_from trie node word ≡ None) → trie.ends.items ≡ [] ∷ [] →
+    Reaches trie [] 0 []
+Reaches-nothing trie word_none edge_none ends = record {
   paths = [] ∷ [];
   numbered = record {
     below = λ cs w h. let none = word_none cs in cc;
     apart = λ t u w h k. let none = word_none t in cc;
     known = λ q w next h. let none = edge_none q w in cc;
-    marks = marks;
     marked = λ cs w h. let none = word_none cs in cc;
   };
   tree = record {

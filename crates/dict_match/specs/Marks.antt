@@ -1,11 +1,16 @@
 -- Marks of texts: numbers that most texts that aren't words don't share with one, found without a fold.
-use Rattle.std.specs.Prelude.{ℕ, ◌+◌, ◌*◌, ◌%◌, List}
+use Rattle.std.specs.Prelude.{◌≡◌, ℕ, ◌+◌, ◌*◌, ◌/◌, ◌%◌, List, slice_index_or}
+use Rattle.std.specs.Int.{bit_at}
 use Rattle.std.specs.List.{fold}
 
 -- the mark of what was read and one more byte; the case of an ASCII letter doesn't count
 abbrev pub mark_behind : ℕ → ℕ → ℕ
-mark_behind mark byte = (33 * mark + byte % 32) % 65536
+mark_behind mark byte = (43 * mark + byte % 32) % 262144
 
--- the number of a text's mark, by all its bytes
+-- a text's mark, by all its bytes
 unfoldable pub mark_of : List ℕ → ℕ
 mark_of text = fold mark_behind 0 text
+
+-- a mark is set in a set of them, which has eight in each byte
+abbrev pub IsSet : List ℕ → ℕ → Type 0
+IsSet bytes mark = bit_at (slice_index_or bytes (mark / 8) 0) (mark % 8) ≡ 1

@@ -1,12 +1,12 @@
 -- The tree of all entries' folded tokens: a node for each beginning of some entry.
-use Rattle.std.specs.Prelude.{◌≡◌, ◌≢◌, ℕ, ◌<◌, ◌+◌, ◌↔◌, ◌&&◌, nat_eq, Bool, true, false, cond, List, [], ◌∷◌, ◌++◌, map, take, length, slice_get, slice_index_or, Option, Some, None, option_and_then}
+use Rattle.std.specs.Prelude.{◌≡◌, ◌≢◌, ℕ, ◌<◌, ◌+◌, ◌↔◌, ◌&&◌, nat_eq, Bool, cond, List, [], ◌∷◌, ◌++◌, map, take, length, slice_get, slice_index_or, Option, Some, None, option_and_then}
 use Rattle.std.specs.List.{AllPairs, Contains, flat_map}
 use Rattle.std.specs.HashMap.{get, get_by_text, hash_map_len}
 use Rattle.dict_match.specs.declared.dict_use.DictUse.{DictUse}
 use Rattle.dict_match.specs.declared.trie.End.{End}
 use Rattle.dict_match.specs.declared.trie.Trie.{Trie}
 use Rattle.dict_match.specs.Dictionaries.{folded, entry_texts}
-use Rattle.dict_match.specs.Marks.{mark_of}
+use Rattle.dict_match.specs.Marks.{mark_of, IsSet}
 
 -- ---- what is put in
 
@@ -50,8 +50,7 @@ pub record IsNumbered (trie : Trie) : Type 0 where
   pub below : (text : List ℕ) (word : ℕ) → get_by_text trie.words text ≡ Some word → word < hash_map_len trie.words
   pub apart : (t u : List ℕ) (word : ℕ) → get_by_text trie.words t ≡ Some word → get_by_text trie.words u ≡ Some word → t ≡ u
   pub known : (node word next : ℕ) → edge_from trie node word ≡ Some next → word < hash_map_len trie.words
-  pub marks : length trie.marks.items ≡ 65536
-  pub marked : (text : List ℕ) (word : ℕ) → get_by_text trie.words text ≡ Some word → slice_index_or trie.marks.items (mark_of text) false ≡ true
+  pub marked : (text : List ℕ) (word : ℕ) → get_by_text trie.words text ≡ Some word → IsSet trie.marks (mark_of text)
 
 -- a token leads from one node to another where their paths say so
 pub record LeadsOn (paths : List (List (List ℕ))) (node : ℕ) (text : List ℕ) (next : ℕ) : Type 0 where

@@ -1,31 +1,79 @@
-ghost use Rattle.std.specs.Prelude.{◌≡◌, ◌<◌, IfSome, IsAscii};
-ghost use Rattle.dict_match.specs.Marks.{mark_of, mark_behind};
+ghost use Rattle.std.specs.Prelude.{◌≡◌, ◌<◌, ◌↔◌, ℕ, List, IfSome, IsAscii, IsTrue, length};
+ghost use Rattle.dict_match.specs.Marks.{IsSet, mark_of, mark_behind};
 
-/// How many marks there are.
-pub(crate) const MARKS: usize = 65_536;
+use span_token::OutOfMemory;
+use std::alloc::Global;
+use std::marker::Model;
 
-/// The number of a text's mark, below 65,536: by all its bytes, so that the case of ASCII letters doesn't count.
-#[inline(always)]
+/// How many bytes hold the marks.
+const BYTES: usize = 32_768;
+
+/// A set of marks below 262,144, a bit for each. Contracts see the bytes.
+#[derive(Drop)]
+pub(crate) struct Marks {
+    bytes: Vec<u8>,
+}
+
+impl Model for Marks {
+    ghost use Rattle.std.specs.Prelude.{◌≡◌, ℕ, List, length};
+
+    ghost Value = { List ℕ };
+
+    ghost view = { λ marks. marks.bytes.items };
+
+    ghost invariant = { λ marks. length marks.bytes.items ≡ 32768 };
+}
+
+impl Marks {
+    /// None is set.
+    pub(crate) fn new(alloc: Global) -> Result<Marks, OutOfMemory> {
+        Ok(Marks {
+            bytes: Vec::from_elem(alloc, 0, BYTES)?,
+        })
+    }
+
+    /// Whether a mark is set.
+    #[inline(always)]
+    pub(crate) fn is_set(&self, mark: u32) -> bool
+        requires below { mark < 262144 }
+        ensures { IsTrue result ↔ IsSet self.now mark }
+    {
+        (self.bytes[(mark / 8) as usize] >> (mark % 8)) & 1 == 1
+    }
+
+    /// Sets a mark.
+    pub(crate) fn set(&mut self, mark: u32)
+        requires below { mark < 262144 }
+        ensures set { IsSet self.new mark }
+        ensures kept { (other : ℕ) → IsSet self.old other → IsSet self.new other }
+    {
+        let place = (mark / 8) as usize;
+        let byte = self.bytes[place];
+        self.bytes[place] = byte | 1 << (mark % 8);
+    }
+}
+
+/// A text's mark, below 262,144: by all its bytes, so that the case of ASCII letters doesn't count.
 #[tactic(auto, unfolding(crate::specs::Marks::mark_of))]
-pub(crate) fn mark_of(text: &str) -> usize
+pub(crate) fn mark_of(text: &str) -> u32
     ensures mark { result ≡ mark_of text.now }
-    ensures below { result < 65536 }
+    ensures below { result < 262144 }
 {
     let mut mark = 0;
     let bytes = text.as_bytes();
     for byte in bytes {
         mark = mark_behind(mark, *byte);
     }
-    mark as usize
+    mark
 }
 
-/// The number of a text's mark, where the text is ASCII: its bytes are gone through once.
+/// A text's mark, where it is ASCII: its bytes are gone through once.
 #[inline(always)]
 #[tactic(auto, unfolding(crate::specs::Marks::mark_of))]
-pub(crate) fn mark_where_ascii(text: &str) -> Option<usize>
+pub(crate) fn mark_where_ascii(text: &str) -> Option<u32>
     ensures ascii { IfSome result (λ _. IsAscii text.now) }
     ensures mark { IfSome result (λ mark. mark ≡ mark_of text.now) }
-    ensures below { IfSome result (λ mark. mark < 65536) }
+    ensures below { IfSome result (λ mark. mark < 262144) }
 {
     let mut mark = 0;
     let bytes = text.as_bytes();
@@ -35,15 +83,15 @@ pub(crate) fn mark_where_ascii(text: &str) -> Option<usize>
         }
         mark = mark_behind(mark, *byte);
     }
-    Some(mark as usize)
+    Some(mark)
 }
 
 /// The mark of what was read and one more byte.
 #[inline(always)]
 fn mark_behind(mark: u32, byte: u8) -> u32
-    requires below { mark < 65536 }
+    requires below { mark < 262144 }
     ensures mark { result ≡ mark_behind mark byte }
-    ensures below { result < 65536 }
+    ensures below { result < 262144 }
 {
-    (33 * mark + u32::from(byte % 32)) % 65_536
+    (43 * mark + u32::from(byte % 32)) % 262_144
 }

@@ -1,4 +1,4 @@
-ghost use Rattle.std.specs.Prelude.{◌≡◌, ◌↔◌, ◌<◌, ◌≤◌, ◌++◌, ◌∷◌, [], List, ℕ, length, vec_len, map, Some, IfOk, OnOk, IsTrue};
+ghost use Rattle.std.specs.Prelude.{◌≡◌, ◌↔◌, ◌<◌, ◌≤◌, ◌++◌, ◌∷◌, [], List, ℕ, length, map, Some, IfOk, OnOk, IsTrue};
 ghost use Rattle.std.specs.HashMap.{get_by_text};
 ghost use Rattle.std.specs.List.{Contains};
 ghost use Rattle.dict_match.specs.Dictionaries.{folded, texts_of, entry_texts};
@@ -8,7 +8,7 @@ ghost use Rattle.dict_match.specs.Tries.{Reaches, IsTrie, put_entry, put_dict};
 
 use crate::dict_use::{DictUse, copied_texts};
 use crate::fold::fold_into;
-use crate::marks::{MARKS, mark_of};
+use crate::marks::{Marks, mark_of};
 use span_token::{
     Document, OutOfMemory, OwnedList, OwnedText, SourceTokens, TEXT_LIMIT, TokenRoom,
 };
@@ -32,7 +32,7 @@ pub(crate) struct Trie {
     pub words: HashMap<String, usize>,
     pub edges: HashMap<(usize, usize), usize>,
     pub ends: Vec<OwnedList<End>>,
-    pub marks: Vec<bool>,
+    pub marks: Marks,
 }
 
 impl Trie {
@@ -46,13 +46,12 @@ impl Trie {
             words: HashMap::new(alloc),
             edges: HashMap::new(alloc),
             ends,
-            marks: Vec::from_elem(alloc, false, MARKS)?,
+            marks: Marks::new(alloc)?,
         })
     }
 
     /// The number of a folded token, a new one where it has none.
     fn number(&mut self, alloc: Global, text: &str) -> Result<usize, OutOfMemory>
-        requires marks { vec_len self.old.marks ≡ 65536 }
         ensures number { IfOk result (λ word. get_by_text self.new.words text.now ≡ Some word) }
         ensures kept { (put : List (List (List ℕ) × End)) (node : ℕ) (path : List (List ℕ)) → Reaches self.old put node path
             → OnOk result (Reaches self.new put node path) }
@@ -62,7 +61,7 @@ impl Trie {
         }
         let number = self.words.len();
         self.words.insert(String::from_str(alloc, text)?, number)?;
-        self.marks[mark_of(text)] = true;
+        self.marks.set(mark_of(text));
         Ok(number)
     }
 

@@ -1,15 +1,11 @@
-use Rattle.std.proofs.Common.{◌≡◌, ◌∙◌, ◌<◌, false, length, get_or, ap, sym, arith}
-use Rattle.std.proofs.lemmas.List.{get_or_default}
-use Rattle.dict_match.specs.Marks.{mark_of}
+use Rattle.std.proofs.Common.{◌≡◌, subst, sym, true, false}
+use Rattle.dict_match.specs.Marks.{IsSet}
 use Rattle.dict_match.proofs.MarkLemmas.{unmarked}
 use Rattle.dict_match.proofs.numbers.number_of_folded.Goals as goal
 
-pub returns-then-not-index : goal.returns-then-not-index
-returns-then-not-index c =
-    let marks = c.args.trie.now.marks.items in
-    let mark = c.in-Some.mark in
-    let numbered = c.requires.trie.made.numbered in
-    let below : mark < length marks = omega (arith, c.in-Some.ensures.below, numbered.marks) in
-    let read : c.index.result.now ≡ get_or marks (mark_of c.args.text.now) false =
-    c.index.ensures ∙ (get_or_default marks mark c.index.result.now false below ∙ ap (λ m. get_or marks m false) c.in-Some.ensures.mark) in
-    unmarked c.args.trie.now c.args.text.now numbered c.in-Some.ensures.ascii (sym read ∙ c.if-not-index.true)
+pub returns-then-not-is_set : goal.returns-then-not-is_set
+returns-then-not-is_set c =
+    let trie = c.args.trie.now in
+    unmarked trie c.args.text.now c.requires.trie.made.numbered c.in-Some.ensures.ascii (λ set.
+    let yes : c.is_set.result ≡ true = c.is_set.ensures.1 (subst (IsSet trie.marks) (sym c.in-Some.ensures.mark) set) in
+    let no : c.is_set.result ≡ false = c.if-not-is_set.true in cc)

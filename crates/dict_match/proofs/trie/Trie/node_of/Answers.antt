@@ -4,9 +4,6 @@ use Rattle.dict_match.specs.Tries.{Reaches}
 use Rattle.dict_match.proofs.EntryLemmas.{keys-step}
 use Rattle.dict_match.proofs.trie.Trie.node_of.Goals as goal
 
-pub number-requires : goal.number-requires
-number-requires c = record { marks = omega (arith, (c.loop-i.invariant c.requires.trie.put c.requires.trie.made).numbered.marks, c.loop-i.self.marks.ok.0) }
-
 pub loop-i-preserved : goal.loop-i-preserved
 loop-i-preserved c = λ put r.
     let tokens = c.args.tokens.now.tokens in
