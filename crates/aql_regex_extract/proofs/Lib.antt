@@ -8,6 +8,7 @@ pub mod Chains
 pub mod Products
 pub mod TokenRunLemmas
 pub mod CutLemmas
+pub mod BeginLemmas
 pub mod BytesLemmas
 pub mod AdmittedLemmas
 pub mod WholeMatchers

@@ -1,5 +1,5 @@
 -- The next match after one that ended, by searches from a place on.
-use Rattle.std.proofs.Common.{◌≡◌, ℕ, ◌+◌, ◌-◌, ◌<◌, ◌≤◌, ◌++◌, List, [], ◌∷◌, map, length, true, Option, Some, None, sym, ap, ap₂, ◌∙◌, ⊎_elim, subst, append_assoc, arith}
+use Rattle.std.proofs.Common.{◌≡◌, ℕ, ◌+◌, ◌-◌, ◌<◌, ◌≤◌, ◌++◌, List, [], length, true, Option, Some, None, sym, ap, ap₂, ◌∙◌, ⊎_elim, subst, append_assoc, arith}
 use Rattle.std.proofs.lemmas.List.{append-nil}
 use Rattle.std.proofs.lemmas.Option.{none-some, same_Some}
 use Rattle.regex_hir.proofs.OptionLemmas.{option_cases}

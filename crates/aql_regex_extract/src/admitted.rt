@@ -69,15 +69,22 @@ impl Admitted {
     pub(crate) fn admits(&self, text: &str) -> bool
         ensures { IsTrue result ↔ IsAdmitted self.now text.now }
     {
-        let bytes = text.as_bytes();
-        let Some(first) = bytes.first() else {
-            return true;
-        };
-        if !self.firsts.has(*first) {
+        if !self.may_begin(text) {
             return false;
         }
         match &self.bytes {
-            Some(set) => set.has_each(bytes),
+            Some(set) => set.has_each(text.as_bytes()),
+            None => true,
+        }
+    }
+
+    /// Whether the text is empty or begins with such a byte.
+    #[inline]
+    pub(crate) fn may_begin(&self, text: &str) -> bool
+        ensures { IsTrue result ↔ Begins self.now.firsts true text.now }
+    {
+        match text.as_bytes().first() {
+            Some(first) => self.firsts.has(*first),
             None => true,
         }
     }

@@ -53,6 +53,8 @@ fn counted(number: usize, is_more: bool) -> usize
 }
 
 /// Puts the row of the longest run from one token on after the others, if there is one.
+///
+/// All runs from a token begin with the same byte, so where no match does, the longest one tells it of all.
 fn push_run(
     whole: &mut WholeMatcher<'_>,
     tokens: &SourceTokens<'_, '_>,
@@ -76,6 +78,9 @@ fn push_run(
     'lengths: while count >= least {
         let last = first + (count - 1);
         let text = tokens.run_text(first, last);
+        if !whole.may_begin(text) {
+            return Ok(false);
+        }
         if push_row(whole, tokens, first, last, text, groups, into)? {
             return Ok(true);
         }

@@ -1,4 +1,5 @@
-ghost use Rattle.std.specs.Prelude.{◌≡◌, ℕ, List};
+ghost use Rattle.std.specs.Prelude.{◌≡◌, ℕ, List, true, IsFalse};
+ghost use Rattle.aql_regex_extract.specs.Bytes.{AreBytes, Begins};
 ghost use Rattle.aql_regex_extract.specs.Matches.{has_match};
 ghost use Rattle.aql_regex_extract.specs.Patterns.{whole_form};
 ghost use Rattle.aql_regex_extract.specs.Views.{FindsWhole, IsSameWhole};
@@ -23,5 +24,14 @@ impl<'p> WholeMatcher<'p> {
         ensures same { IsSameWhole self.old self.new }
     {
         self.admitted.admits(text) && self.matcher.is_match(text)
+    }
+
+    /// Whether the whole-text form may have a match in a text that begins as this one.
+    #[inline]
+    pub(crate) fn may_begin(&self, text: &str) -> bool
+        ensures bytes { AreBytes text.now }
+        ensures lost { IsFalse result → Begins self.now.admitted.now.firsts true text.now → ⊥ }
+    {
+        self.admitted.may_begin(text)
     }
 }

@@ -1,4 +1,4 @@
-use Rattle.std.proofs.Common.{◌≡◌, ◌-◌, ◌++◌, ◌∷◌, [], ◌∙◌, All, suc, min, length, ap, sym, subst, refl, arith}
+use Rattle.std.proofs.Common.{◌≡◌, ◌-◌, ◌++◌, ◌∙◌, All, suc, min, length, ap, sym, subst, arith}
 use Rattle.std.proofs.lemmas.List.{append-nil, map_push, take-map, drop-map}
 use Rattle.std.proofs.lemmas.List.Elements.{All-push, All-take, All-drop}
 use Rattle.aql_regex_extract.specs.Matches.{extents_of, extents_of_rows, IsInside}

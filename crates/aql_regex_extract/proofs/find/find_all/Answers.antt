@@ -1,4 +1,4 @@
-use Rattle.std.proofs.Common.{All, arith, ◌≡◌, ◌++◌, ◌∙◌, [], List, ℕ, map, length, Option, ap, ap₂, sym, subst}
+use Rattle.std.proofs.Common.{All, arith, ◌≡◌, ◌++◌, ◌∙◌, List, ℕ, length, Option, ap, ap₂, sym, subst}
 use Rattle.std.proofs.lemmas.List.{length-map}
 use Rattle.std.proofs.lemmas.Result.{IfOk-weaker}
 use Rattle.std.specs.List.{flat_map}

@@ -1,8 +1,12 @@
-use Rattle.std.proofs.Common.{◌≡◌, ◌∙◌, ◌+◌, ◌-◌, length, min, refl, arith, ap, ℕ, List}
+use Rattle.std.proofs.Common.{◌≡◌, ◌≤◌, ◌++◌, ◌∙◌, ◌+◌, ◌-◌, [], length, min, true, None, is_some, unwrap_or, refl, sym, subst, arith, ap, ℕ, List}
+use Rattle.std.proofs.lemmas.List.{append-nil}
+use Rattle.span_token.specs.Documents.{text_in}
 use Rattle.span_token.specs.SourceTokens.{run_extent}
+use Rattle.aql_regex_extract.specs.Bytes.{AreBytes, Begins}
 use Rattle.aql_regex_extract.specs.Matches.{extents_of}
-use Rattle.aql_regex_extract.specs.TokenRuns.{whole_row, longest_run, run_at}
+use Rattle.aql_regex_extract.specs.TokenRuns.{whole_row, longest_row, longest_run, run_at}
 use Rattle.aql_regex_extract.specs.Views.{FindsWhole}
+use Rattle.aql_regex_extract.proofs.BeginLemmas.{none-begins, longest-none}
 use Rattle.aql_regex_extract.proofs.TokenRunLemmas.{PutsRow-found, longest-passed, run_at-count, ContainsExtent-run}
 use Rattle.aql_regex_extract.proofs.WholeMatchers.{IsSameWhole-trans, FindsWhole-same}
 use Rattle.aql_regex_extract.proofs.runs.push_run.Goals as goal
@@ -20,6 +24,30 @@ lengths-init c =
       );
       within = λ wide holds all. all;
     }
+
+pub returns-then-not-may_begin-clause-run : goal.returns-then-not-may_begin-clause-run
+returns-then-not-may_begin-clause-run c = λ pattern finds.
+    let doc = c.args.tokens.now.doc in
+    let tokens = c.args.tokens.now.tokens in
+    let groups = c.args.groups.now in
+    let first = c.args.first in
+    let count = c.lengths.count in
+    let admitted = c.lengths.whole.admitted.now in
+    let text = c.run_text-text.result.now in
+    let rows = λ (k : ℕ). whole_row pattern doc groups (run_at tokens first k) in
+    let positive : 1 ≤ count = omega (arith, c.requires.at_least_one, c.lengths-test.true) in
+    let there : first + count ≤ length tokens = omega (arith, c.lengths.invariant.count, c.requires.there) in
+    let is : text ≡ text_in doc (run_at tokens first count) = c.run_text-text.ensures.text ∙ ap (text_in doc) (run_at-count tokens first count positive) in
+    let bytes : AreBytes (text_in doc (run_at tokens first count)) = subst AreBytes is c.may_begin.ensures.bytes in
+    let lost : Begins admitted.firsts true (text_in doc (run_at tokens first count)) → ⊥ = λ begins. c.may_begin.ensures.lost c.if-not-may_begin.true (subst (Begins admitted.firsts true) (sym is) begins) in
+    let admits = (FindsWhole-same _ _ pattern c.lengths.invariant.same finds).admits in
+    let none : longest_row rows c.args.low (min c.args.high (length tokens - first) + 1 - c.args.low) ≡ None =
+    sym (c.lengths.invariant.left pattern finds).1
+    ∙ longest-none rows c.args.low (count + 1 - c.args.low) (λ k le lt.
+    none-begins pattern doc tokens admitted admits c.len.ensures.order first count there bytes lost groups k (omega (arith, c.requires.at_least_one, le)) (omega (arith, lt, c.lengths-test.true))) in (
+      sym (ap is_some none),
+      (c.lengths.invariant.left pattern finds).0 ∙ sym (append-nil _) ∙ ap (λ o. extents_of c.args.into.now.items ++ unwrap_or o []) (sym none),
+    )
 
 pub returns-then-branch-clause-run : goal.returns-then-branch-clause-run
 returns-then-branch-clause-run c = λ pattern finds.

@@ -1,4 +1,3 @@
-use Rattle.std.proofs.Common.{◌++◌, ◌∙◌, ap, sym}
 use Rattle.aql_regex_extract.proofs.searcher.Searcher.find_all.Goals as goal
 
 pub returns-clause-matches : goal.returns-clause-matches

@@ -4,7 +4,7 @@ use Rattle.span_token.specs.Documents.{Doc}
 use Rattle.span_token.specs.Extents.{Extent, extent_of}
 use Rattle.span_token.specs.SourceTokens.{tokens_in}
 use Rattle.aql_regex_extract.specs.Matches.{PutsRows, extents_of}
-use Rattle.aql_regex_extract.specs.TokenRuns.{AreRunRows, run_row, run_rows}
+use Rattle.aql_regex_extract.specs.TokenRuns.{run_row, run_rows}
 use Rattle.aql_regex_extract.specs.LawProofs.TokenRunLaws.{run_rows-are}
 use Rattle.aql_regex_extract.specs.LawProofs.RunRowsUnique.{run_rows-only}
 use Rattle.aql_regex_extract.proofs.whole.WholeSearcher.append_token_runs.Goals as goal
