@@ -3,7 +3,7 @@ use Rattle.std.proofs.Common.{◌≡◌, ◌∙◌, ◌+◌, ◌<◌, ◌≤◌,
 use Rattle.std.specs.Prelude.{slice_get, slice_index_or, IsSome}
 use Rattle.std.proofs.lemmas.Bool.{cases_lt, eq-eqb, ne_eqb, false≢true}
 use Rattle.std.proofs.lemmas.List.{get_or_past}
-use Rattle.std.proofs.lemmas.Option.{none-some, same_Some}
+use Rattle.std.proofs.lemmas.Option.{none-some, same_Some, slice_get-get_or}
 use Rattle.row_values.specs.Rows.{RowList}
 use Rattle.algebra.specs.declared.node.Node.{Node}
 use Rattle.algebra.specs.Inputs.{left_input, right_input, IsAmong}
@@ -32,6 +32,15 @@ times-above None n i among above = refl
 times-above (Some k) n i among above = times-other (Some k) i (λ e. let same = same_Some k i e in omega (arith, among, above, same))
 
 -- ---- how often a node reads another one
+
+-- a node at its place
+pub node-at : (nodes : List Node) (n : ℕ) (node : Node) → n < length nodes → node ≡ slice_index_or nodes n node → slice_get nodes n ≡ Some node
+node-at nodes n node below is = slice_get-get_or nodes n node below ∙ ap (λ (x : Node). Some x) (sym is)
+
+-- an input that is among fewer nodes
+pub among-more : (o : Option ℕ) (n m : ℕ) → IsAmong n o → n ≤ m → IsAmong m o
+among-more None n m among fewer = tt
+among-more (Some i) n m among fewer = omega (arith, among, fewer)
 
 module _ (nodes : List Node) (k : ℕ) (node : Node) (at : slice_get nodes k ≡ Some node) (i : ℕ) where
   pub reads-both : reads_by nodes k i ≡ times (left_input node) i + times (right_input node) i

@@ -1,5 +1,5 @@
 -- How the readers of a plan's nodes are counted, from the last one on, and which nodes are read.
-use Rattle.std.proofs.Common.{◌≡◌, ◌∙◌, ◌+◌, ◌<◌, ◌≤◌, ◌⊎◌, inl, inr, ⊎_elim, ℕ, zero, suc, Bool, true, false, List, Option, Some, None, length, refl, arith, All, ap}
+use Rattle.std.proofs.Common.{◌≡◌, ◌∙◌, ◌+◌, ◌<◌, ◌≤◌, ◌⊎◌, inl, inr, ⊎_elim, ℕ, zero, suc, Bool, true, false, List, Option, Some, None, length, map, refl, arith, All, ap, subst}
 use Rattle.std.specs.Prelude.{slice_get, slice_index_or, nat_le, Contains, IfSome}
 use Rattle.std.proofs.lemmas.Bool.{and_from, and_parts, cases_lt, false≢true, le-leb, leb-true}
 use Rattle.std.proofs.lemmas.List.Elements.{All-contains}
@@ -8,11 +8,13 @@ use Rattle.span_token.specs.Documents.{Doc}
 use Rattle.scalar_ops.specs.Tables.{Lists}
 use Rattle.row_values.specs.Rows.{RowList}
 use Rattle.algebra.specs.declared.node.Node.{Node}
-use Rattle.algebra.specs.Inputs.{left_input, right_input, IsAmong}
+use Rattle.algebra.specs.declared.output.PlanOut.{PlanOut}
 use Rattle.algebra.specs.Needed as needs
 use Rattle.algebra.specs.Needed.{Asks, IsNeeded}
-use Rattle.plan_operators.specs.Readers.{does_wait, number_of_readers, reads_by, total, waits, is_read_from, IsCounted, IsCountedFrom}
-use Rattle.plan_operators.proofs.Reading.{reads-above, reads-left, reads-right, wait-from, wait-parts}
+use Rattle.algebra.specs.Plans.{Parts, AreOutputs}
+use Rattle.plan_operators.specs.Readers.{does_wait, number_of_readers, reads_by, total, waits, is_read_from, IsCounted, IsCountedFrom, IsScheduled}
+use Rattle.plan_operators.proofs.Boards.{outputs-there}
+use Rattle.plan_operators.proofs.Reading.{reads-left, reads-right, wait-from, wait-parts}
 use Rattle.plan_operators.proofs.Totals.{total-fewer, total-more, total-none, total-one}
 
 -- a node that is read, by its number
@@ -54,16 +56,15 @@ module _ (nodes : List Node) (outs : List ℕ) where
         }
 
     -- a node whose inputs are counted
-    pub counted-read : (node : Node) → slice_get nodes n ≡ Some node → IsAmong n (left_input node) → IsAmong n (right_input node) → (new : List ℕ)
-        → ((k : ℕ) → number_of_readers new k ≡ number_of_readers old k + reads_by nodes n k) → IsCountedFrom n nodes outs new
-    counted-read node at left right new more =
+    pub counted-read : (new : List ℕ) → ((k : ℕ) → number_of_readers new k ≡ number_of_readers old k + reads_by nodes n k) → ((k : ℕ) → n ≤ k → reads_by nodes n k ≡ 0) → IsCountedFrom n nodes outs new
+    counted-read new more below =
         let grown : (i : ℕ) → total (is_read_from n new) (λ k. reads_by nodes k i) (length nodes) ≤ total (is_read_from (n + 1) old) (λ k. reads_by nodes k i) (length nodes) + reads_by nodes n i = λ i.
         total-more (λ k. reads_by nodes k i) (is_read_from (n + 1) old) (is_read_from n new) n (length nodes)
         (λ k read.
         let parts = read-parts new n k read in
         ⊎_elim
         (λ (later : n < k).
-        let none : reads_by nodes n k ≡ 0 = reads-above nodes n node at k left right parts.0 in
+        let none : reads_by nodes n k ≡ 0 = below k parts.0 in
         inl (read-from old (n + 1) k (omega (arith, later)) (let number = more k in omega (arith, none, number, parts.1))))
         (λ (first : k ≤ n). inr (omega (arith, first, parts.0))) (cases_lt n k)) in
         record {
@@ -98,3 +99,13 @@ module _ (nodes : List Node) (outs : List ℕ) where
     pub needed-read : (lists : Lists) (doc : Doc) (n : ℕ) → IsNeeded lists doc nodes outs n → 0 < number_of_readers readers n
     needed-read lists doc _ (needs.output n listed) = omega (arith, counted.shown n listed)
     needed-read lists doc _ (needs.input k n node at asks needed) = asked-read lists doc k n node at asks (needed-read lists doc k needed)
+
+-- the readers that are counted of these nodes and outputs are those of the plan
+pub scheduled : (plan : Parts) (nodes : List Node) (outs : List PlanOut) (readers : List ℕ) → nodes ≡ plan.nodes → outs ≡ plan.outputs → AreOutputs plan.nodes plan.outputs → length readers ≡ length nodes
+    → IsCountedFrom 0 nodes (map (λ (out : PlanOut). out.node) outs) readers → IsScheduled plan readers
+scheduled plan nodes outs readers same_nodes same_outs valid long counted = record {
+  long = long ∙ ap (λ (ns : List Node). length ns) same_nodes;
+  there = outputs-there plan.nodes plan.outputs valid;
+  counted = subst (λ (ns : List Node). IsCountedFrom 0 ns (map (λ (out : PlanOut). out.node) plan.outputs) readers) same_nodes
+      (subst (λ (os : List PlanOut). IsCountedFrom 0 nodes (map (λ (out : PlanOut). out.node) os) readers) same_outs counted);
+}

@@ -1,7 +1,8 @@
 -- Boards on which nodes wait: what a node asks for, and the board with the rows of one node more.
-use Rattle.std.proofs.Common.{◌≡◌, ◌∙◌, ◌+◌, ◌<◌, ◌≤◌, ◌⊎◌, inl, inr, ⊎_elim, ℕ, Bool, true, false, List, [], Option, Some, None, length, refl, sym, ap, subst, arith}
+use Rattle.std.proofs.Common.{◌≡◌, ◌∙◌, ◌+◌, ◌*◌, ◌<◌, ◌≤◌, ◌⊎◌, inl, inr, ⊎_elim, ℕ, Bool, true, false, List, [], Option, Some, None, length, refl, sym, ap, subst, arith}
 use Rattle.std.specs.Prelude.{slice_get, slice_index_or, IfSome, IsSome, Contains}
 use Rattle.std.proofs.lemmas.Bool.{cases_eq, cases_lt, false≢true, true≢false}
+use Rattle.std.proofs.lemmas.Grind.{common_steps}
 use Rattle.std.proofs.lemmas.Option.{none-some}
 use Rattle.span_token.specs.Documents.{Doc}
 use Rattle.row_values.specs.Rows.{RowList}
@@ -11,7 +12,7 @@ use Rattle.algebra.specs.Folds.{of_input}
 use Rattle.algebra.specs.Needed as needs
 use Rattle.algebra.specs.Plans.{Parts}
 use Rattle.algebra.specs.Values.{all_values}
-use Rattle.plan_operators.specs.Boards.{IsAskedFor, IsBoard, IsEmptyInput, IsMissing, IsNeededOn, IsOf, IsPassedOn, IsSource, IsStanding, IsTakenOff, IsThere, shown_by}
+use Rattle.plan_operators.specs.Boards.{IsAskedFor, IsBoard, IsEmptyInput, IsFilled, IsMissing, IsNeededOn, IsOf, IsPassedOn, IsSource, IsStanding, IsTakenOff, IsThere, shown_by}
 use Rattle.plan_operators.specs.Readers.{number_of_readers, number_waiting, reads_by, total, waits, IsCountedFrom}
 use Rattle.plan_operators.proofs.Boards.{emptied}
 use Rattle.plan_operators.proofs.Reading.{read-there, reads-left, reads-right, some-or-none, wait-from, wait-none, wait-parts, wait-some}
@@ -86,19 +87,13 @@ module _ (doc : Doc) (plan : Parts) (board : List (Option RowList)) (readers : L
       pub passed-needed : IsNeededOn doc plan source
       passed-needed = needs.input n source node at (inl (passed.passing.from_it node at)) needed
 
-      pub passed-lower : IsAmong n (left_input node) → source < n
-      passed-lower left = subst (IsAmong n) (passed.passing.from_it node at) left
-
     -- so whichever node has the inputs
-    module _ (source : ℕ) (from_source : IsSource plan.nodes board readers n source) (left_lower : IsAmong n (left_input node)) where
+    module _ (source : ℕ) (from_source : IsSource plan.nodes board readers n source) where
       pub source-waits : waits board readers source ≡ true
       source-waits = ⊎_elim (λ (e : source ≡ n). ap (waits board readers) e ∙ waiting) (λ (passed : IsPassedOn plan.nodes board readers source n). passed-waits source passed) from_source
 
       pub source-needed : IsNeededOn doc plan source
       source-needed = ⊎_elim (λ (e : source ≡ n). subst (IsNeededOn doc plan) (sym e) needed) (λ (passed : IsPassedOn plan.nodes board readers source n). passed-needed source passed) from_source
-
-      pub source-lower : source ≤ n
-      source-lower = ⊎_elim (λ (e : source ≡ n). omega (arith, e)) (λ (passed : IsPassedOn plan.nodes board readers source n). let lower = passed-lower source passed left_lower in omega (arith, lower)) from_source
 
       -- the board with its rows
       module _ (mid new : List (Option RowList)) (mid_readers new_readers : List ℕ) (off : IsTakenOff (reads_by plan.nodes source) board readers mid mid_readers)
@@ -199,7 +194,7 @@ module _ (doc : Doc) (plan : Parts) (board : List (Option RowList)) (readers : L
             (λ (same : slice_index_or mid m None ≡ slice_index_or board m None). is.needed m (subst IsSome same still)) (off.less m))
             (cases_eq m n)
 
-        pub standing-next : IsStanding doc plan new new_readers
+        standing-next : IsStanding doc plan new new_readers
         standing-next = record {
           long = long ∙ (off.long ∙ is.long);
           readers_long = readers_long ∙ (off.readers_long ∙ is.readers_long);
@@ -209,14 +204,14 @@ module _ (doc : Doc) (plan : Parts) (board : List (Option RowList)) (readers : L
         }
 
         -- fewer nodes wait
-        pub fewer-wait : number_waiting plan.nodes new new_readers < number_waiting plan.nodes board readers
+        fewer-wait : number_waiting plan.nodes new new_readers < number_waiting plan.nodes board readers
         fewer-wait =
             let less : number_waiting plan.nodes new new_readers + 1 ≤ number_waiting plan.nodes board readers =
             total-without (λ k. 1) (waits new new_readers) (waits board readers) n (length plan.nodes) n_there still_waits waiting filled in
             omega (arith, less)
 
         -- what outputs show stays
-        pub shown-kept : (m : ℕ) → Contains (shown_by plan) m → IsSome (slice_index_or board m None) → IsSome (slice_index_or new m None)
+        shown-kept : (m : ℕ) → Contains (shown_by plan) m → IsSome (slice_index_or board m None) → IsSome (slice_index_or new m None)
         shown-kept m shown some =
             ⊎_elim (λ (e : m ≡ n). subst (λ (k : ℕ). IsSome (slice_index_or new k None)) (sym e) (subst IsSome (sym there) refl))
             (λ (other : m ≡ n → ⊥).
@@ -228,3 +223,25 @@ module _ (doc : Doc) (plan : Parts) (board : List (Option RowList)) (readers : L
             absurd (omega (arith, unread, summed, off.fewer m, is.counted.shown m shown)))
             (λ (same : slice_index_or mid m None ≡ slice_index_or board m None). subst IsSome (sym same) some) (off.less m)))
             (cases_eq m n)
+
+        pub filled-next : IsFilled doc plan board readers new new_readers
+        filled-next = record { stands = standing-next; fewer = fewer-wait; kept = shown-kept }
+
+-- what the node asks for whose inputs a node needs
+pub source-asked : (doc : Doc) (plan : Parts) (board : List (Option RowList)) (readers : List ℕ) → IsStanding doc plan board readers → (n : ℕ) → waits board readers n ≡ true → IsNeededOn doc plan n
+    → (source : ℕ) → IsSource plan.nodes board readers n source → source ≤ n → (node other : Node) → slice_get plan.nodes source ≡ Some node → slice_get plan.nodes n ≡ Some other
+    → IsAmong source (left_input node) → IsAmong source (right_input node) → (i : ℕ) → IsMissing board node i → IsAskedFor doc plan board readers n i
+source-asked doc plan board readers is n waiting needed source from_source lower node other at at_n left right i missing =
+    let asked : IsAskedFor doc plan board readers source i =
+    missing-asked doc plan board readers is source node at (source-waits doc plan board readers is n other at_n waiting needed source from_source)
+    (source-needed doc plan board readers is n other at_n waiting needed source from_source) i left right missing in
+    let before = asked.lower in
+    record { lower = omega (arith, before, lower); waiting = asked.waiting; needed = asked.needed }
+
+-- what is left to do: a node that is asked for has a lower number than the one that asks, and each node that is evaluated waits no
+-- more
+pub less-asked : (w l t i : ℕ) → i < t → w * l + i < w * l + t
+less-asked w l t i lower = omega (arith, lower)
+
+pub less-filled : (w v l t i : ℕ) → v < w → i < l → v * l + i < w * l + t
+less-filled w v l t i fewer below = grind (arith, common_steps)

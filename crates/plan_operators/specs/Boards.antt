@@ -1,5 +1,5 @@
 -- What the nodes of a plan have, so far as they are evaluated.
-use Rattle.std.specs.Prelude.{ℕ, ◌≡◌, ◌+◌, ◌<◌, ◌≤◌, Bool, true, false, IsTrue, List, [], Option, Some, None, length, map, slice_get, slice_index_or, IfSome, IsSome, ◌⊎◌}
+use Rattle.std.specs.Prelude.{ℕ, ◌≡◌, ◌+◌, ◌<◌, ◌≤◌, Bool, true, false, IsTrue, List, [], Option, Some, None, length, map, slice_get, slice_index_or, IfSome, IsSome, Contains, ◌⊎◌}
 use Rattle.aql_base.specs.Bags.{SameBag}
 use Rattle.span_token.specs.Documents.{Doc}
 use Rattle.row_values.specs.Rows.{RowList, RowsLieIn}
@@ -12,7 +12,7 @@ use Rattle.algebra.specs.Needed.{IsNeeded}
 use Rattle.algebra.specs.Plans.{Parts}
 use Rattle.algebra.specs.Shapes.{no_shape, shapes_of}
 use Rattle.algebra.specs.Values.{all_values, val}
-use Rattle.plan_operators.specs.Readers.{IsCounted, number_of_readers, waits}
+use Rattle.plan_operators.specs.Readers.{IsCounted, number_of_readers, number_waiting, waits}
 
 -- the list has the rows of node n, in any order
 pub record IsOf (lists : Lists) (doc : Doc) (nodes : List Node) (n : ℕ) (list : RowList) : Type 0 where
@@ -172,3 +172,9 @@ pub record IsAskedFor (doc : Doc) (plan : Parts) (board : List (Option RowList))
   pub lower : i < by
   pub waiting : waits board readers i ≡ true
   pub needed : IsNeededOn doc plan i
+
+-- the rows of one node more are on the board: fewer nodes wait, and what outputs show stays
+pub record IsFilled (doc : Doc) (plan : Parts) (old : List (Option RowList)) (old_readers : List ℕ) (new : List (Option RowList)) (new_readers : List ℕ) : Type 0 where
+  pub stands : IsStanding doc plan new new_readers
+  pub fewer : number_waiting plan.nodes new new_readers < number_waiting plan.nodes old old_readers
+  pub kept : (m : ℕ) → Contains (shown_by plan) m → IsSome (slice_index_or old m None) → IsSome (slice_index_or new m None)

@@ -2,8 +2,8 @@ ghost use Rattle.std.specs.Prelude.{◌≡◌, ℕ, ◌<◌, ◌⊎◌, IfOk, If
 ghost use Rattle.span_token.specs.Documents.{Doc};
 ghost use Rattle.algebra.specs.Needed.{IsNeeded};
 ghost use Rattle.algebra.specs.Plans.{Parts};
-ghost use Rattle.plan_operators.specs.Boards.{Holds, IsAskedFor, IsNeededOn, IsStanding, shown_by};
-ghost use Rattle.plan_operators.specs.Readers.{number_of_readers, number_waiting, waits};
+ghost use Rattle.plan_operators.specs.Boards.{Holds, IsAskedFor, IsFilled, IsNeededOn, IsStanding, shown_by};
+ghost use Rattle.plan_operators.specs.Readers.{number_of_readers, waits};
 
 use crate::Schedule;
 use crate::filling::{missing, rows_of, source_of};
@@ -34,10 +34,11 @@ pub fn evaluate<'d>(
     ensures same { tools.new ≡ tools.old }
 {
     let plan = schedule.plan();
+    let outputs = plan.outputs();
     let mut board = empty_board(alloc, plan.nodes().len())?;
     let mut readers = Vec::from_slice(alloc, schedule.readers())?;
     let mut asking = Vec::new(alloc);
-    for out in plan.outputs() {
+    for out in outputs {
         fill(
             alloc,
             tools,
@@ -154,16 +155,15 @@ fn fill_or_ask<'d>(
     requires stands { IsStanding doc.now plan.now board.old.items readers.old.items }
     requires waits { waits board.old.items readers.old.items n ≡ true }
     requires needed { IsNeededOn doc.now plan.now n }
-    ensures stands { OnOk result (IsStanding doc.now plan.now board.new.items readers.new.items) }
     ensures asked { IfOk result (λ asked. IfSome asked (IsAskedFor doc.now plan.now board.new.items readers.new.items n)) }
     ensures before { IfOk result (λ asked. IfSome asked (λ _. (board.new.items ≡ board.old.items) × (readers.new.items ≡ readers.old.items))) }
-    ensures fewer { IfOk result (λ asked. IfNone asked (number_waiting plan.now.nodes board.new.items readers.new.items < number_waiting plan.now.nodes board.old.items readers.old.items)) }
-    ensures kept { OnOk result ((m : ℕ) → Contains (shown_by plan.now) m → IsSome (slice_index_or board.old.items m None) → IsSome (slice_index_or board.new.items m None)) }
+    ensures filled { IfOk result (λ asked. IfNone asked (IsFilled doc.now plan.now board.old.items readers.old.items board.new.items readers.new.items)) }
     ensures same { tools.new ≡ tools.old }
 {
     let nodes = plan.nodes();
-    let source = source_of(nodes, n, board.as_slice(), readers);
-    match missing(nodes.get(source), board.as_slice()) {
+    let source = source_of(nodes, n, board.as_slice(), readers.as_slice());
+    let node = nodes.get(source);
+    match missing(node, board.as_slice()) {
         Some(input) => Ok(Some(input)),
         None => {
             let rows = rows_of(alloc, tools, doc, nodes, n, source, board, readers)?;

@@ -22,7 +22,8 @@ pub(crate) fn source_of(nodes: &Nodes, n: u32, board: &[Option<Rows<'_>>], reade
     requires there { n < length nodes.now }
     requires long { length board.now ≡ length nodes.now }
     requires readers_long { length readers.now ≡ length nodes.now }
-    ensures { IsSource nodes.now board.now readers.now n result }
+    ensures source { IsSource nodes.now board.now readers.now n result }
+    ensures lower { result ≤ n }
 {
     let node = nodes.get(n);
     match node.inputs() {
@@ -148,10 +149,12 @@ fn rows_by<'d>(
 {
     let node = nodes.get(source);
     if source == n {
-        apply(alloc, tools, doc, node, left, right)
+        let rows = apply(alloc, tools, doc, node, left, right)?;
+        Ok(rows)
     } else {
         let next = nodes.get(n);
-        apply_to_passed(alloc, tools, doc, node, next, left.rows(), right.rows())
+        let passed = apply_to_passed(alloc, tools, doc, node, next, left.rows(), right.rows())?;
+        Ok(passed)
     }
 }
 

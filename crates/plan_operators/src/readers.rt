@@ -70,11 +70,14 @@ fn count_from_last(nodes: &Nodes, readers: &mut Vec<u64>)
 fn count_inputs(nodes: &Nodes, n: u32, readers: &mut Vec<u64>)
     requires there { n < length nodes.now }
     requires long { vec_len readers.old ≡ length nodes.now }
-    requires few { (k : ℕ) → number_of_readers readers.old.items k ≤ 2 * length nodes.now }
+    requires few { (k : ℕ) → number_of_readers readers.old.items k < 2 ^ 36 }
     ensures long { vec_len readers.new ≡ vec_len readers.old }
     ensures more { (k : ℕ) → number_of_readers readers.new.items k ≡ number_of_readers readers.old.items k + reads_by nodes.now n k }
+    ensures most { (k : ℕ) → reads_by nodes.now n k ≤ 2 }
+    ensures below { (k : ℕ) → n ≤ k → reads_by nodes.now n k ≡ 0 }
 {
-    let (left, right) = nodes.get(n).inputs();
+    let node = nodes.get(n);
+    let (left, right) = node.inputs();
     count(left, readers);
     count(right, readers);
 }
