@@ -1,12 +1,12 @@
 -- The rows of nodes, made of those of their inputs.
-use Rattle.std.proofs.Common.{◌≡◌, ◌∙◌, ◌<◌, ◌≤◌, ◌+◌, ◌^◌, ◌++◌, ◌∷◌, ℕ, List, [], Option, Some, None, length, refl, sym, ap, subst, arith, ⊎_elim}
+use Rattle.std.proofs.Common.{◌≡◌, ◌∙◌, ◌<◌, ◌≤◌, ◌+◌, ◌^◌, ◌++◌, ◌∷◌, ℕ, List, [], Option, Some, None, length, take, refl, sym, ap, subst, arith, ⊎_elim}
 use Rattle.std.specs.Prelude.{slice_index_or, IfSome, IfNone, IsSome, map, true, ◌⊎◌, Contains}
 use Rattle.std.proofs.Common.{inl, inr}
 use Rattle.std.proofs.lemmas.Bool.{cases_lt, true≢false}
-use Rattle.std.proofs.lemmas.List.{length-append, length-map, get_or-map}
+use Rattle.std.proofs.lemmas.List.{length-map, length-take, get_or-map, get_or-take, take_more}
 use Rattle.std.proofs.Math.ListN.{get_or-append}
 use Rattle.std.proofs.Math.Seq.{get_or-append_seam}
-use Rattle.std.proofs.lemmas.List.Elements.{All-nil, All-weaker, Contains-get_or}
+use Rattle.std.proofs.lemmas.List.Elements.{All-nil, All-push, All-weaker, Contains-get_or}
 use Rattle.aql_base.specs.Bags.{SameBag}
 use Rattle.aql_base.specs.CountLaws.{length-SameBag}
 use Rattle.aql_base.specs.BagLaws.{SameBag-is, SameBag-refl, SameBag-sym, SameBag-trans}
@@ -257,3 +257,15 @@ pub shown-listed : (shown : List PlanOut) (k : ℕ) (d : PlanOut) → k < length
 shown-listed shown k d below =
     subst (Contains (map (λ (out : PlanOut). out.node) shown)) (get_or-map (λ (out : PlanOut). out.node) shown k d 0 below)
     (Contains-get_or (map (λ (out : PlanOut). out.node) shown) k 0 (omega (arith, below, length-map shown (λ (out : PlanOut). out.node))))
+
+-- the nodes of one output more are there, where those of the outputs before it stay
+pub there-more : (outs : List PlanOut) (i : ℕ) (out : PlanOut) (old new : List (Option RowList)) → i < length outs → out ≡ slice_index_or outs i out
+    → ((m : ℕ) → Contains (map (λ (o : PlanOut). o.node) outs) m → IsSome (slice_index_or old m None) → IsSome (slice_index_or new m None)) → IsSome (slice_index_or new out.node None)
+    → All (λ (o : PlanOut). IsSome (slice_index_or old o.node None)) (take i outs) → All (λ (o : PlanOut). IsSome (slice_index_or new o.node None)) (take (i + 1) outs)
+there-more outs i out old new below at kept there before =
+    let was : All (λ (o : PlanOut). IsSome (slice_index_or new o.node None)) (take i outs) = λ k d inside.
+        let early : k < i = omega (arith, inside, length-take i outs) in
+        let same : slice_index_or (take i outs) k d ≡ slice_index_or outs k d = get_or-take i outs k d early in
+        kept (slice_index_or (take i outs) k d).node (subst (λ (o : PlanOut). Contains (map (λ (p : PlanOut). p.node) outs) o.node) (sym same) (shown-listed outs k d (omega (arith, early, below)))) (before k d inside) in
+    subst (All (λ (o : PlanOut). IsSome (slice_index_or new o.node None))) (sym (take_more outs i out below ∙ ap (λ (o : PlanOut). take i outs ++ o ∷ []) (sym at)))
+    (All-push (λ (o : PlanOut). IsSome (slice_index_or new o.node None)) (take i outs) out was there)

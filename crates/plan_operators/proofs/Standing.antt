@@ -49,6 +49,13 @@ module _ (doc : Doc) (plan : Parts) (board : List (Option RowList)) (readers : L
   absent_waits : (k i : ℕ) → waits board readers k ≡ true → 0 < reads_by plan.nodes k i → slice_index_or board i None ≡ None → waits board readers i ≡ true
   absent_waits k i waiting reads absent = wait-from (slice_index_or board i None) (number_of_readers readers i) absent (let most = reads-counted k i waiting in omega (arith, reads, most))
 
+  -- a node that outputs show is there
+  pub shown-there : (n : ℕ) → Contains (shown_by plan) n → n < length plan.nodes
+  shown-there n shown =
+      let most = is.counted.shown n shown in
+      let below : n < length readers = read-there readers n (omega (arith, most)) in
+      omega (arith, below, is.readers_long)
+
   -- a node that outputs show waits where it has no rows
   pub shown-waits : (n : ℕ) → Contains (shown_by plan) n → slice_index_or board n None ≡ None → waits board readers n ≡ true
   shown-waits n shown absent = wait-from (slice_index_or board n None) (number_of_readers readers n) absent (omega (arith, is.counted.shown n shown))
