@@ -1,11 +1,9 @@
 -- The rows of nodes, made of those of their inputs.
-use Rattle.std.proofs.Common.{◌≡◌, ◌∙◌, ◌<◌, ◌≤◌, ◌+◌, ◌^◌, ◌++◌, ◌∷◌, ℕ, List, [], Option, Some, None, length, take, refl, sym, ap, subst, arith, ⊎_elim}
-use Rattle.std.specs.Prelude.{slice_index_or, IfSome, IfNone, IsSome, map, true, ◌⊎◌, Contains}
+use Rattle.std.proofs.Common.{◌≡◌, ◌∙◌, ◌<◌, ◌+◌, ◌++◌, ◌∷◌, ℕ, List, [], Option, Some, None, length, take, refl, sym, ap, subst, arith, ⊎_elim}
+use Rattle.std.specs.Prelude.{slice_index_or, IfSome, IfNone, IsSome, map, true, Contains}
 use Rattle.std.proofs.Common.{inl, inr}
-use Rattle.std.proofs.lemmas.Bool.{cases_lt, true≢false}
+use Rattle.std.proofs.lemmas.Bool.{true≢false}
 use Rattle.std.proofs.lemmas.List.{length-map, length-take, get_or-map, get_or-take, take_more}
-use Rattle.std.proofs.Math.ListN.{get_or-append}
-use Rattle.std.proofs.Math.Seq.{get_or-append_seam}
 use Rattle.std.proofs.lemmas.List.Elements.{All-nil, All-push, All-weaker, Contains-get_or}
 use Rattle.aql_base.specs.Bags.{SameBag}
 use Rattle.aql_base.specs.CountLaws.{length-SameBag}
@@ -25,7 +23,6 @@ use Rattle.algebra.specs.Plans.{IsOutput, AreOutputs}
 use Rattle.algebra.specs.Growth.{IsAt}
 use Rattle.algebra.specs.Inputs.{left_input, right_input, is_conditional, IsAmong}
 use Rattle.algebra.specs.JoiningLaws.{conditional-nil}
-use Rattle.algebra.specs.Needed as needs
 use Rattle.algebra.specs.OperatorLaws.{op-SameBag}
 use Rattle.algebra.specs.Operators.{op}
 use Rattle.algebra.specs.Shapes.{no_shape, shapes_of, shape_by}
@@ -264,8 +261,8 @@ pub there-more : (outs : List PlanOut) (i : ℕ) (out : PlanOut) (old new : List
     → All (λ (o : PlanOut). IsSome (slice_index_or old o.node None)) (take i outs) → All (λ (o : PlanOut). IsSome (slice_index_or new o.node None)) (take (i + 1) outs)
 there-more outs i out old new below at kept there before =
     let was : All (λ (o : PlanOut). IsSome (slice_index_or new o.node None)) (take i outs) = λ k d inside.
-        let early : k < i = omega (arith, inside, length-take i outs) in
-        let same : slice_index_or (take i outs) k d ≡ slice_index_or outs k d = get_or-take i outs k d early in
-        kept (slice_index_or (take i outs) k d).node (subst (λ (o : PlanOut). Contains (map (λ (p : PlanOut). p.node) outs) o.node) (sym same) (shown-listed outs k d (omega (arith, early, below)))) (before k d inside) in
+    let early : k < i = omega (arith, inside, length-take i outs) in
+    let same : slice_index_or (take i outs) k d ≡ slice_index_or outs k d = get_or-take i outs k d early in
+    kept (slice_index_or (take i outs) k d).node (subst (λ (o : PlanOut). Contains (map (λ (p : PlanOut). p.node) outs) o.node) (sym same) (shown-listed outs k d (omega (arith, early, below)))) (before k d inside) in
     subst (All (λ (o : PlanOut). IsSome (slice_index_or new o.node None))) (sym (take_more outs i out below ∙ ap (λ (o : PlanOut). take i outs ++ o ∷ []) (sym at)))
     (All-push (λ (o : PlanOut). IsSome (slice_index_or new o.node None)) (take i outs) out was there)

@@ -1,7 +1,7 @@
 -- How the readers of a plan's nodes are counted, from the last one on, and which nodes are read.
-use Rattle.std.proofs.Common.{◌≡◌, ◌∙◌, ◌+◌, ◌<◌, ◌≤◌, ◌⊎◌, inl, inr, ⊎_elim, ℕ, zero, suc, Bool, true, false, List, Option, Some, None, length, map, refl, arith, All, ap, subst}
-use Rattle.std.specs.Prelude.{slice_get, slice_index_or, nat_le, Contains, IfSome}
-use Rattle.std.proofs.lemmas.Bool.{and_from, and_parts, cases_lt, false≢true, le-leb, leb-true}
+use Rattle.std.proofs.Common.{◌≡◌, ◌∙◌, ◌+◌, ◌<◌, ◌≤◌, inl, inr, ⊎_elim, ℕ, true, List, Option, Some, None, length, map, refl, arith, All, ap, subst}
+use Rattle.std.specs.Prelude.{slice_get, slice_index_or, nat_le}
+use Rattle.std.proofs.lemmas.Bool.{and_from, and_parts, cases_lt, le-leb, leb-true}
 use Rattle.std.proofs.lemmas.List.Elements.{All-contains}
 use Rattle.std.proofs.lemmas.Option.{slice_get_within}
 use Rattle.span_token.specs.Documents.{Doc}

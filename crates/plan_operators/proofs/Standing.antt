@@ -1,18 +1,16 @@
 -- Boards on which nodes wait: what a node asks for, and the board with the rows of one node more.
-use Rattle.std.proofs.Common.{◌≡◌, ◌∙◌, ◌+◌, ◌*◌, ◌<◌, ◌≤◌, ◌⊎◌, inl, inr, ⊎_elim, ℕ, Bool, true, false, List, [], Option, Some, None, length, refl, sym, ap, subst, arith}
+use Rattle.std.proofs.Common.{◌≡◌, ◌∙◌, ◌+◌, ◌*◌, ◌<◌, ◌≤◌, ◌⊎◌, inl, inr, ⊎_elim, ℕ, true, false, List, Option, Some, None, length, refl, sym, ap, subst, arith}
 use Rattle.std.specs.Prelude.{slice_get, slice_index_or, IfSome, IsSome, Contains}
-use Rattle.std.proofs.lemmas.Bool.{cases_eq, cases_lt, false≢true, true≢false}
+use Rattle.std.proofs.lemmas.Bool.{cases_eq, true≢false}
 use Rattle.std.proofs.lemmas.Grind.{common_steps}
 use Rattle.std.proofs.lemmas.Option.{none-some}
 use Rattle.span_token.specs.Documents.{Doc}
 use Rattle.row_values.specs.Rows.{RowList}
 use Rattle.algebra.specs.declared.node.Node.{Node}
 use Rattle.algebra.specs.Inputs.{left_input, right_input, is_conditional, IsAmong}
-use Rattle.algebra.specs.Folds.{of_input}
 use Rattle.algebra.specs.Needed as needs
 use Rattle.algebra.specs.Plans.{Parts}
-use Rattle.algebra.specs.Values.{all_values}
-use Rattle.plan_operators.specs.Boards.{IsAskedFor, IsBoard, IsEmptyInput, IsFilled, IsMissing, IsNeededOn, IsOf, IsPassedOn, IsSource, IsStanding, IsTakenOff, IsThere, shown_by}
+use Rattle.plan_operators.specs.Boards.{IsAskedFor, IsEmptyInput, IsFilled, IsMissing, IsNeededOn, IsOf, IsPassedOn, IsSource, IsStanding, IsTakenOff, IsThere, shown_by}
 use Rattle.plan_operators.specs.Readers.{number_of_readers, number_waiting, reads_by, total, waits, IsCountedFrom}
 use Rattle.plan_operators.proofs.Boards.{emptied}
 use Rattle.plan_operators.proofs.Reading.{read-there, reads-left, reads-right, some-or-none, wait-from, wait-none, wait-parts, wait-some}

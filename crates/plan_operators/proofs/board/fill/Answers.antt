@@ -1,10 +1,10 @@
-use Rattle.std.proofs.Common.{◌≡◌, ◌∙◌, ◌<◌, ◌⊎◌, ℕ, List, [], Option, Some, None, All, true, not, length, refl, sym, ap, subst, arith, ⊎_elim}
-use Rattle.std.specs.Prelude.{slice_index_or, Contains, IfNone, IsSome}
+use Rattle.std.proofs.Common.{◌≡◌, ◌∙◌, ◌<◌, ℕ, List, Option, None, All, true, not, length, refl, sym, ap, subst, arith, ⊎_elim}
+use Rattle.std.specs.Prelude.{IfNone, IsSome}
 use Rattle.std.proofs.lemmas.List.{get_or_default}
 use Rattle.std.proofs.lemmas.List.Elements.{All-nil}
 use Rattle.row_values.specs.Rows.{RowList}
 use Rattle.algebra.specs.Needed as needs
-use Rattle.plan_operators.specs.Boards.{IsFilled, IsNeededOn, IsStanding, shown_by}
+use Rattle.plan_operators.specs.Boards.{IsFilled, IsNeededOn}
 use Rattle.plan_operators.specs.Readers.{number_waiting, waits}
 use Rattle.plan_operators.proofs.Standing.{less-filled, shown-there, shown-waits, waiting-there}
 use Rattle.plan_operators.proofs.board.fill.Goals as goal

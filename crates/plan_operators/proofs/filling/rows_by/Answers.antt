@@ -1,10 +1,9 @@
-use Rattle.std.proofs.Common.{◌≡◌, ◌∙◌, ℕ, Option, Some, sym, ap, subst, ⊎_elim}
-use Rattle.std.specs.Prelude.{IsTrue, slice_get}
+use Rattle.std.proofs.Common.{◌≡◌, ℕ, Some, sym, subst, ⊎_elim}
 use Rattle.row_values.specs.Rows.{RowList, RowsLieIn}
 use Rattle.algebra.specs.Inputs.{left_input, right_input}
 use Rattle.algebra.specs.Folds.{of_input}
 use Rattle.algebra.specs.Shapes.{no_shape, shapes_of}
-use Rattle.plan_operators.specs.Boards.{IsInput, IsOf, IsPassing, IsRightInput, does_pass}
+use Rattle.plan_operators.specs.Boards.{IsInput, IsOf, IsPassing, IsRightInput}
 use Rattle.plan_operators.specs.Given.{input_rows, MayRead}
 use Rattle.plan_operators.proofs.Boards.{may_read, passed_is, right_lies, right_wide, rows_are}
 use Rattle.plan_operators.proofs.Reading.{node-at}

@@ -1,4 +1,5 @@
-use Rattle.std.proofs.Common.{◌≡◌, ◌-◌, ◌+◌, ℕ, subst, arith}
+use Rattle.std.proofs.Common.{◌≡◌, ◌∙◌, ◌-◌, ◌+◌, ◌<◌, ℕ, length, sym, subst, arith}
+use Rattle.std.proofs.lemmas.List.{get_or_default}
 use Rattle.plan_operators.specs.Readers.{number_of_readers, IsCountedFrom}
 use Rattle.plan_operators.proofs.Scheduling.{counted-read, counted-unread}
 use Rattle.plan_operators.proofs.readers.count_from_last.Goals as goal
@@ -25,7 +26,9 @@ pub nodes-preserved : goal.nodes-preserved
 nodes-preserved c =
     let n = c.nodes.rest - 1 in
     let before : c.nodes.rest ≡ c.nodes.rest - 1 + 1 = omega (arith, c.nodes-test.true) in
-    let unread : number_of_readers c.nodes.readers.items n ≡ 0 = omega (arith, c.if-index-gt0.false) in
+    let there : n < length c.nodes.readers.items = omega (arith, c.nodes.invariant.long, c.nodes.invariant.within, c.nodes.readers.ok.0, c.nodes-test.true) in
+    let same : number_of_readers c.nodes.readers.items n ≡ c.index.result.now = get_or_default c.nodes.readers.items n 0 c.index.result.now there ∙ sym c.index.ensures in
+    let unread : number_of_readers c.nodes.readers.items n ≡ 0 = omega (arith, same, c.if-index-gt0.false) in
     record {
       long = c.nodes.invariant.long;
       short = c.nodes.invariant.short;

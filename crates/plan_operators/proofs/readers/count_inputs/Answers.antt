@@ -1,6 +1,4 @@
-use Rattle.std.proofs.Common.{◌≡◌, ◌∙◌, ◌+◌, ℕ, List, Option, Some, sym, ap, arith}
-use Rattle.std.specs.Prelude.{slice_get}
-use Rattle.algebra.specs.declared.node.Node.{Node}
+use Rattle.std.proofs.Common.{◌≡◌, ℕ, Option, ap, arith}
 use Rattle.algebra.specs.Inputs.{left_input, right_input}
 use Rattle.plan_operators.specs.Readers.{times}
 use Rattle.plan_operators.proofs.Reading.{node-at, reads-above, reads-both, reads-most, times-most}
