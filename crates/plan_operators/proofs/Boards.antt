@@ -1,12 +1,10 @@
 -- The rows of nodes, made of those of their inputs.
-use Rattle.std.proofs.Common.{◌≡◌, ◌∙◌, ◌<◌, ◌≤◌, ◌+◌, ◌^◌, ◌++◌, ◌∷◌, ℕ, List, [], Option, Some, None, length, refl, sym, ap, subst, arith, ⊎_elim}
-use Rattle.std.specs.Prelude.{slice_index_or, IfSome, IfNone, IsSome, map, true, ◌⊎◌, Contains}
+use Rattle.std.proofs.Common.{◌≡◌, ◌∙◌, ◌<◌, ◌+◌, ◌++◌, ◌∷◌, ℕ, List, [], Option, Some, None, length, take, refl, sym, ap, subst, arith, ⊎_elim}
+use Rattle.std.specs.Prelude.{slice_index_or, IfSome, IfNone, IsSome, map, true, Contains}
 use Rattle.std.proofs.Common.{inl, inr}
-use Rattle.std.proofs.lemmas.Bool.{cases_lt, true≢false}
-use Rattle.std.proofs.lemmas.List.{length-append, length-map, get_or-map}
-use Rattle.std.proofs.Math.ListN.{get_or-append}
-use Rattle.std.proofs.Math.Seq.{get_or-append_seam}
-use Rattle.std.proofs.lemmas.List.Elements.{All-nil, All-weaker, Contains-get_or}
+use Rattle.std.proofs.lemmas.Bool.{true≢false}
+use Rattle.std.proofs.lemmas.List.{length-map, length-take, get_or-map, get_or-take, take_more}
+use Rattle.std.proofs.lemmas.List.Elements.{All-nil, All-push, All-weaker, Contains-get_or}
 use Rattle.aql_base.specs.Bags.{SameBag}
 use Rattle.aql_base.specs.CountLaws.{length-SameBag}
 use Rattle.aql_base.specs.BagLaws.{SameBag-is, SameBag-refl, SameBag-sym, SameBag-trans}
@@ -25,12 +23,11 @@ use Rattle.algebra.specs.Plans.{IsOutput, AreOutputs}
 use Rattle.algebra.specs.Growth.{IsAt}
 use Rattle.algebra.specs.Inputs.{left_input, right_input, is_conditional, IsAmong}
 use Rattle.algebra.specs.JoiningLaws.{conditional-nil}
-use Rattle.algebra.specs.Needed as needs
 use Rattle.algebra.specs.OperatorLaws.{op-SameBag}
 use Rattle.algebra.specs.Operators.{op}
 use Rattle.algebra.specs.Shapes.{no_shape, shapes_of, shape_by}
 use Rattle.algebra.specs.Values.{all_values, val}
-use Rattle.plan_operators.specs.Boards.{IsOf, Holds, HasAsked, HasNeeded, IsBoard, IsEmptyInput, IsInput, IsOnBoard, IsRightInput, IsSpared, IsTaken, IsThere, input_on, read_until, rows_found, rows_or_none}
+use Rattle.plan_operators.specs.Boards.{IsOf, Holds, HasAsked, IsBoard, IsEmptyInput, IsEmptyOn, IsInput, IsOnBoard, IsRightInput, IsSpared, IsTaken, IsThere, input_on, rows_found, rows_or_none}
 use Rattle.plan_operators.specs.Given.{MayRead}
 
 none_of : (xs : Rows) → length xs ≡ 0 → xs ≡ []
@@ -70,6 +67,15 @@ module _ (lists : Lists) (doc : Doc) (nodes : List Node) where
         let is : IsOf lists doc nodes i empty.list = subst (λ (o : Option RowList). IfSome o (IsOf lists doc nodes i)) empty.list_is (has.each i empty.there) in
         same_none (val lists doc nodes i) empty.list.rows (SameBag-sym empty.list.rows (val lists doc nodes i) is.same) empty.none
 
+    -- and an input that is there and worth none has none
+    pub emptied : (n : ℕ) → n < length board → (o : Option ℕ) → IsAmong n o → IsThere board o → of_input [] (all_values lists doc nodes) o ≡ [] → IsEmptyInput board o
+    emptied n below None among present none = tt
+    emptied n below (Some i) among present none = empty_at (slice_index_or board i None) refl present (has.each i (omega (arith, among, below)))
+      where
+        empty_at : (p : Option RowList) → slice_index_or board i None ≡ p → IsSome p → IfSome p (IsOf lists doc nodes i) → IsEmptyOn board i
+        empty_at None e is_some is = absurd (true≢false (sym is_some))
+        empty_at (Some list) e is_some is = record { there = omega (arith, among, below); list = list; list_is = e; none = same_none list.rows (val lists doc nodes i) is.same none }
+
     fit : (o : Option ℕ) → IsAmong (length board) o → ((input_on nodes board o).width ≡ (of_input no_shape (shapes_of nodes) o).width) × RowsLieIn doc (input_on nodes board o).rows
     fit None among = (refl, All-nil (All (IsOfDocument doc)))
     fit (Some i) among = fits i (slice_index_or board i None) (has.each i among)
@@ -89,30 +95,6 @@ module _ (lists : Lists) (doc : Doc) (nodes : List Node) where
         let below : taken.place < length board = subst (IsAmong (length board)) taken.is_input among in
         let is : IsOf lists doc nodes taken.place rows = subst (λ (o : Option RowList). IfSome o (IsOf lists doc nodes taken.place)) taken.rows_are (has.each taken.place below) in
         subst (λ (o : Option ℕ). IsInput lists doc nodes o rows) (sym taken.is_input) (record { same = is.same; wide = is.wide; lies = is.lies })
-
-    -- and what is left of it is right as well
-    pub board_less : (new : List (Option RowList)) → length new ≡ length board
-        → ((m : ℕ) → (slice_index_or new m None ≡ None) ⊎ (slice_index_or new m None ≡ slice_index_or board m None)) → IsBoard lists doc nodes new
-    board_less new long less = record {
-      each = λ n below.
-          ⊎_elim (λ (gone : slice_index_or new n None ≡ None). subst (λ (o : Option RowList). IfSome o (IsOf lists doc nodes n)) (sym gone) tt)
-          (λ (same : slice_index_or new n None ≡ slice_index_or board n None). subst (λ (o : Option RowList). IfSome o (IsOf lists doc nodes n)) (sym same) (has.each n (omega (arith, below, long))))
-          (less n);
-    }
-
-    -- the board after one more node
-    pub board_next : (o : Option RowList) → IfSome o (IsOf lists doc nodes (length board)) → IsBoard lists doc nodes (board ++ o ∷ [])
-    board_next o now = record {
-      each = λ m below.
-          let size : length (board ++ o ∷ []) ≡ length board + 1 = length-append board (o ∷ []) in
-          ⊎_elim
-          (λ (before : m < length board). subst (λ (p : Option RowList). IfSome p (IsOf lists doc nodes m)) (sym (get_or-append board (o ∷ []) None m before)) (has.each m before))
-          (λ (last : length board ≤ m).
-          let is : m ≡ length board = omega (arith, last, below, size) in
-          subst (λ (k : ℕ). IfSome (slice_index_or (board ++ o ∷ []) k None) (IsOf lists doc nodes k)) (sym is)
-          (subst (λ (p : Option RowList). IfSome p (IsOf lists doc nodes (length board))) (sym (get_or-append_seam board o [] None)) now))
-          (cases_lt m (length board));
-    }
 
   -- an input whose rows stand as they stood
   same_input : (old new : List (Option RowList)) (o : Option ℕ) → ((m : ℕ) → o ≡ Some m → slice_index_or new m None ≡ slice_index_or old m None) → input_on nodes new o ≡ input_on nodes old o
@@ -194,12 +176,7 @@ module _ (lists : Lists) (doc : Doc) (nodes : List Node) where
         lies = lies;
       }
 
-    -- of both inputs
-    node_is : (r : IsInput lists doc nodes (right_input node) right) (out : RowList) → SameBag out.rows (op lists doc node left.rows right.rows)
-        → out.width ≡ (shape_by node (of_input no_shape (shapes_of nodes) (left_input node)) (of_input no_shape (shapes_of nodes) (right_input node))).width → RowsLieIn doc out.rows → IsOf lists doc nodes n out
-    node_is r out same wide lies = is_of r.wide out (op-SameBag lists doc node left.rows left_worth right.rows right_worth l.same r.same) same wide lies
-
-    -- of the left one alone
+    -- so it does where the left one has no row, whatever stands for the right one
     spared_same : is_conditional node ≡ true → left_worth ≡ [] → SameBag (op lists doc node left.rows right.rows) (op lists doc node left_worth right_worth)
     spared_same conditional none =
         let no_left : left.rows ≡ [] = same_none left.rows left_worth l.same none in
@@ -219,33 +196,37 @@ module _ (lists : Lists) (doc : Doc) (nodes : List Node) where
     pub may_read : MayRead node left right
     may_read = may_read_wide n node at left right l right_wide
 
+    -- its operator gives of them what it gives of its inputs' values
+    pub worth-same : SameBag (op lists doc node left.rows right.rows) (op lists doc node (of_input [] (all_values lists doc nodes) (left_input node)) (of_input [] (all_values lists doc nodes) (right_input node)))
+    worth-same =
+        ⊎_elim
+        (λ (is : IsInput lists doc nodes (right_input node) right).
+        op-SameBag lists doc node left.rows (of_input [] (all_values lists doc nodes) (left_input node)) right.rows (of_input [] (all_values lists doc nodes) (right_input node)) l.same is.same)
+        (λ (spared : IsSpared lists doc nodes node right). spared_same n node at left right l spared.conditional spared.none) r
+
     pub rows_are : (out : RowList) → SameBag out.rows (op lists doc node left.rows right.rows)
         → out.width ≡ (shape_by node (of_input no_shape (shapes_of nodes) (left_input node)) (of_input no_shape (shapes_of nodes) (right_input node))).width → RowsLieIn doc out.rows → IsOf lists doc nodes n out
-    rows_are out same wide lies =
-        ⊎_elim (λ (is : IsInput lists doc nodes (right_input node) right). node_is n node at left right l is out same wide lies)
-        (λ (spared : IsSpared lists doc nodes node right). is_of n node at left right l right_wide out (spared_same n node at left right l spared.conditional spared.none) same wide lies) r
+    rows_are out same wide lies = is_of n node at left right l right_wide out worth-same same wide lies
 
   -- the rows that one node gives of those that another one gives of its inputs' rows
-  pub passed_is : (n : ℕ) (p s : Node) → left_input s ≡ Some n → right_input s ≡ None → IsAt nodes n p → IsAt nodes (n + 1) s
-      → (left right : RowList) → IsInput lists doc nodes (left_input p) left → IsInput lists doc nodes (right_input p) right
-      → (out : RowList) → out.rows ≡ op lists doc s (op lists doc p left.rows right.rows) []
+  pub passed_is : (k n : ℕ) (p s : Node) → left_input s ≡ Some k → right_input s ≡ None → (at_p : IsAt nodes k p) → IsAt nodes n s → (left right : RowList) → (lin : IsInput lists doc nodes (left_input p) left)
+      → (rin : IsRightInput lists doc nodes p right) → (out : RowList) → out.rows ≡ op lists doc s (op lists doc p left.rows right.rows) []
       → out.width ≡ (shape_by s (shape_by p (of_input no_shape (shapes_of nodes) (left_input p)) (of_input no_shape (shapes_of nodes) (right_input p))) no_shape).width
-      → RowsLieIn doc out.rows → IsOf lists doc nodes (n + 1) out
-  passed_is n p s from_it alone at_p at_s left right lin rin out rows width lies =
+      → RowsLieIn doc out.rows → IsOf lists doc nodes n out
+  passed_is k n p s from_it alone at_p at_s left right lin rin out rows width lies =
       let worth : Option ℕ → Rows = of_input [] (all_values lists doc nodes) in
       let shape : Option ℕ → Shape = of_input no_shape (shapes_of nodes) in
       let given : Rows = op lists doc p left.rows right.rows in
-      let is_given : SameBag given (val lists doc nodes n) =
-      SameBag-trans given (op lists doc p (worth (left_input p)) (worth (right_input p))) (val lists doc nodes n)
-      (op-SameBag lists doc p left.rows (worth (left_input p)) right.rows (worth (right_input p)) lin.same rin.same)
-      (SameBag-sym (val lists doc nodes n) (op lists doc p (worth (left_input p)) (worth (right_input p))) (at_p.stands.has.same lists doc)) in
+      let is_given : SameBag given (val lists doc nodes k) =
+      SameBag-trans given (op lists doc p (worth (left_input p)) (worth (right_input p))) (val lists doc nodes k) (worth-same k p at_p left right lin rin)
+      (SameBag-sym (val lists doc nodes k) (op lists doc p (worth (left_input p)) (worth (right_input p))) (at_p.stands.has.same lists doc)) in
       let on_left : SameBag given (worth (left_input s)) = subst (λ (o : Option ℕ). SameBag given (worth o)) (sym from_it) is_given in
       let on_right : SameBag [] (worth (right_input s)) = subst (λ (o : Option ℕ). SameBag [] (worth o)) (sym alone) (SameBag-refl []) in
       let meant : Rows = op lists doc s (worth (left_input s)) (worth (right_input s)) in
       record {
-        same = SameBag-trans out.rows (op lists doc s given []) (val lists doc nodes (n + 1)) (SameBag-is out.rows (op lists doc s given []) rows)
-            (SameBag-trans (op lists doc s given []) meant (val lists doc nodes (n + 1)) (op-SameBag lists doc s given (worth (left_input s)) [] (worth (right_input s)) on_left on_right)
-            (SameBag-sym (val lists doc nodes (n + 1)) meant (at_s.stands.has.same lists doc)));
+        same = SameBag-trans out.rows (op lists doc s given []) (val lists doc nodes n) (SameBag-is out.rows (op lists doc s given []) rows)
+            (SameBag-trans (op lists doc s given []) meant (val lists doc nodes n) (op-SameBag lists doc s given (worth (left_input s)) [] (worth (right_input s)) on_left on_right)
+            (SameBag-sym (val lists doc nodes n) meant (at_s.stands.has.same lists doc)));
         wide = width ∙ (ap (λ (t : Shape). (shape_by s t no_shape).width) (sym at_p.stands.has.shaped ∙ ap shape (sym from_it))
             ∙ (ap (λ (o : Option ℕ). (shape_by s (shape (left_input s)) (shape o)).width) (sym alone) ∙ sym (ap (λ (t : Shape). t.width) at_s.stands.has.shaped)));
         lies = lies;
@@ -261,16 +242,27 @@ pub held-there : (lists : Lists) (doc : Doc) (nodes : List Node) (n : ℕ) (o : 
 held-there lists doc nodes n None some is = absurd (true≢false (sym some))
 held-there lists doc nodes n (Some list) some is = is
 
--- and their rows are on the board
-pub all-shown : (lists : Lists) (doc : Doc) (nodes : List Node) (outs untils : List ℕ) (board : List (Option RowList)) (shown : List PlanOut)
-    → outs ≡ map (λ (out : PlanOut). out.node) shown → length board ≡ length nodes → length nodes < 2 ^ 32 → All (λ (out : PlanOut). out.node < length nodes) shown
-    → All (λ (out : PlanOut). 2 ^ 32 ≤ read_until untils out.node) shown → IsBoard lists doc nodes board → HasNeeded lists doc nodes outs untils board
-    → All (λ (out : PlanOut). Holds lists doc nodes out.node (slice_index_or board out.node None)) shown
-all-shown lists doc nodes outs untils board shown outs_are long few there late has needed = λ k d below.
+-- those of outputs hold what their nodes have
+pub all-held : (lists : Lists) (doc : Doc) (nodes : List Node) (board : List (Option RowList)) (shown : List PlanOut) → IsBoard lists doc nodes board → All (λ (out : PlanOut). out.node < length board) shown
+    → All (λ (out : PlanOut). IsSome (slice_index_or board out.node None)) shown → All (λ (out : PlanOut). Holds lists doc nodes out.node (slice_index_or board out.node None)) shown
+all-held lists doc nodes board shown has there some = λ k d below.
     let n : ℕ = (slice_index_or shown k d).node in
-    let inside : n < length board = let at = there k d below in omega (arith, at, long) in
-    let listed : Contains outs n = subst (λ (ns : List ℕ). Contains ns n) (sym outs_are)
-    (subst (Contains (map (λ (out : PlanOut). out.node) shown)) (get_or-map (λ (out : PlanOut). out.node) shown k d 0 below)
-    (Contains-get_or (map (λ (out : PlanOut). out.node) shown) k 0 (omega (arith, below, length-map shown (λ (out : PlanOut). out.node))))) in
-    let until : length board < read_until untils n = let at = late k d below in omega (arith, at, long, few) in
-    held-there lists doc nodes n (slice_index_or board n None) (needed.each n inside until (needs.output n listed)) (has.each n inside)
+    held-there lists doc nodes n (slice_index_or board n None) (some k d below) (has.each n (there k d below))
+
+-- and are listed among the nodes that are shown
+pub shown-listed : (shown : List PlanOut) (k : ℕ) (d : PlanOut) → k < length shown → Contains (map (λ (out : PlanOut). out.node) shown) (slice_index_or shown k d).node
+shown-listed shown k d below =
+    subst (Contains (map (λ (out : PlanOut). out.node) shown)) (get_or-map (λ (out : PlanOut). out.node) shown k d 0 below)
+    (Contains-get_or (map (λ (out : PlanOut). out.node) shown) k 0 (omega (arith, below, length-map shown (λ (out : PlanOut). out.node))))
+
+-- the nodes of one output more are there, where those of the outputs before it stay
+pub there-more : (outs : List PlanOut) (i : ℕ) (out : PlanOut) (old new : List (Option RowList)) → i < length outs → out ≡ slice_index_or outs i out
+    → ((m : ℕ) → Contains (map (λ (o : PlanOut). o.node) outs) m → IsSome (slice_index_or old m None) → IsSome (slice_index_or new m None)) → IsSome (slice_index_or new out.node None)
+    → All (λ (o : PlanOut). IsSome (slice_index_or old o.node None)) (take i outs) → All (λ (o : PlanOut). IsSome (slice_index_or new o.node None)) (take (i + 1) outs)
+there-more outs i out old new below at kept there before =
+    let was : All (λ (o : PlanOut). IsSome (slice_index_or new o.node None)) (take i outs) = λ k d inside.
+    let early : k < i = omega (arith, inside, length-take i outs) in
+    let same : slice_index_or (take i outs) k d ≡ slice_index_or outs k d = get_or-take i outs k d early in
+    kept (slice_index_or (take i outs) k d).node (subst (λ (o : PlanOut). Contains (map (λ (p : PlanOut). p.node) outs) o.node) (sym same) (shown-listed outs k d (omega (arith, early, below)))) (before k d inside) in
+    subst (All (λ (o : PlanOut). IsSome (slice_index_or new o.node None))) (sym (take_more outs i out below ∙ ap (λ (o : PlanOut). take i outs ++ o ∷ []) (sym at)))
+    (All-push (λ (o : PlanOut). IsSome (slice_index_or new o.node None)) (take i outs) out was there)

@@ -6,16 +6,18 @@ pub mod Placing
 pub mod Lying
 -- the rows of nodes
 pub mod Boards
--- until when the rows of nodes are read
-pub mod Needing
+-- sums over chosen numbers
+pub mod Totals
+-- which nodes read a node, and which wait
+pub mod Reading
+-- rows that are taken off a board
+pub mod Taking
 -- pairs of rows
 pub mod Pairing
--- which nodes are read
+-- how the readers of nodes are counted
 pub mod Scheduling
--- who asks for nodes
-pub mod Guarding
--- nodes that are evaluated where they are needed
-pub mod Needs
+-- boards on which nodes wait
+pub mod Standing
 -- rows that a policy keeps
 pub mod Keeping
 -- how many elements of a list pass a test

@@ -1,5 +1,5 @@
 -- What the nodes of a plan have, so far as they are evaluated.
-use Rattle.std.specs.Prelude.{ℕ, ◌≡◌, ◌+◌, ◌<◌, ◌≤◌, ◌^◌, Bool, true, false, IsTrue, List, [], Option, Some, None, length, slice_index_or, IfSome, IsSome, All, ◌⊎◌}
+use Rattle.std.specs.Prelude.{ℕ, ◌≡◌, ◌+◌, ◌<◌, ◌≤◌, Bool, true, false, IsTrue, List, [], Option, Some, None, length, map, slice_get, slice_index_or, IfSome, IsSome, Contains, ◌⊎◌}
 use Rattle.aql_base.specs.Bags.{SameBag}
 use Rattle.span_token.specs.Documents.{Doc}
 use Rattle.row_values.specs.Rows.{RowList, RowsLieIn}
@@ -12,6 +12,7 @@ use Rattle.algebra.specs.Needed.{IsNeeded}
 use Rattle.algebra.specs.Plans.{Parts}
 use Rattle.algebra.specs.Shapes.{no_shape, shapes_of}
 use Rattle.algebra.specs.Values.{all_values, val}
+use Rattle.plan_operators.specs.Readers.{IsCounted, number_of_readers, number_waiting, waits}
 
 -- the list has the rows of node n, in any order
 pub record IsOf (lists : Lists) (doc : Doc) (nodes : List Node) (n : ℕ) (list : RowList) : Type 0 where
@@ -24,34 +25,9 @@ abbrev pub Holds : Lists → Doc → List Node → ℕ → Option RowList → Ty
 Holds lists doc nodes n None = ⊥
 Holds lists doc nodes n (Some list) = IsOf lists doc nodes n list
 
--- the number from which on nobody reads a node, 0 where nobody does
-abbrev pub read_until : List ℕ → ℕ → ℕ
-read_until untils n = slice_index_or untils n 0
-
--- an input, where there is one, is kept for node n
-abbrev pub IsKeptFor : ℕ → List ℕ → Option ℕ → Type 0
-IsKeptFor n untils None = Unit {0}
-IsKeptFor n untils (Some i) = n < read_until untils i
-
--- each node from number `first` on that somebody reads has its inputs kept for it
-abbrev pub IsClosedFrom : ℕ → List Node → List ℕ → Type 0
-IsClosedFrom first nodes untils = (n : ℕ) (node : Node) → first ≤ n → n < length nodes → node ≡ slice_index_or nodes n node → 0 < read_until untils n
-    → IsKeptFor n untils (left_input node) × IsKeptFor n untils (right_input node)
-
--- so far are the nodes of a plan read: those that outputs show to the end, and each that somebody reads keeps its inputs
-pub record IsScheduled (plan : Parts) (untils : List ℕ) : Type 0 where
-  pub long : length untils ≡ length plan.nodes
-  pub there : All (λ out. out.node < length plan.nodes) plan.outputs
-  pub shown : All (λ out. 2 ^ 32 ≤ read_until untils out.node) plan.outputs
-  pub closed : IsClosedFrom 0 plan.nodes untils
-
 -- what is on the board are the rows of its node
 pub record IsBoard (lists : Lists) (doc : Doc) (nodes : List Node) (board : List (Option RowList)) : Type 0 where
   pub each : (n : ℕ) → n < length board → IfSome (slice_index_or board n None) (IsOf lists doc nodes n)
-
--- each node with a lower number that is needed for the nodes `outs` and still read has its rows on the board
-pub record HasNeeded (lists : Lists) (doc : Doc) (nodes : List Node) (outs untils : List ℕ) (board : List (Option RowList)) : Type 0 where
-  pub each : (n : ℕ) → n < length board → length board < read_until untils n → IsNeeded lists doc nodes outs n → IsSome (slice_index_or board n None)
 
 -- an input, where there is one, has rows on a board
 abbrev pub IsThere : List (Option RowList) → Option ℕ → Type 0
@@ -146,10 +122,59 @@ does_pass (TokenRegex input column low high pattern groups) next = is_projection
 does_pass (DictPart input place) next = is_projection next
 does_pass node next = false
 
--- node n passes its rows on to the next node, which reads it, and nobody behind that one does
-pub record IsPassedOn (nodes : List Node) (n : ℕ) (untils : List ℕ) : Type 0 where
-  pub there : n + 1 < length nodes
-  pub read : 0 < read_until untils n
-  pub until : read_until untils n ≤ n + 2
-  pub passes : (node next : Node) → node ≡ slice_index_or nodes n node → next ≡ slice_index_or nodes (n + 1) next → IsTrue (does_pass node next)
-  pub from_it : (next : Node) → next ≡ slice_index_or nodes (n + 1) next → left_input next ≡ Some n
+-- node n passes its rows on to another one, which reads it
+pub record IsPassing (nodes : List Node) (n next : ℕ) : Type 0 where
+  pub passes : (node other : Node) → slice_get nodes n ≡ Some node → slice_get nodes next ≡ Some other → IsTrue (does_pass node other)
+  pub from_it : (other : Node) → slice_get nodes next ≡ Some other → left_input other ≡ Some n
+
+-- nobody else reads it, and it has none on the board
+pub record IsPassedOn (nodes : List Node) (board : List (Option RowList)) (readers : List ℕ) (n next : ℕ) : Type 0 where
+  pub passing : IsPassing nodes n next
+  pub absent : slice_index_or board n None ≡ None
+  pub alone : number_of_readers readers n ≤ 1
+
+-- the rows of a node are made of those of its own inputs, or of those of the node that passes its rows on to it
+abbrev pub IsSource : List Node → List (Option RowList) → List ℕ → ℕ → ℕ → Type 0
+IsSource nodes board readers n source = (source ≡ n) ⊎ IsPassedOn nodes board readers source n
+
+-- a node asks for an input, which has no rows on the board
+pub record IsMissing (board : List (Option RowList)) (node : Node) (i : ℕ) : Type 0 where
+  pub absent : slice_index_or board i None ≡ None
+  pub asked : (left_input node ≡ Some i) ⊎ ((right_input node ≡ Some i) × (is_conditional node ≡ true → IsThere board (left_input node) × (IsEmptyInput board (left_input node) → ⊥)))
+
+-- rows were taken off a board that nobody reads any more, and off the number of readers of each node as many as `times` says
+pub record IsTakenOff (times : ℕ → ℕ) (old : List (Option RowList)) (old_readers : List ℕ) (new : List (Option RowList)) (new_readers : List ℕ) : Type 0 where
+  pub long : length new ≡ length old
+  pub readers_long : length new_readers ≡ length old_readers
+  pub less : (m : ℕ) → (slice_index_or new m None ≡ None) ⊎ (slice_index_or new m None ≡ slice_index_or old m None)
+  pub unread : (m : ℕ) → slice_index_or new m None ≡ None → IsSome (slice_index_or old m None) → number_of_readers new_readers m ≡ 0
+  pub fewer : (m : ℕ) → number_of_readers old_readers m ≡ number_of_readers new_readers m + times m
+
+-- the nodes that outputs show
+abbrev pub shown_by : Parts → List ℕ
+shown_by plan = map (λ out. out.node) plan.outputs
+
+-- a node of a plan is needed on a document
+abbrev pub IsNeededOn : Doc → Parts → ℕ → Type 0
+IsNeededOn doc plan n = IsNeeded plan.lists doc plan.nodes (shown_by plan) n
+
+-- what is on the board are rows of nodes that are needed, and at least as many readers are noted of each node as nodes that wait
+-- read it
+pub record IsStanding (doc : Doc) (plan : Parts) (board : List (Option RowList)) (readers : List ℕ) : Type 0 where
+  pub long : length board ≡ length plan.nodes
+  pub readers_long : length readers ≡ length plan.nodes
+  pub has : IsBoard plan.lists doc plan.nodes board
+  pub needed : (n : ℕ) → IsSome (slice_index_or board n None) → IsNeededOn doc plan n
+  pub counted : IsCounted plan.nodes (shown_by plan) (waits board readers) readers
+
+-- a node that waits and is needed, as one with a higher number asks for it
+pub record IsAskedFor (doc : Doc) (plan : Parts) (board : List (Option RowList)) (readers : List ℕ) (by i : ℕ) : Type 0 where
+  pub lower : i < by
+  pub waiting : waits board readers i ≡ true
+  pub needed : IsNeededOn doc plan i
+
+-- the rows of one node more are on the board: fewer nodes wait, and what outputs show stays
+pub record IsFilled (doc : Doc) (plan : Parts) (old : List (Option RowList)) (old_readers : List ℕ) (new : List (Option RowList)) (new_readers : List ℕ) : Type 0 where
+  pub stands : IsStanding doc plan new new_readers
+  pub fewer : number_waiting plan.nodes new new_readers < number_waiting plan.nodes old old_readers
+  pub kept : (m : ℕ) → Contains (shown_by plan) m → IsSome (slice_index_or old m None) → IsSome (slice_index_or new m None)

@@ -3,8 +3,8 @@
 pub mod Given
 -- what the nodes of a plan have, so far as they are evaluated
 pub mod Boards
--- nodes that are asked for only where another node has rows
-pub mod Guards
+-- how often the nodes of a plan are read, and which of them wait
+pub mod Readers
 -- Words of private clauses
 -- rows with the place of a dictionary
 pub mod Places

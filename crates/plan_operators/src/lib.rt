@@ -12,7 +12,7 @@ mod cross;
 mod dict;
 mod dict_part;
 mod extract;
-mod guards;
+mod filling;
 mod input;
 mod minus;
 mod near;

@@ -1,6 +1,6 @@
-//! Nodes that pass their rows on to the node behind them, row by row, so that no list of them is made.
+//! Nodes that pass their rows on to the node that reads them, row by row, so that no list of them is made.
 
-ghost use Rattle.std.specs.Prelude.{◌≡◌, ◌+◌, ◌<◌, [], IfOk, IsTrue, None, length, map};
+ghost use Rattle.std.specs.Prelude.{◌≡◌, [], IfOk, IsTrue, None, length, map};
 ghost use Rattle.span_token.specs.Documents.{Doc};
 ghost use Rattle.row_values.specs.Rows.{RowsLieIn};
 ghost use Rattle.scalar_ops.specs.Tables.{Lists};
@@ -9,34 +9,28 @@ ghost use Rattle.algebra.specs.declared.shape.Shape as declared_shape;
 ghost use Rattle.algebra.specs.Inputs.{right_input};
 ghost use Rattle.algebra.specs.Operators.{op};
 ghost use Rattle.algebra.specs.Shapes.{no_shape, shape_by};
-ghost use Rattle.plan_operators.specs.Boards.{IsPassedOn, does_pass, is_projection};
+ghost use Rattle.plan_operators.specs.Boards.{does_pass, is_projection};
 ghost use Rattle.plan_operators.specs.Given.{MayRead};
 
 use crate::dict_part::part_values;
 use crate::extract::found_values;
 use crate::select::selected_pairs;
-use algebra::{Node, Nodes};
+use algebra::Node;
 use row_operators::Search;
 use row_values::Rows;
 use scalar_ops::{Exprs, Tools};
 use span_token::{Document, OutOfMemory};
 use std::alloc::Global;
 
-/// Whether node `n` passes its rows on to the node behind it, which reads it, and nobody behind that one does.
-pub(crate) fn is_passed_on(nodes: &Nodes, n: u32, untils: &[u64]) -> bool
-    requires there { n < length nodes.now }
-    requires long { length untils.now ≡ length nodes.now }
-    ensures { IsTrue result → IsPassedOn nodes.now n untils.now }
+/// Whether a node passes its rows on, row by row, to another one that reads it.
+pub(crate) fn does_pass(node: &Node, next: &Node) -> bool
+    ensures { result ≡ does_pass node.now next.now }
 {
-    let until = untils[n as usize];
-    if until == 0 || until > u64::from(n) + 2 || u64::from(n) + 1 >= u64::from(nodes.len()) {
-        return false;
-    }
-    match (nodes.get(n), nodes.get(n + 1)) {
-        (Node::Cross { .. }, Node::Select { input, .. }) => *input == n,
-        (Node::Regex { .. }, Node::Project { input, .. }) => *input == n,
-        (Node::TokenRegex { .. }, Node::Project { input, .. }) => *input == n,
-        (Node::DictPart { .. }, Node::Project { input, .. }) => *input == n,
+    match node {
+        Node::Cross { .. } => matches!(next, Node::Select { .. }),
+        Node::Regex { .. } | Node::TokenRegex { .. } | Node::DictPart { .. } => {
+            matches!(next, Node::Project { .. })
+        }
         _ => false,
     }
 }

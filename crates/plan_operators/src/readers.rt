@@ -1,96 +1,95 @@
-//! Until when the rows of each node of a plan are read.
+//! Who reads the rows of each node of a plan.
 
-ghost use Rattle.std.specs.Prelude.{◌≡◌, ℕ, ◌+◌, ◌<◌, ◌≤◌, ◌^◌, IfOk, All, length, vec_len};
+ghost use Rattle.std.specs.Prelude.{◌≡◌, ℕ, ◌+◌, ◌*◌, ◌<◌, ◌≤◌, ◌^◌, IfOk, All, List, length, map, vec_len};
 ghost use Rattle.algebra.specs.Inputs.{IsAmong};
-ghost use Rattle.plan_operators.specs.Boards.{read_until, IsKeptFor, IsClosedFrom};
+ghost use Rattle.plan_operators.specs.Readers.{IsCountedFrom, number_of_readers, reads_by, times};
 
 use algebra::{Nodes, PlanOut};
 use span_token::OutOfMemory;
 use std::alloc::Global;
 
-/// For each node the number from which on nobody reads it: one more than that of the last node that does, a
-/// number past all nodes where an output shows it, and 0 where nobody needs it.
-pub(crate) fn read_untils(
+/// For each node how often nodes read it that somebody reads, and one more where an output shows it; 0 where
+/// nobody needs it.
+pub(crate) fn count_readers(
     alloc: Global,
     nodes: &Nodes,
     outputs: &[PlanOut],
 ) -> Result<Vec<u64>, OutOfMemory>
     requires there { All (λ out. out.node < length nodes.now) outputs.now }
-    ensures long { IfOk result (λ untils. vec_len untils ≡ length nodes.now) }
-    ensures shown { IfOk result (λ untils. All (λ out. 2 ^ 32 ≤ read_until untils.items out.node) outputs.now) }
-    ensures closed { IfOk result (λ untils. IsClosedFrom 0 nodes.now untils.items) }
+    ensures long { IfOk result (λ readers. vec_len readers ≡ length nodes.now) }
+    ensures counted { IfOk result (λ readers. IsCountedFrom 0 nodes.now (map (λ out. out.node) outputs.now) readers.items) }
 {
-    let mut untils = none_of(alloc, nodes.len())?;
-    keep_shown(outputs, &mut untils);
-    keep_read(nodes, &mut untils);
-    Ok(untils)
+    let mut readers = none_of(alloc, nodes.len())?;
+    count_shown(outputs, &mut readers);
+    count_from_last(nodes, &mut readers);
+    Ok(readers)
 }
 
 /// So many nodes that nobody reads.
 fn none_of(alloc: Global, number: u32) -> Result<Vec<u64>, OutOfMemory>
-    ensures { IfOk result (λ untils. vec_len untils ≡ number) }
+    ensures long { IfOk result (λ readers. vec_len readers ≡ number) }
+    ensures none { IfOk result (λ readers. (n : ℕ) → number_of_readers readers.items n ≡ 0) }
 {
-    let mut untils = Vec::new(alloc);
+    let mut readers = Vec::with_capacity(alloc, number as usize)?;
     for _n in 0..number {
-        untils.push(0)?;
+        readers.push(0)?;
     }
-    Ok(untils)
+    Ok(readers)
 }
 
-/// Keeps the nodes that outputs show to the end.
-fn keep_shown(outputs: &[PlanOut], untils: &mut Vec<u64>)
-    requires there { All (λ out. out.node < vec_len untils.old) outputs.now }
-    ensures long { vec_len untils.new ≡ vec_len untils.old }
-    ensures shown { All (λ out. 2 ^ 32 ≤ read_until untils.new.items out.node) outputs.now }
+/// Counts one reader of each node that outputs show.
+fn count_shown(outputs: &[PlanOut], readers: &mut Vec<u64>)
+    requires there { All (λ out. out.node < vec_len readers.old) outputs.now }
+    requires none { (n : ℕ) → number_of_readers readers.old.items n ≡ 0 }
+    ensures long { vec_len readers.new ≡ vec_len readers.old }
+    ensures shown { All (λ out. number_of_readers readers.new.items out.node ≡ 1) outputs.now }
+    ensures few { (n : ℕ) → number_of_readers readers.new.items n ≤ 1 }
 {
     for out in outputs {
-        untils[out.node as usize] = u64::MAX;
+        readers[out.node as usize] = 1;
     }
 }
 
-/// Keeps what the nodes read that somebody reads, from the last node on.
-fn keep_read(nodes: &Nodes, untils: &mut Vec<u64>)
-    requires long { vec_len untils.old ≡ length nodes.now }
-    ensures long { vec_len untils.new ≡ vec_len untils.old }
-    ensures more { (n : ℕ) → read_until untils.old.items n ≤ read_until untils.new.items n }
-    ensures closed { IsClosedFrom 0 nodes.now untils.new.items }
+/// Counts what the nodes read that somebody reads, from the last node on.
+fn count_from_last(nodes: &Nodes, readers: &mut Vec<u64>)
+    requires long { vec_len readers.old ≡ length nodes.now }
+    requires few { (n : ℕ) → number_of_readers readers.old.items n ≤ 1 }
+    ensures long { vec_len readers.new ≡ vec_len readers.old }
+    ensures counted { (outs : List ℕ) → IsCountedFrom (length nodes.now) nodes.now outs readers.old.items → IsCountedFrom 0 nodes.now outs readers.new.items }
 {
     let mut rest = nodes.len();
     'nodes: while rest > 0 {
         rest -= 1;
-        keep_inputs(nodes, rest, untils);
+        if readers[rest as usize] > 0 {
+            count_inputs(nodes, rest, readers);
+        }
     }
 }
 
-/// Keeps the inputs of a node for it, where somebody reads it.
-fn keep_inputs(nodes: &Nodes, n: u32, untils: &mut Vec<u64>)
+/// Counts what node `n` reads.
+fn count_inputs(nodes: &Nodes, n: u32, readers: &mut Vec<u64>)
     requires there { n < length nodes.now }
-    requires long { vec_len untils.old ≡ length nodes.now }
-    ensures long { vec_len untils.new ≡ vec_len untils.old }
-    ensures more { (k : ℕ) → read_until untils.old.items k ≤ read_until untils.new.items k }
-    ensures above { (k : ℕ) → n ≤ k → read_until untils.new.items k ≡ read_until untils.old.items k }
-    ensures closed { IsClosedFrom (n + 1) nodes.now untils.old.items → IsClosedFrom n nodes.now untils.new.items }
+    requires long { vec_len readers.old ≡ length nodes.now }
+    requires few { (k : ℕ) → number_of_readers readers.old.items k < 2 ^ 36 }
+    ensures long { vec_len readers.new ≡ vec_len readers.old }
+    ensures more { (k : ℕ) → number_of_readers readers.new.items k ≡ number_of_readers readers.old.items k + reads_by nodes.now n k }
+    ensures most { (k : ℕ) → reads_by nodes.now n k ≤ 2 }
+    ensures below { (k : ℕ) → n ≤ k → reads_by nodes.now n k ≡ 0 }
 {
-    if untils[n as usize] > 0 {
-        let (left, right) = nodes.get(n).inputs();
-        keep(left, n, untils);
-        keep(right, n, untils);
-    }
+    let node = nodes.get(n);
+    let (left, right) = node.inputs();
+    count(left, readers);
+    count(right, readers);
 }
 
-/// Keeps an input of node `n` for it, where there is one.
-fn keep(input: Option<u32>, n: u32, untils: &mut Vec<u64>)
-    requires lower { IsAmong n input }
-    requires there { n < vec_len untils.old }
-    ensures long { vec_len untils.new ≡ vec_len untils.old }
-    ensures kept { IsKeptFor n untils.new.items input }
-    ensures more { (k : ℕ) → read_until untils.old.items k ≤ read_until untils.new.items k }
-    ensures above { (k : ℕ) → n ≤ k → read_until untils.new.items k ≡ read_until untils.old.items k }
+/// Counts one reader more of an input, where there is one.
+fn count(input: Option<u32>, readers: &mut Vec<u64>)
+    requires there { IsAmong (vec_len readers.old) input }
+    requires few { (k : ℕ) → number_of_readers readers.old.items k < 2 ^ 40 }
+    ensures long { vec_len readers.new ≡ vec_len readers.old }
+    ensures more { (k : ℕ) → number_of_readers readers.new.items k ≡ number_of_readers readers.old.items k + times input k }
 {
     if let Some(i) = input {
-        let behind = u64::from(n) + 1;
-        if untils[i as usize] < behind {
-            untils[i as usize] = behind;
-        }
+        readers[i as usize] += 1;
     }
 }

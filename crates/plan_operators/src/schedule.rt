@@ -1,30 +1,28 @@
 ghost use Rattle.std.specs.Prelude.{◌≡◌, ◌<◌, IfOk, IsTrue, length, map};
 ghost use Rattle.span_token.specs.Documents.{Doc};
 ghost use Rattle.algebra.specs.Needed.{IsNeeded};
-ghost use Rattle.plan_operators.specs.Guards.{IsSchedule};
+ghost use Rattle.plan_operators.specs.Readers.{IsScheduled};
 
-use crate::guards::{Asked, asked_of_each};
-use crate::readers::read_untils;
+use crate::readers::count_readers;
 use algebra::Plan;
 use span_token::OutOfMemory;
 use std::alloc::Global;
 use std::marker::Model;
 
-/// A plan with the last readers of its nodes' rows, and who asks for them, which are found once for all documents.
+/// A plan with the numbers of those who read its nodes' rows, which are counted once for all documents.
 ///
 /// Contracts see the plan.
 #[derive(Drop)]
 pub struct Schedule<'p> {
     plan: &'p Plan,
-    untils: Vec<u64>,
-    asked: Vec<Asked>,
+    readers: Vec<u64>,
 }
 
 impl<'p> Model for Schedule<'p> {
     ghost use Rattle.std.specs.Coded.{codes};
     ghost use Rattle.scalar_ops.specs.Codes.{term_code};
     ghost use Rattle.algebra.specs.Plans.{Parts};
-    ghost use Rattle.plan_operators.specs.Guards.{IsSchedule};
+    ghost use Rattle.plan_operators.specs.Readers.{IsScheduled};
 
     ghost Value = { Parts };
 
@@ -32,7 +30,7 @@ impl<'p> Model for Schedule<'p> {
 
     ghost view = { λ schedule. schedule.plan.now };
 
-    ghost invariant = { λ schedule. IsSchedule schedule.plan.now schedule.untils.items schedule.asked.items };
+    ghost invariant = { λ schedule. IsScheduled schedule.plan.now schedule.readers.items };
 }
 
 impl<'p> Schedule<'p> {
@@ -40,13 +38,8 @@ impl<'p> Schedule<'p> {
     pub fn new(alloc: Global, plan: &'p Plan) -> Result<Schedule<'p>, OutOfMemory>
         ensures { IfOk result (λ schedule. schedule ≡ plan.now) }
     {
-        let untils = read_untils(alloc, plan.nodes(), plan.outputs())?;
-        let asked = asked_of_each(alloc, plan.nodes(), plan.outputs(), &untils)?;
-        Ok(Schedule {
-            plan,
-            untils,
-            asked,
-        })
+        let readers = count_readers(alloc, plan.nodes(), plan.outputs())?;
+        Ok(Schedule { plan, readers })
     }
 
     /// The plan.
@@ -62,13 +55,13 @@ impl<'p> Schedule<'p> {
         requires in_range { n < length self.now.nodes }
         ensures { (doc : Doc) → IsNeeded self.now.lists doc self.now.nodes (map (λ out. out.node) self.now.outputs) n → IsTrue result }
     {
-        self.untils[n as usize] > 0
+        self.readers[n as usize] > 0
     }
 
-    /// For each node the number from which on nobody reads it, and who asks for it.
-    pub(crate) fn readers(&self) -> (&[u64], &[Asked])
-        ensures { IsSchedule self.now result.0.now result.1.now }
+    /// For each node how often it is read, and one more where an output shows it.
+    pub(crate) fn readers(&self) -> &[u64]
+        ensures { IsScheduled self.now result.now }
     {
-        (self.untils.as_slice(), self.asked.as_slice())
+        self.readers.as_slice()
     }
 }

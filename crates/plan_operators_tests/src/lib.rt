@@ -3,6 +3,7 @@
 #![tactic(auto)]
 
 #[cfg(test)]
+mod asking;
 mod evaluation;
 #[cfg(test)]
 mod far;

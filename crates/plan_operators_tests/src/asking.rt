@@ -1,0 +1,146 @@
+//! Plans whose nodes are asked for by outputs, by other nodes, and by conditional joins of which some have no left row.
+
+use crate::evaluation::{evaluated, put_words};
+use crate::setup::{GREAT, NONE, SMALL, columns, numbers, tables_of};
+use crate::standing::{put, showing};
+use algebra::{Node, Nodes, Plan};
+use std::alloc::Global;
+use std::test::Fail;
+
+/// Puts all pairs of the words before them, which stay on the board where the pairs are made: nobody is given rows
+/// that he reads on both sides.
+fn put_pairs(nodes: &mut Nodes, words: u32) -> Result<u32, Fail> {
+    put(
+        nodes,
+        Node::Cross {
+            left: words,
+            right: words,
+            conditional: false,
+        },
+    )
+}
+
+/// A join that asks for its right side only where its left one has a row.
+fn put_join(nodes: &mut Nodes, left: u32, right: u32) -> Result<u32, Fail> {
+    put(
+        nodes,
+        Node::Cross {
+            left,
+            right,
+            conditional: true,
+        },
+    )
+}
+
+/// The pairs of small words, node 3, as the right side of two joins, nodes 8 and 9: those of the matches of two
+/// other patterns, nodes 5 and 7.
+fn two_left_sides(alloc: Global, patterns: [u32; 2]) -> Result<Plan, Fail> {
+    let mut nodes = Nodes::new(alloc);
+    put_words(alloc, &mut nodes, SMALL)?;
+    put_pairs(&mut nodes, 2)?;
+    for pattern in patterns {
+        let groups = numbers(alloc, &[0])?;
+        let input = put(
+            &mut nodes,
+            Node::Regex {
+                input: 0,
+                column: 0,
+                pattern,
+                groups,
+            },
+        )?;
+        let items = columns(alloc, &[1])?;
+        put(&mut nodes, Node::Project { input, items })?;
+    }
+    put_join(&mut nodes, 5, 3)?;
+    put_join(&mut nodes, 7, 3)?;
+    showing(alloc, nodes, tables_of(alloc)?, &[8, 9])
+}
+
+#[test]
+fn right_sides_wait_for_each_left_side_whatever_its_number(rt: HostRuntime) -> Result<(), Fail> {
+    let alloc = rt.alloc();
+    let words = "1:[1-3][4-7][9-10][15-19][20-23]";
+    let table: [([u32; 2], String); 3] = [
+        (
+            [NONE, NONE],
+            String::from_str(alloc, "2 -\n3 -\n5 -\n7 -\n")?,
+        ),
+        (
+            [NONE, GREAT],
+            format!(in alloc; "2 {words}\n3 -\n5 -\n7 -\n")?,
+        ),
+        (
+            [GREAT, NONE],
+            format!(in alloc; "2 {words}\n3 -\n5 -\n7 -\n")?,
+        ),
+    ];
+    for (patterns, want) in &table {
+        let plan = two_left_sides(alloc, *patterns)?;
+        let got = evaluated(alloc, &plan, &[2, 3, 5, 7])?;
+        assert_eq!(rt; got.as_str(), want.as_str(), "{patterns:?}");
+    }
+    Ok(())
+}
+
+#[test]
+fn a_right_side_that_one_of_two_joins_asks_for_is_there(rt: HostRuntime) -> Result<(), Fail> {
+    let alloc = rt.alloc();
+    let plan = far_words(alloc)?;
+    let got = evaluated(alloc, &plan, &[3, 4, 6, 7, 8])?;
+    assert_eq!(rt;
+        got.as_str(),
+        "3 -
+4 1:[0-3][8-10]
+6 -
+7 2:
+8 2:[0-3 1-3][0-3 4-7][0-3 9-10][0-3 15-19][0-3 20-23][8-10 1-3][8-10 4-7][8-10 9-10][8-10 15-19][8-10 20-23]
+"
+    );
+    Ok(())
+}
+
+/// Small words, node 2, as the right side of two joins, nodes 7 and 8: those of the matches of no pattern, node 6,
+/// and of the great words, node 4, which an output shows too.
+fn far_words(alloc: Global) -> Result<Plan, Fail> {
+    let mut nodes = Nodes::new(alloc);
+    put_words(alloc, &mut nodes, SMALL)?;
+    for pattern in [GREAT, NONE] {
+        let groups = numbers(alloc, &[0])?;
+        let input = put(
+            &mut nodes,
+            Node::Regex {
+                input: 0,
+                column: 0,
+                pattern,
+                groups,
+            },
+        )?;
+        let items = columns(alloc, &[1])?;
+        put(&mut nodes, Node::Project { input, items })?;
+    }
+    put_join(&mut nodes, 6, 2)?;
+    put_join(&mut nodes, 4, 2)?;
+    showing(alloc, nodes, tables_of(alloc)?, &[4, 7, 8])
+}
+
+/// The great words, behind which so many nodes stand in a row, each of which reads the one before it.
+fn ladder(alloc: Global, steps: u32) -> Result<Plan, Fail> {
+    let mut nodes = Nodes::new(alloc);
+    put_words(alloc, &mut nodes, GREAT)?;
+    let mut last = 2;
+    for _step in 0..steps {
+        let items = columns(alloc, &[0])?;
+        last = put(&mut nodes, Node::Project { input: last, items })?;
+    }
+    showing(alloc, nodes, tables_of(alloc)?, &[last])
+}
+
+#[test]
+fn plans_may_be_long(rt: HostRuntime) -> Result<(), Fail> {
+    let alloc = rt.alloc();
+    let plan = ladder(alloc, 2000)?;
+    let got = evaluated(alloc, &plan, &[2, 1000, 2002])?;
+    assert_eq!(rt; got.as_str(), "2 -\n1000 -\n2002 1:[0-3][8-10]\n");
+    Ok(())
+}
