@@ -59,6 +59,11 @@ impl<'t> Document<'t> {
         Shown { begin: self.place(span.begin), end: self.place(span.end), text: self.text_of(span) }
     }
 
+    /// The number of characters in a span.
+    pub fn length(&self, span: Span) -> usize {
+        self.place(span.end) - self.place(span.begin)
+    }
+
     /// The number of characters from the end of one span to the begin of another, none where they don't follow.
     pub fn gap(&self, a: Span, b: Span) -> Option<usize> {
         (a.end <= b.begin).then(|| self.place(b.begin) - self.place(a.end))
