@@ -80,8 +80,8 @@ def entries(corpus, number):
 def text_of(name, corpus, work):
     """The file of a program, and that of its dictionary's entries, one a line; none where it has none of its own."""
     kind, _, number = name.partition("-")
-    program = DEMO if name == "demo" else HERE / f"programs/{kind}.aql"
-    if not number:
+    program = DEMO if kind == "demo" else HERE / f"programs/{kind}.aql"
+    if not number.isdigit():
         return program, None
     listed = entries(corpus, int(number))
     written, words = work / "program.aql", work / "entries"

@@ -1,8 +1,9 @@
-//! The demonstration: persons, organisations and dates, and what stands close to each other.
+//! The demonstration: persons, organisations and dates, and what stands close to each other. Once as the program says it, view
+//! by view, and once with token-bounded patterns tried only beside what is found without them.
 use extract::corpus::{self, write};
 use extract::dictionary::Dictionaries;
 use extract::document::{Document, Shown};
-use extract::search::{behind, matches, outermost, token_runs, whole};
+use extract::search::{behind, matches, outermost, token_run, token_runs, whole};
 use extract::tokens::Span;
 use regex::Regex;
 use serde::Serialize;
@@ -67,7 +68,7 @@ struct Views<'d> {
     person_role: Vec<PersonRole<'d>>,
 }
 
-/// What is found of patterns and dictionaries in a document, each in order.
+/// What is found of dictionaries, and of patterns without a token bound, each in order.
 struct Parts {
     firsts: Vec<Span>,
     titles: Vec<Span>,
@@ -75,11 +76,15 @@ struct Parts {
     org_ends: Vec<Span>,
     roles: Vec<Span>,
     months: Vec<Span>,
-    caps: Vec<Span>,
-    caps_runs: Vec<Span>,
     numbers: Vec<Span>,
     phones: Vec<Span>,
-    years: Vec<Span>,
+}
+
+/// What token-bounded patterns are joined to: names as they are found, some within others; organisations and dates in order.
+struct Joined {
+    names: Vec<Span>,
+    orgs: Vec<Span>,
+    dates: Vec<Span>,
 }
 
 /// The patterns and the dictionaries.
@@ -106,18 +111,43 @@ impl Finders {
 
     fn parts(&self, doc: &Document<'_>) -> Parts {
         let [firsts, titles, cities, org_ends, roles, months] = self.dictionaries.matches(doc);
-        Parts {
-            firsts,
-            titles,
-            cities,
-            org_ends,
-            roles,
-            months,
-            caps: token_runs(&self.caps, doc, 1, 1),
-            caps_runs: token_runs(&self.caps_run, doc, 1, 4),
-            numbers: matches(&self.number, doc),
-            phones: matches(&self.phone, doc),
-            years: token_runs(&self.year, doc, 1, 1),
+        let (numbers, phones) = (matches(&self.number, doc), matches(&self.phone, doc));
+        Parts { firsts, titles, cities, org_ends, roles, months, numbers, phones }
+    }
+
+    /// A list for each view, and their joins.
+    fn joined(&self, doc: &Document<'_>, parts: &Parts) -> Joined {
+        let beside = within_tokens(doc, 0);
+        let caps = token_runs(&self.caps, doc, 1, 1);
+        let caps_runs = token_runs(&self.caps_run, doc, 1, 4);
+        let years = token_runs(&self.year, doc, 1, 1);
+        let mut names: Vec<Span> = pairs(&parts.firsts, &caps, beside).map(combined).collect();
+        names.extend(pairs(&parts.titles, &caps_runs, within_tokens(doc, 1)).map(combined));
+        Joined {
+            names,
+            orgs: left_to_right(pairs(&caps, &parts.org_ends, beside).map(combined)),
+            dates: pairs(&day_months(doc, parts), &years, beside).map(combined).collect(),
+        }
+    }
+
+    /// The same, found beside the matches of dictionaries.
+    fn joined_near(&self, doc: &Document<'_>, parts: &Parts) -> Joined {
+        // from a span to the runs of words behind it that begin with at most so many tokens between
+        let behind_by = |span: &Span, most, regex, words| {
+            let (span, next) = (*span, doc.tokens_before_end(*span));
+            let runs = (next..=next + most).filter_map(move |place| token_run(regex, doc, place, words));
+            runs.map(move |run| combined((span, run)))
+        };
+        let before = |end: &Span| {
+            let caps = token_run(&self.caps, doc, doc.tokens_before(*end).checked_sub(1)?, 1)?;
+            Some(combined((caps, *end)))
+        };
+        let mut names: Vec<Span> = parts.firsts.iter().flat_map(|first| behind_by(first, 0, &self.caps, 1)).collect();
+        names.extend(parts.titles.iter().flat_map(|title| behind_by(title, 1, &self.caps_run, 4)));
+        Joined {
+            names,
+            orgs: left_to_right(parts.org_ends.iter().filter_map(before)),
+            dates: day_months(doc, parts).iter().flat_map(|day| behind_by(day, 0, &self.year, 1)).collect(),
         }
     }
 }
@@ -183,15 +213,14 @@ fn digits<'d>(doc: &Document<'d>, numbers: &[Span], dates: &[Span]) -> Vec<Digit
     counts.into_iter().map(|(t, n)| Digits { n, t }).collect()
 }
 
-fn views<'d>(doc: &Document<'d>, parts: &Parts) -> Views<'d> {
-    let beside = within_tokens(doc, 0);
-    let mut names: Vec<Span> = pairs(&parts.firsts, &parts.caps, beside).map(combined).collect();
-    names.extend(pairs(&parts.titles, &parts.caps_runs, within_tokens(doc, 1)).map(combined));
-    let persons = outermost(names);
-    let orgs = left_to_right(pairs(&parts.caps, &parts.org_ends, beside).map(combined));
-    let day_months: Vec<Span> = pairs(&parts.numbers, &parts.months, beside).map(combined).collect();
-    let dates: Vec<Span> = pairs(&day_months, &parts.years, beside).map(combined).collect();
+/// The numbers with a month behind them.
+fn day_months(doc: &Document<'_>, parts: &Parts) -> Vec<Span> {
+    pairs(&parts.numbers, &parts.months, within_tokens(doc, 0)).map(combined).collect()
+}
 
+fn views<'d>(doc: &Document<'d>, parts: &Parts, joined: Joined) -> Views<'d> {
+    let Joined { names, orgs, dates } = joined;
+    let persons = outermost(names);
     let shown = |span| doc.shown(span);
     let row = |span: &Span| Row { m: shown(*span) };
     let is_long = |span: &&Span| doc.length(**span) > 8;
@@ -219,7 +248,12 @@ fn views<'d>(doc: &Document<'d>, parts: &Parts) -> Views<'d> {
     }
 }
 
-pub fn run() -> io::Result<()> {
+/// `near`: with token-bounded patterns tried only beside what is found without them.
+pub fn run(near: bool) -> io::Result<()> {
     let finders = Finders::new().map_err(io::Error::other)?;
-    corpus::run(true, |doc, out| write(out, &views(doc, &finders.parts(doc))))
+    corpus::run(true, |doc, out| {
+        let parts = finders.parts(doc);
+        let joined = if near { finders.joined_near(doc, &parts) } else { finders.joined(doc, &parts) };
+        write(out, &views(doc, &parts, joined))
+    })
 }
