@@ -23,19 +23,42 @@ fn push_folded(key: &mut String, token: &str) {
     }
 }
 
+/// Gives each beginning of an entry, as the text of its tokens, with whether it is the whole entry.
+fn for_beginnings(entry: &str, mut put: impl FnMut(&str, bool)) {
+    let tokens = tokens_of(entry);
+    let mut key = String::new();
+    for (place, token) in tokens.iter().enumerate() {
+        if place > 0 {
+            key.push(' ');
+        }
+        push_folded(&mut key, &entry[token.begin..token.end]);
+        put(&key, place + 1 == tokens.len());
+    }
+}
+
+/// Gives the runs of tokens that the map has, in order, with what it has for them.
+fn for_runs<T: Copy>(doc: &Document<'_>, runs: &HashMap<String, T>, mut give: impl FnMut(Span, T)) {
+    let mut key = String::new();
+    for (place, first) in doc.tokens.iter().enumerate() {
+        key.clear();
+        for token in &doc.tokens[place..] {
+            if !key.is_empty() {
+                key.push(' ');
+            }
+            push_folded(&mut key, doc.text_of(*token));
+            match runs.get(&key) {
+                Some(run) => give(Span { begin: first.begin, end: token.end }, *run),
+                None => break,
+            }
+        }
+    }
+}
+
 impl Dictionary {
     pub fn new<'e>(entries: impl IntoIterator<Item = &'e str>) -> Dictionary {
         let mut runs = HashMap::new();
         for entry in entries {
-            let tokens = tokens_of(entry);
-            let mut key = String::new();
-            for (place, token) in tokens.iter().enumerate() {
-                if place > 0 {
-                    key.push(' ');
-                }
-                push_folded(&mut key, &entry[token.begin..token.end]);
-                *runs.entry(key.clone()).or_insert(false) |= place + 1 == tokens.len();
-            }
+            for_beginnings(entry, |key, is_entry| *runs.entry(key.to_owned()).or_insert(false) |= is_entry);
         }
         Dictionary { runs }
     }
@@ -43,21 +66,43 @@ impl Dictionary {
     /// The spans of the runs of tokens that are entries, in order.
     pub fn matches(&self, doc: &Document<'_>) -> Vec<Span> {
         let mut found = Vec::new();
-        let mut key = String::new();
-        for (place, first) in doc.tokens.iter().enumerate() {
-            key.clear();
-            for token in &doc.tokens[place..] {
-                if !key.is_empty() {
-                    key.push(' ');
-                }
-                push_folded(&mut key, doc.text_of(*token));
-                match self.runs.get(&key) {
-                    Some(true) => found.push(Span { begin: first.begin, end: token.end }),
-                    Some(false) => {}
-                    None => break,
-                }
+        for_runs(doc, &self.runs, |span, is_entry| {
+            if is_entry {
+                found.push(span);
+            }
+        });
+        found
+    }
+}
+
+/// Several dictionaries in one map: a bit for each of which a run is an entry, none for a beginning alone.
+pub struct Dictionaries<const N: usize> {
+    runs: HashMap<String, u32>,
+}
+
+impl<const N: usize> Dictionaries<N> {
+    pub fn new(dictionaries: [&[&str]; N]) -> Dictionaries<N> {
+        let mut runs = HashMap::new();
+        for (number, entries) in dictionaries.iter().enumerate() {
+            for entry in *entries {
+                for_beginnings(entry, |key, is_entry| {
+                    *runs.entry(key.to_owned()).or_insert(0) |= u32::from(is_entry) << number;
+                });
             }
         }
+        Dictionaries { runs }
+    }
+
+    /// For each dictionary the spans of the runs of tokens that are its entries, in order.
+    pub fn matches(&self, doc: &Document<'_>) -> [Vec<Span>; N] {
+        let mut found = [const { Vec::new() }; N];
+        for_runs(doc, &self.runs, |span, bits: u32| {
+            for (number, spans) in found.iter_mut().enumerate() {
+                if bits >> number & 1 == 1 {
+                    spans.push(span);
+                }
+            }
+        });
         found
     }
 }

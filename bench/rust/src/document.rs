@@ -59,9 +59,24 @@ impl<'t> Document<'t> {
         Shown { begin: self.place(span.begin), end: self.place(span.end), text: self.text_of(span) }
     }
 
+    /// The number of characters in a span.
+    pub fn length(&self, span: Span) -> usize {
+        self.place(span.end) - self.place(span.begin)
+    }
+
     /// The number of characters from the end of one span to the begin of another, none where they don't follow.
     pub fn gap(&self, a: Span, b: Span) -> Option<usize> {
         (a.end <= b.begin).then(|| self.place(b.begin) - self.place(a.end))
+    }
+
+    /// The number of tokens that begin before the end of a span.
+    pub fn tokens_before_end(&self, span: Span) -> usize {
+        self.tokens.partition_point(|token| token.begin < span.end)
+    }
+
+    /// The number of tokens wholly before a span.
+    pub fn tokens_before(&self, span: Span) -> usize {
+        self.tokens.partition_point(|token| token.end <= span.begin)
     }
 
     /// The number of tokens wholly from the end of one span to the begin of another, none where they don't follow.
@@ -69,8 +84,8 @@ impl<'t> Document<'t> {
         if a.end > b.begin {
             return None;
         }
-        let first = self.tokens.partition_point(|token| token.begin < a.end);
-        let past = self.tokens.partition_point(|token| token.end <= b.begin);
+        let first = self.tokens_before_end(a);
+        let past = self.tokens_before(b);
         Some(past.saturating_sub(first))
     }
 }

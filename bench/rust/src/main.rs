@@ -1,8 +1,9 @@
-//! What aqlx does with the programs in `bench/programs`, written by hand over the crates `regex` and `serde_json`:
+//! What aqlx does with the programs in `bench/programs` and `examples/demo`, written by hand over the crates `regex` and `serde_json`:
 //! JSON lines from standard input, for each document a JSON line with its views. For comparison only.
 //!
 //! usage: extract PROGRAM [ENTRIES]      ENTRIES: a file with the entries of the dictionary, one a line
 mod programs {
+    pub mod demo;
     pub mod joins;
     pub mod logs;
     pub mod names;
@@ -10,7 +11,7 @@ mod programs {
     pub mod patterns;
     pub mod tokens;
 }
-use programs::{joins, logs, names, orders, patterns, tokens};
+use programs::{demo, joins, logs, names, orders, patterns, tokens};
 
 fn main() -> std::io::Result<()> {
     let words: Vec<String> = std::env::args().skip(1).collect();
@@ -25,6 +26,8 @@ fn main() -> std::io::Result<()> {
         ["logs"] => logs::run(),
         ["names"] => names::run(),
         ["orders"] => orders::run(),
+        ["demo"] => demo::run(false),
+        ["demo-near"] => demo::run(true),
         ["follows"] => joins::follows(),
         ["contains"] => joins::contains(),
         ["overlaps"] => joins::overlaps(),

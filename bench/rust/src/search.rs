@@ -41,6 +41,14 @@ pub fn token_runs(regex: &Regex, doc: &Document<'_>, low: usize, high: usize) ->
     found
 }
 
+/// From the token with that number the longest run of at most so many tokens that a whole-text pattern matches.
+pub fn token_run(regex: &Regex, doc: &Document<'_>, place: usize, most: usize) -> Option<Span> {
+    let tokens = doc.tokens.get(place..)?;
+    let begin = tokens.first()?.begin;
+    let mut runs = tokens.iter().take(most).map(|last| Span { begin, end: last.end }).rev();
+    runs.find(|run| regex.is_match(doc.text_of(*run)))
+}
+
 /// The spans of `right`, which stands in order, that begin at or behind the end of `left`, in order.
 pub fn behind(left: Span, right: &[Span]) -> impl Iterator<Item = Span> + '_ {
     right[right.partition_point(|span| span.begin < left.end)..].iter().copied()
