@@ -1,4 +1,4 @@
-"""What bench/run and bench/growth.py share: where things are, the text of a program with a dictionary, and how a command is timed.
+"""What bench/run and bench/growth.py share: where things are, the text of a program, and how a command is timed.
 
 From the environment:
 
