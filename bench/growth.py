@@ -2,7 +2,7 @@
 """Tells how the time and the memory of aqlx grow, and how long it takes to start.
 
 usage: bench/growth.py corpus [PROGRAM ..]      the time on 2, 20 and 200 MB of mails
-       bench/growth.py document [PROGRAM ..]    the time on 20 MB of one text, cut into documents of 10 KB to 10 MB
+       bench/growth.py document [PROGRAM ..]    the time on 100 MB of one text, cut into documents of 10 KB to 10 MB
        bench/growth.py memory [PROGRAM ..]      peak memory on 20 and 200 MB of mails
        bench/growth.py start                    the time on an empty corpus, of the demonstration and of a dictionary with
                                                 10,000 entries, with that of /bin/true beside
@@ -11,12 +11,14 @@ usage: bench/growth.py corpus [PROGRAM ..]      the time on 2, 20 and 200 MB of 
   AQLX        from the environment: the program (default: crates/aqlx/out/aqlx)
   BENCH_DATA  the folder with mail-M.jsonl (default: bench/data)
   ROUNDS      how often each is run (default: 3; 30 for `start`)
+  TEXT        how many MB of text `document` cuts (default: 100)
 
 All runs are with one worker. Times are processor seconds, user and system, the best of all rounds, with the start in them; those
 of `start` are by the clock. Behind them stand exponents: of the power of the size by which the time of a corpus, or that of one
 document, grows from each size to the next. Ends with 1 where an exponent is above 1.05 (corpus) or 1.1 (document), or a start
-takes more than 5 ms (demonstration) or 30 ms (dictionary): `!` marks it. Corpora stand in a folder of their own in TMPDIR while they
-are used, 220 MB at most.
+takes more than 5 ms (demonstration) or 30 ms (dictionary): `!` marks it. Memory for a document is taken once by a process and
+used again for the next, so with few documents (TEXT=20: two of 10 MB) its taking shows in the last exponent. Corpora stand in a
+folder of their own in TMPDIR while they are used, 500 MB at most.
 """
 import json
 import math
@@ -35,7 +37,7 @@ MAILS = DATA / "mail-M.jsonl"
 MEGABYTE = 1_000_000
 CORPUS = [2 * MEGABYTE, 20 * MEGABYTE, 200 * MEGABYTE]
 DOCUMENT = [10_000, 100_000, MEGABYTE, 10 * MEGABYTE]
-TEXT = 20 * MEGABYTE
+TEXT = int(os.environ.get("TEXT") or 100) * MEGABYTE
 MOST_OF_CORPUS, MOST_OF_DOCUMENT = 1.05, 1.1
 STARTS = {"demo": 5, "dictionary-10000": 30}
 
@@ -69,6 +71,8 @@ def one_text():
     while length < TEXT:
         with open(MAILS, encoding="utf-8") as corpus:
             for line in corpus:
+                if length >= TEXT:
+                    break
                 text = json.loads(line)["text"].encode("ascii", "ignore").decode()
                 texts.append(text)
                 length += len(text) + 1
