@@ -4,6 +4,7 @@
 
 #[cfg(test)]
 mod asking;
+#[cfg(test)]
 mod evaluation;
 #[cfg(test)]
 mod far;
