@@ -1,9 +1,8 @@
--- Where the tokens of a document stand among the bytes of its text.
-use Rattle.std.proofs.Common.{◌≡◌, ◌≤◌, ◌<◌, ◌+◌, ◌-◌, ◌++◌, ◌∷◌, [], ℕ, List, length, inl, inr, slice_get, Some, sym, ap, subst, arith, IsUtf8}
-use Rattle.std.proofs.lemmas.List.{get_or_append_left, get_or_push, length_push}
+-- Where the tokens of a text stand among its bytes.
+use Rattle.std.proofs.Common.{◌≡◌, ◌≤◌, ◌<◌, ◌+◌, ◌-◌, ◌++◌, ◌∷◌, [], ℕ, List, length, inl, inr, slice_get, slice_range, drop, Some, sym, ap, subst, ◌∙◌, arith, chars, IsUtf8}
+use Rattle.std.proofs.lemmas.List.{get_or_append_left, get_or_push, length_push, length-take, length-drop, get_or-take, get_or-drop}
 use Rattle.std.proofs.lemmas.Bool.{cases_lt}
 use Rattle.std.proofs.lemmas.Option.{get_or_from_slice_get}
-use Rattle.span_token.specs.Documents.{Doc, characters}
 use Rattle.span_token.specs.Extents.{Extent}
 use Rattle.span_token.specs.Leads.{IsPlace}
 use Rattle.span_token.specs.Tokens.{tokens_of}
@@ -30,30 +29,44 @@ begins-le-end cs first last le lt =
     ]
 
 -- the bytes of a run are those from the begin of its first token to the end of its last
-pub run_bytes : (d : Doc) (start first last : ℕ) (offsets : List TokenBytes) → IsUtf8 d.text → first ≤ last → last < length offsets →
-    start + last < length (tokens_of (characters d)) → AreOffsets d start offsets →
-    IsBetween d.text (nth_token (tokens_of (characters d)) (start + first)).begin (nth_token (tokens_of (characters d)) (start + last)).end
+pub run_bytes : (text : List ℕ) (start first last : ℕ) (offsets : List TokenBytes) → IsUtf8 text → first ≤ last → last < length offsets →
+    start + last < length (tokens_of (chars text)) → AreOffsets text start offsets →
+    IsBetween text (nth_token (tokens_of (chars text)) (start + first)).begin (nth_token (tokens_of (chars text)) (start + last)).end
     (nth_bytes offsets first).begin (nth_bytes offsets last).end
-run_bytes d start first last offsets u le within there are =
-    between_places d.text _ _ _ _ u (are first (omega arith)).begins (are last within).ends
-    (begins-le-end (characters d) (start + first) (start + last) (omega arith) there)
+run_bytes text start first last offsets u le within there are =
+    between_places text _ _ _ _ u (are first (omega arith)).begins (are last within).ends
+    (begins-le-end (chars text) (start + first) (start + last) (omega arith) there)
 
 -- one more token
-pub AreOffsets-push : (d : Doc) (first token : ℕ) (offsets : List TokenBytes) (bytes : TokenBytes) → length offsets ≡ token - first → first ≤ token →
-    AreBytesOf d (nth_token (tokens_of (characters d)) token) bytes → AreOffsets d first offsets → AreOffsets d first (offsets ++ bytes ∷ [])
-AreOffsets-push d first token offsets bytes long from here are = λ k inside.
-    let tokens = tokens_of (characters d) in
+pub AreOffsets-push : (text : List ℕ) (first token : ℕ) (offsets : List TokenBytes) (bytes : TokenBytes) → length offsets ≡ token - first → first ≤ token →
+    AreBytesOf text (nth_token (tokens_of (chars text)) token) bytes → AreOffsets text first offsets → AreOffsets text first (offsets ++ bytes ∷ [])
+AreOffsets-push text first token offsets bytes long from here are = λ k inside.
+    let tokens = tokens_of (chars text) in
     let nil : TokenBytes = record { begin = 0; end = 0 } in
     elim (cases_lt k (length offsets)) [
-      | inl lt ↦ subst (AreBytesOf d (nth_token tokens (first + k))) (sym (get_or_append_left offsets (bytes ∷ []) nil k lt)) (are k lt)
+      | inl lt ↦ subst (AreBytesOf text (nth_token tokens (first + k))) (sym (get_or_append_left offsets (bytes ∷ []) nil k lt)) (are k lt)
       | inr ge ↦ let last : length offsets ≡ k = omega (arith, length_push offsets bytes) in
           let n : token ≡ first + k = omega arith in
-          let P : ℕ → Type 0 = λ i. AreBytesOf d (nth_token tokens i) (nth_bytes (offsets ++ bytes ∷ []) k) in
-          subst P n (subst (AreBytesOf d (nth_token tokens token)) (sym (get_or_push offsets bytes nil k last)) here)
+          let P : ℕ → Type 0 = λ i. AreBytesOf text (nth_token tokens i) (nth_bytes (offsets ++ bytes ∷ []) k) in
+          subst P n (subst (AreBytesOf text (nth_token tokens token)) (sym (get_or_push offsets bytes nil k last)) here)
     ]
 
 -- the bytes of a token, by its number
-pub bytes_of_token : (d : Doc) (token e : Extent) (bytes : TokenBytes) → token ≡ e →
-    IsPlace d.text e.begin bytes.begin → IsPlace d.text e.end bytes.end → AreBytesOf d token bytes
-bytes_of_token d token e bytes is begins ends =
-    subst (λ (t : Extent). AreBytesOf d t bytes) (sym is) (record { begins = begins; ends = ends })
+pub bytes_of_token : (text : List ℕ) (token e : Extent) (bytes : TokenBytes) → token ≡ e →
+    IsPlace text e.begin bytes.begin → IsPlace text e.end bytes.end → AreBytesOf text token bytes
+bytes_of_token text token e bytes is begins ends =
+    subst (λ (t : Extent). AreBytesOf text t bytes) (sym is) (record { begins = begins; ends = ends })
+
+-- those of some of the tokens, by their numbers
+pub AreOffsets-range : (text : List ℕ) (first past : ℕ) (offsets : List TokenBytes) → first ≤ past → past ≤ length offsets →
+    AreOffsets text 0 offsets → AreOffsets text first (slice_range offsets first past)
+AreOffsets-range text first past offsets le within are = λ k inside.
+    let nil : TokenBytes = record { begin = 0; end = 0 } in
+    let long : length (slice_range offsets first past) ≡ past - first =
+    omega (arith, length-take (past - first) (drop first offsets), length-drop first offsets) in
+    let is : nth_bytes (slice_range offsets first past) k ≡ nth_bytes offsets (first + k) =
+    get_or-take (past - first) (drop first offsets) k nil (omega (arith, inside, long)) ∙ get_or-drop first offsets k nil in
+    let zero : 0 + (first + k) ≡ first + k = omega arith in
+    let there : AreBytesOf text (nth_token (tokens_of (chars text)) (first + k)) (nth_bytes offsets (first + k)) =
+    subst (λ (i : ℕ). AreBytesOf text (nth_token (tokens_of (chars text)) i) (nth_bytes offsets (first + k))) zero (are (first + k) (omega (arith, inside, long))) in
+    subst (AreBytesOf text (nth_token (tokens_of (chars text)) (first + k))) (sym is) there

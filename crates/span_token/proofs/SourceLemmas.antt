@@ -106,7 +106,7 @@ seen_run s now first last seen kept u le lt inside =
     let long = seen-length s now seen kept in
     let one = seen-nth s now first seen kept (omega (arith, le, lt)) in
     let two = seen-nth s now last seen kept lt in
-    let between = run_bytes s.doc.now s.first first last s.offsets.now u le inside
+    let between = run_bytes s.doc.now.text s.first first last s.offsets.now u le inside
     (omega (arith, lt, long, kept.in_list)) kept.offsets in
     let P : Extent → Type 0 = λ x. IsBetween s.doc.now.text x.begin (nth_token tokens (s.first + last)).end b e in
     let Q : Extent → Type 0 = λ x. IsBetween s.doc.now.text (nth_token now.tokens first).begin x.end b e in

@@ -3,6 +3,7 @@ use Rattle.std.specs.Prelude.{◌≡◌, ◌≤◌, length, chars, IsUtf8, optio
 use Rattle.span_token.specs.Limits.{text_limit}
 use Rattle.span_token.specs.Documents.{Doc}
 use Rattle.span_token.specs.Places.{FitsText, FitsTokens}
+use Rattle.span_token.specs.Offsets.{AreOffsets}
 use Rattle.span_token.specs.declared.document.Document.TheInside.{Inside}
 
 -- the document that is kept
@@ -16,3 +17,4 @@ pub record IsLaidOut (d : Inside) : Type 0 where
   pub count : d.characters ≡ length (chars d.text.now)
   pub places : FitsText d.places d.text.now
   pub tokens : FitsTokens d.tokens d.text.now
+  pub offsets : AreOffsets d.text.now 0 d.offsets.items

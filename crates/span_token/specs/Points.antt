@@ -5,7 +5,7 @@ use Rattle.span_token.specs.Tokens.{is_word_before, tokens_from}
 use Rattle.span_token.specs.Leads.{IsPlace}
 use Rattle.span_token.specs.Classes.{class_of}
 use Rattle.span_token.specs.declared.classes.Class.{Class}
-use Rattle.span_token.specs.Extents.{extent_of}
+use Rattle.span_token.specs.Extents.{Extent, extent_of}
 use Rattle.span_token.specs.declared.span.Span.{Span}
 use Rattle.span_token.specs.declared.points.Point.{Point}
 
@@ -24,9 +24,15 @@ pub record IsStep (text : List ℕ) (at : Point) (class : Class) (next : Point) 
 pub record IsSeam (cs : List ℕ) (k : ℕ) : Type 0 where
   pub between : k < length cs → is_word_char (slice_index cs k) ≡ true → is_word_before cs k ≡ false
 
--- the first token from a point on, and the point after it
-pub record IsNextToken (text : List ℕ) (from : Point) (span : Span) (end : Point) : Type 0 where
-  pub first : tokens_from (chars text) from.place ≡ extent_of span ∷ tokens_from (chars text) end.place
+-- the characters from one point to another
+abbrev pub extent_between : Point → Point → Extent
+extent_between begin end = record { begin = begin.place; end = end.place }
+
+-- where the first token from a point on begins, and the point after it
+pub record IsNextToken (text : List ℕ) (from begin end : Point) : Type 0 where
+  pub first : tokens_from (chars text) from.place ≡ extent_between begin end ∷ tokens_from (chars text) end.place
+  pub ahead : begin.place < end.place
+  pub begins : IsPoint text begin
   pub point : IsPoint text end
   pub seam : IsSeam (chars text) end.place
 

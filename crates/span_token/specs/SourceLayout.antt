@@ -14,4 +14,4 @@ pub record AreKept (s : Inside) : Type 0 where
   pub ordered : s.first ≤ s.past
   pub in_list : s.past ≤ length (tokens_of (characters s.doc.now))
   pub fits : s.past < 2 ^ 32
-  pub offsets : AreOffsets s.doc.now s.first s.offsets.now
+  pub offsets : AreOffsets s.doc.now.text s.first s.offsets.now

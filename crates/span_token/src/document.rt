@@ -4,11 +4,13 @@ ghost use Rattle.span_token.specs.Extents.{Extent, extent_of};
 ghost use Rattle.span_token.specs.Tokens.{tokens_of, AreTokens};
 ghost use Rattle.span_token.specs.Contexts.{AreWithin};
 ghost use Rattle.span_token.specs.Places.{FitsTokens};
+ghost use Rattle.span_token.specs.Offsets.{AreOffsets};
 ghost use Rattle.span_token.specs.Leads.{leads, IsPlace};
 ghost use Rattle.span_token.specs.Documents.{LiesIn, characters, len_of, whole_of, text_in, chars_before, moved};
 
+use crate::offsets::TokenBytes;
 use crate::places::Places;
-use crate::tokens::{Tokens, tokens_of_text};
+use crate::tokens::{Tokens, tokens_with_bytes};
 use crate::{OutOfMemory, Span};
 use std::alloc::Global;
 use std::marker::Model;
@@ -26,6 +28,7 @@ pub struct Document<'d> {
     characters: u32,
     places: Places,
     tokens: Tokens,
+    offsets: Vec<TokenBytes>,
 }
 
 impl<'d> Model for Document<'d> {
@@ -44,7 +47,8 @@ impl<'d> Document<'d> {
     /// The document of `text`, which has at most 16,777,216 bytes, with its label.
     ///
     /// Finds the tokens and keeps them, 8 bytes each, in a list that grows by doubling. Where the text
-    /// isn't ASCII, a table of 4 bytes for each 64 bytes of text tells its characters from its bytes.
+    /// isn't ASCII, keeps their bytes too, 8 more for each, and a table of 4 bytes for each 64 bytes of
+    /// text tells its characters from its bytes.
     pub fn new(
         alloc: Global,
         text: &'d str,
@@ -53,8 +57,8 @@ impl<'d> Document<'d> {
         requires short { length text.now ≤ text_limit }
         ensures document { IfOk result (λ d. d ≡ record { text = text.now; label = option_map (λ l. l.now) label.entry }) }
     {
-        let tokens = Tokens::Kept(tokens_of_text(alloc, text)?);
-        Document::with_tokens(alloc, text, label, tokens)
+        let (spans, offsets) = tokens_with_bytes(alloc, text)?;
+        Document::with_tokens(alloc, text, label, Tokens::Kept(spans), offsets)
     }
 
     /// The same document, for a caller that asks for no tokens.
@@ -69,18 +73,20 @@ impl<'d> Document<'d> {
         requires short { length text.now ≤ text_limit }
         ensures document { IfOk result (λ d. d ≡ record { text = text.now; label = option_map (λ l. l.now) label.entry }) }
     {
-        Document::with_tokens(alloc, text, label, Tokens::Unkept)
+        Document::with_tokens(alloc, text, label, Tokens::Unkept, Vec::new(alloc))
     }
 
-    /// The document with what is kept of its tokens.
+    /// The document with what is kept of its tokens, and with the bytes of the first ones.
     fn with_tokens(
         alloc: Global,
         text: &'d str,
         label: Option<&'d str>,
         tokens: Tokens,
+        offsets: Vec<TokenBytes>,
     ) -> Result<Document<'d>, OutOfMemory>
         requires short { length text.now ≤ text_limit }
         requires fits { FitsTokens tokens text.now }
+        requires offsets { AreOffsets text.now 0 offsets.items }
         ensures document { IfOk result (λ d. d ≡ record { text = text.now; label = option_map (λ l. l.now) label.entry }) }
     {
         let places = Places::of(alloc, text)?;
@@ -91,6 +97,7 @@ impl<'d> Document<'d> {
             characters,
             places,
             tokens,
+            offsets,
         })
     }
 
@@ -231,6 +238,17 @@ impl<'d> Document<'d> {
         ensures { result ≡ count_by (λ t. nat_le t.end place) (tokens_of (characters self.now)) }
     {
         self.tokens.ended_by(self.text, place)
+    }
+
+    /// The bytes of the tokens with these numbers, if they are kept, and else of none.
+    pub(crate) fn kept_bytes(&self, first: u32, past: u32) -> &[TokenBytes]
+        requires ordered { first ≤ past }
+        ensures { AreOffsets self.now.text first result.now }
+    {
+        if past as usize > self.offsets.len() {
+            return &[];
+        }
+        &self.offsets[first as usize..past as usize]
     }
 
     /// Whether each character is known to be one byte.

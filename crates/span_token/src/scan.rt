@@ -44,15 +44,18 @@ impl<'a> TokenScan<'a> {
     pub(crate) fn next(&mut self) -> Option<Span>
         ensures { MatchOption result (self.old ≡ []) (λ span. self.old ≡ extent_of span ∷ self.new) }
     {
-        let (span, end) = next_token(self.text, self.at)?;
+        let (begin, end) = next_token(self.text, self.at)?;
         self.at = end;
-        Some(span)
+        Some(Span {
+            begin: begin.place,
+            end: end.place,
+        })
     }
 }
 
-/// The first token from a point on, and the point after it.
+/// The first token from a point on: where it begins, and the point after it.
 #[inline(always)]
-fn next_token(text: &str, from: Point) -> Option<(Span, Point)>
+pub(crate) fn next_token(text: &str, from: Point) -> Option<(Point, Point)>
     requires point { IsPoint text.now from }
     requires seam { IsSeam (chars text.now) from.place }
     requires short { length text.now ≤ text_limit }
@@ -62,23 +65,8 @@ fn next_token(text: &str, from: Point) -> Option<(Span, Point)>
     while let Some((class, next)) = step(text, at) {
         match class {
             Class::Space => at = next,
-            Class::Mark => return Some((
-                Span {
-                    begin: at.place,
-                    end: next.place,
-                },
-                next,
-            )),
-            Class::Word => {
-                let end = past_word(text, next);
-                return Some((
-                    Span {
-                        begin: at.place,
-                        end: end.place,
-                    },
-                    end,
-                ));
-            }
+            Class::Mark => return Some((at, next)),
+            Class::Word => return Some((at, past_word(text, next))),
         }
     }
     None

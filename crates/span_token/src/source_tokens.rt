@@ -4,7 +4,7 @@ ghost use Rattle.span_token.specs.Extents.{extent_of};
 ghost use Rattle.span_token.specs.SourceTokens.{InTextOrder, HoldsTokens, tokens_in, nth_token, run_extent};
 ghost use Rattle.span_token.specs.Tokens.{tokens_of};
 
-use crate::offsets::{TokenBytes, put_offsets};
+use crate::offsets::{TokenBytes, token_bytes};
 use crate::{Document, OutOfMemory, Span};
 use std::alloc::Global;
 use std::marker::Model;
@@ -52,8 +52,8 @@ impl<'a, 'd> Model for SourceTokens<'a, 'd> {
 impl<'a, 'd> SourceTokens<'a, 'd> {
     /// The tokens wholly in `source`.
     ///
-    /// Where the text isn't ASCII, goes through that of `source` once, and takes 8 bytes a token, if
-    /// `room` doesn't have them.
+    /// Where the document keeps no tokens and isn't ASCII, goes through the text of `source` once, and
+    /// takes 8 bytes a token, if `room` doesn't have them.
     ///
     /// Meaning: `tokens_in`, `specs/SourceTokens.antt`.
     pub fn of(
@@ -67,13 +67,12 @@ impl<'a, 'd> SourceTokens<'a, 'd> {
         ensures within { IfOk result (λ t. HoldsTokens (extent_of source) t.tokens) }
     {
         let (first, past) = doc.tokens_in(source);
-        let offsets = &mut room.offsets;
-        put_offsets(doc, source.begin, first, past, offsets)?;
+        let offsets = token_bytes(doc, source.begin, first, past, &mut room.offsets)?;
         Ok(SourceTokens {
             doc,
             first,
             past,
-            offsets: offsets.as_slice(),
+            offsets,
         })
     }
 
@@ -86,13 +85,12 @@ impl<'a, 'd> SourceTokens<'a, 'd> {
         ensures tokens { IfOk result (λ t. t.tokens ≡ tokens_of (characters doc.now)) }
     {
         let past = doc.token_count();
-        let offsets = &mut room.offsets;
-        put_offsets(doc, 0, 0, past, offsets)?;
+        let offsets = token_bytes(doc, 0, 0, past, &mut room.offsets)?;
         Ok(SourceTokens {
             doc,
             first: 0,
             past,
-            offsets: offsets.as_slice(),
+            offsets,
         })
     }
 

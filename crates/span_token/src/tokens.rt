@@ -3,9 +3,12 @@ ghost use Rattle.span_token.specs.Limits.{text_limit};
 ghost use Rattle.span_token.specs.Extents.{extent_of};
 ghost use Rattle.span_token.specs.Tokens.{tokens_of, AreTokens};
 ghost use Rattle.span_token.specs.Places.{FitsTokens};
+ghost use Rattle.span_token.specs.Offsets.{AreOffsets};
 
 use crate::ascii::ascii_tokens;
-use crate::scan::TokenScan;
+use crate::offsets::TokenBytes;
+use crate::points::Point;
+use crate::scan::{TokenScan, next_token};
 use crate::{OutOfMemory, Span};
 use std::alloc::Global;
 
@@ -19,24 +22,48 @@ pub fn tokens_of_text(alloc: Global, text: &str) -> Result<Vec<Span>, OutOfMemor
     ensures list { IfOk result (λ spans. map extent_of spans.items ≡ tokens_of (chars text.now)) }
     ensures meaning { IfOk result (λ spans. AreTokens (chars text.now) (map extent_of spans.items)) }
 {
-    if text.is_ascii() {
-        ascii_tokens(alloc, text.as_bytes())
-    } else {
-        decoded_tokens(alloc, text)
-    }
+    let (spans, _) = tokens_with_bytes(alloc, text)?;
+    Ok(spans)
 }
 
-/// The tokens of a text, decoded where it isn't ASCII.
-fn decoded_tokens(alloc: Global, text: &str) -> Result<Vec<Span>, OutOfMemory>
-    requires { length text.now ≤ text_limit }
-    ensures { IfOk result (λ spans. map extent_of spans.items ≡ tokens_of (chars text.now)) }
+/// The tokens of a text, and the bytes of each; no bytes where the text is ASCII, whose characters are
+/// its bytes.
+pub(crate) fn tokens_with_bytes(
+    alloc: Global,
+    text: &str,
+) -> Result<(Vec<Span>, Vec<TokenBytes>), OutOfMemory>
+    requires short { length text.now ≤ text_limit }
+    ensures tokens { IfOk result (λ found. map extent_of found.0.items ≡ tokens_of (chars text.now)) }
+    ensures bytes { IfOk result (λ found. AreOffsets text.now 0 found.1.items) }
+{
+    if text.is_ascii() {
+        let spans = ascii_tokens(alloc, text.as_bytes())?;
+        return Ok((spans, Vec::new(alloc)));
+    }
+    decoded_tokens(alloc, text)
+}
+
+/// The same of any text, by decoding it.
+fn decoded_tokens(alloc: Global, text: &str) -> Result<(Vec<Span>, Vec<TokenBytes>), OutOfMemory>
+    requires short { length text.now ≤ text_limit }
+    ensures tokens { IfOk result (λ found. map extent_of found.0.items ≡ tokens_of (chars text.now)) }
+    ensures bytes { IfOk result (λ found. AreOffsets text.now 0 found.1.items) }
 {
     let mut spans = Vec::new(alloc);
-    let mut scan = TokenScan::new(text);
-    while let Some(span) = scan.next() {
-        spans.push(span)?;
+    let mut offsets = Vec::new(alloc);
+    let mut at = Point { byte: 0, place: 0 };
+    while let Some((begin, end)) = next_token(text, at) {
+        spans.push(Span {
+            begin: begin.place,
+            end: end.place,
+        })?;
+        offsets.push(TokenBytes {
+            begin: begin.byte as u32,
+            end: end.byte as u32,
+        })?;
+        at = end;
     }
-    Ok(spans)
+    Ok((spans, offsets))
 }
 
 /// The tokens of a document's text: kept, or found anew at each call.

@@ -32,9 +32,9 @@ loop-token-preserved c =
     let more : c.push.new.self.items ≡ c.loop-token.into.items ++ bytes ∷ [] = c.in_ok-push.ensures.items in
     record {
       number = ap length more ∙ length_push c.loop-token.into.items bytes ∙ omega (arith, c.loop-token.invariant.number, c.loop-token.auto.token);
-      each = subst (AreOffsets doc c.args.first) (sym more)
-          (AreOffsets-push doc c.args.first token c.loop-token.into.items bytes c.loop-token.invariant.number c.loop-token.auto.token
-          (bytes_of_token doc _ (extent_of c.token-span.result) bytes is c.byte_after-begin.ensures.place c.byte_after-end.ensures.place)
+      each = subst (AreOffsets doc.text c.args.first) (sym more)
+          (AreOffsets-push doc.text c.args.first token c.loop-token.into.items bytes c.loop-token.invariant.number c.loop-token.auto.token
+          (bytes_of_token doc.text _ (extent_of c.token-span.result) bytes is c.byte_after-begin.ensures.place c.byte_after-end.ensures.place)
           c.loop-token.invariant.each);
       place = c.byte_after-end.ensures.place;
       ahead = λ k low high.

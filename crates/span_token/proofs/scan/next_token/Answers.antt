@@ -1,4 +1,4 @@
-use Rattle.std.proofs.Common.{◌≡◌, ◌+◌, ◌∙◌, sym, ap, subst, chars, drop}
+use Rattle.std.proofs.Common.{◌≡◌, ◌+◌, ◌∙◌, sym, ap, subst, arith, chars, drop}
 use Rattle.std.specs.List.{prefix_len}
 use Rattle.span_token.specs.Words.{is_word_char}
 use Rattle.span_token.specs.Tokens.{tokens_from}
@@ -25,16 +25,16 @@ returns-in-Mark c =
     let cs = chars c.args.text.now in
     let mark = mark_class _ (sym c.in-Mark.is ∙ here.class_is) in
     let found = subst (IsFoundToken cs c.loop-class.at.place) (sym here.one) (mark_found cs c.loop-class.at.place here.there mark.0 mark.1) in
-    record { first = sym c.loop-class.invariant.same ∙ found.first; point = here.point; seam = found.seam }
+    record { first = sym c.loop-class.invariant.same ∙ found.first; ahead = omega (arith, here.one); begins = c.loop-class.invariant.point; point = here.point; seam = found.seam }
 
 pub returns-in-Word : goal.returns-in-Word
 returns-in-Word c =
     let here = c.in-Some.ensures in
     let cs = chars c.args.text.now in
     let word = word_class _ (sym c.in-Word.is ∙ here.class_is) in
-    let far = subst (λ n. c.past_word-end.result.place ≡ n + prefix_len is_word_char (drop n cs)) here.one c.past_word-end.ensures.place in
-    let found = word_found cs c.loop-class.at.place c.past_word-end.result.place here.there word (c.loop-class.invariant.seam.between here.there word) far in
-    record { first = sym c.loop-class.invariant.same ∙ found.first; point = c.past_word-end.ensures.point; seam = found.seam }
+    let far = subst (λ n. c.past_word.result.place ≡ n + prefix_len is_word_char (drop n cs)) here.one c.past_word.ensures.place in
+    let found = word_found cs c.loop-class.at.place c.past_word.result.place here.there word (c.loop-class.invariant.seam.between here.there word) far in
+    record { first = sym c.loop-class.invariant.same ∙ found.first; ahead = omega (arith, here.one, far); begins = c.loop-class.invariant.point; point = c.past_word.ensures.point; seam = found.seam }
 
 pub returns : goal.returns
 returns c = sym c.loop-class.invariant.same ∙ from_end (chars c.args.text.now) c.loop-class.at.place c.in_default.ensures

@@ -11,4 +11,5 @@ invariant_of-result c = record {
   count = c.leads_before-characters.ensures ∙ ap leads (take_all (length c.args.text.now) c.args.text.now (omega arith)) ∙ leads-chars c.args.text.now c.utf8.text;
   places = c.in_ok-places.ensures;
   tokens = c.requires.fits;
+  offsets = c.requires.offsets;
 }

@@ -1,7 +1,6 @@
-use Rattle.std.proofs.Common.{sym, subst, arith, ◌-◌}
+use Rattle.std.proofs.Common.{arith, ◌-◌}
 use Rattle.std.proofs.lemmas.List.{take_all}
 use Rattle.span_token.specs.Documents.{characters}
-use Rattle.span_token.specs.Offsets.{AreOffsets}
 use Rattle.span_token.specs.Tokens.{tokens_of}
 use Rattle.span_token.proofs.source_tokens.SourceTokens.all.Goals as goal
 
@@ -10,7 +9,7 @@ invariant_of-result c = record {
   ordered = omega arith;
   in_list = omega (arith, c.token_count-past.ensures.count);
   fits = omega arith;
-  offsets = subst (AreOffsets c.args.doc.now 0) (sym c.as_slice.ensures.value) c.in_ok-put_offsets.ensures.offsets;
+  offsets = c.in_ok-offsets.ensures.offsets;
 }
 
 pub returns-clause-tokens : goal.returns-clause-tokens

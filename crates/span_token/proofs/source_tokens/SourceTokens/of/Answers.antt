@@ -1,12 +1,11 @@
 use Rattle.std.proofs.Common.{sym, subst, arith}
 use Rattle.span_token.specs.Extents.{extent_of}
-use Rattle.span_token.specs.Offsets.{AreOffsets}
 use Rattle.span_token.specs.SourceTokens.{HoldsTokens}
 use Rattle.span_token.proofs.SourceLemmas.{source_ahead, source_holds}
 use Rattle.span_token.proofs.source_tokens.SourceTokens.of.Goals as goal
 
-pub put_offsets-requires-clause-ahead : goal.put_offsets-requires-clause-ahead
-put_offsets-requires-clause-ahead c =
+pub token_bytes-requires-clause-ahead : goal.token_bytes-requires-clause-ahead
+token_bytes-requires-clause-ahead c =
     λ k low high. source_ahead c.args.doc.now (extent_of c.args.source) c.tokens_in-first.result.0 c.tokens_in-first.result.1 k c.tokens_in-first.ensures.tokens low high
 
 pub invariant_of-result : goal.invariant_of-result
@@ -14,7 +13,7 @@ invariant_of-result c = record {
   ordered = c.tokens_in-first.ensures.tokens.ordered;
   in_list = c.tokens_in-first.ensures.tokens.in_list;
   fits = omega arith;
-  offsets = subst (AreOffsets c.args.doc.now c.tokens_in-first.result.0) (sym c.as_slice.ensures.value) c.in_ok-put_offsets.ensures.offsets;
+  offsets = c.in_ok-offsets.ensures.offsets;
 }
 
 pub returns-clause-tokens : goal.returns-clause-tokens
