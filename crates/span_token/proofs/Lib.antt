@@ -11,4 +11,5 @@ pub mod BlockLemmas
 pub mod OffsetLemmas
 pub mod SourceLemmas
 pub mod StepLemmas
+mod SweepLemmas
 pub mod ScanLemmas

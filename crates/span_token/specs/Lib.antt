@@ -17,6 +17,7 @@ pub mod Classes
 pub mod Leads
 pub mod Points
 pub mod Scans
+pub mod Sweeps
 pub mod Places
 pub mod Layout
 pub mod Offsets

@@ -1,12 +1,11 @@
 -- Where a character begins in a text, and the step to the next one.
-use Rattle.std.specs.Prelude.{ℕ, ◌+◌, ◌<◌, ◌≤◌, ◌≡◌, true, false, List, ◌∷◌, length, chars, slice_index}
+use Rattle.std.specs.Prelude.{ℕ, ◌+◌, ◌<◌, ◌≡◌, true, false, List, ◌∷◌, length, chars, slice_index}
 use Rattle.span_token.specs.Words.{is_word_char}
 use Rattle.span_token.specs.Tokens.{is_word_before, tokens_from}
 use Rattle.span_token.specs.Leads.{IsPlace}
 use Rattle.span_token.specs.Classes.{class_of}
 use Rattle.span_token.specs.declared.classes.Class.{Class}
-use Rattle.span_token.specs.Extents.{Extent, extent_of}
-use Rattle.span_token.specs.declared.span.Span.{Span}
+use Rattle.span_token.specs.Extents.{Extent}
 use Rattle.span_token.specs.declared.points.Point.{Point}
 
 -- a point has the byte at which a character begins, and its place among the characters
@@ -35,10 +34,3 @@ pub record IsNextToken (text : List ℕ) (from begin end : Point) : Type 0 where
   pub begins : IsPoint text begin
   pub point : IsPoint text end
   pub seam : IsSeam (chars text) end.place
-
--- the same in an ASCII text, whose bytes are its characters
-pub record IsNextAscii (bytes : List ℕ) (from : ℕ) (span : Span) : Type 0 where
-  pub first : tokens_from bytes from ≡ extent_of span ∷ tokens_from bytes span.end
-  pub in_text : span.end ≤ length bytes
-  pub ahead : from < span.end
-  pub seam : IsSeam bytes span.end

@@ -24,6 +24,7 @@ mod relations;
 mod scan;
 mod source_tokens;
 mod span;
+mod sweep;
 mod tokens;
 
 pub use contexts::{left_context, left_context_tok, right_context, right_context_tok};

@@ -1,15 +1,14 @@
-use Rattle.std.proofs.Common.{◌≡◌, ◌≤◌, ◌-◌, ◌++◌, length, map}
+use Rattle.std.proofs.Common.{◌≤◌, ◌-◌, length, map}
 use Rattle.span_token.specs.Extents.{extent_of}
-use Rattle.span_token.specs.Tokens.{tokens_of, tokens_from}
-use Rattle.span_token.specs.Points.{IsSeam}
+use Rattle.span_token.specs.Sweeps.{IsSwept}
 use Rattle.span_token.proofs.ascii.ascii_tokens.Given as goal
 
-abbrev pub invariant-loop-span : goal.invariant-loop-span
-invariant-loop-span l = record {
+abbrev pub invariant-loop-at : goal.invariant-loop-at
+invariant-loop-at l = record {
   within : l.at ≤ length l.bytes;
-  seam : IsSeam l.bytes l.at;
-  so_far : map extent_of l.spans.items ++ tokens_from l.bytes l.at ≡ tokens_of l.bytes;
+  begun : l.sweep.begin ≤ l.at;
+  swept : IsSwept l.bytes (map extent_of l.spans.items) l.at l.sweep.begin l.sweep.last;
 }
 
-abbrev pub decreases-loop-span : goal.decreases-loop-span
-decreases-loop-span l = length l.bytes - l.at
+abbrev pub decreases-loop-at : goal.decreases-loop-at
+decreases-loop-at l = length l.bytes - l.at

@@ -1,0 +1,48 @@
+use Rattle.std.proofs.Common.{◌≡◌, ◌+◌, ◌∙◌, ◌++◌, ℕ, Bool, true, false, List, cond, refl, ap, sym, subst, map, take, arith}
+use mir.Val.{bool_byte}
+use Rattle.std.proofs.lemmas.List.{append-nil}
+use Rattle.span_token.specs.Extents.{Extent, extent_of}
+use Rattle.span_token.specs.Sweeps.{ends_between, begins_between, IsSwept}
+use Rattle.span_token.specs.declared.sweep.Sweep.{Sweep}
+use Rattle.span_token.proofs.SweepLemmas.{one_or_none, begun_by, swept_more, swept_put, swept_as}
+use Rattle.span_token.proofs.ascii.sweep_stretch.Goals as goal
+
+as_number : (b : Bool) → bool_byte b ≡ cond b 1 0
+as_number true = refl
+as_number false = refl
+
+pub loop-at-init : goal.loop-at-init
+loop-at-init c = record {
+  room = omega arith;
+  begun = c.requires.begun;
+  swept = λ found h.
+      subst (λ (ts : List Extent). IsSwept c.args.bytes.now ts c.args.from c.args.sweep.begin c.args.sweep.last) (sym (append-nil found)) h;
+}
+
+pub loop-at-preserved : goal.loop-at-preserved
+loop-at-preserved c =
+    let cs = c.args.bytes.now in
+    let at = c.loop-at.at in
+    let sweep = c.loop-at.sweep in
+    let next = c.class_of_ascii-class.result in
+    let ends = ends_between sweep.last next in
+    let begins = begins_between sweep.last next in
+    let n : c.from-count.result ≡ cond ends 1 0 = c.from-count.ensures ∙ ap bool_byte c.ends_before.ensures ∙ as_number ends in
+    let start : c.past-sweep.result.begin ≡ cond begins at sweep.begin = ap (λ (s : Sweep). s.begin) c.past-sweep.ensures in
+    let last : c.past-sweep.result.last ≡ next = ap (λ (s : Sweep). s.last) c.past-sweep.ensures in
+    record {
+      room = omega (arith, n, one_or_none ends, c.loop-at.invariant.room);
+      begun = omega (arith, start, begun_by begins at sweep.begin c.loop-at.invariant.begun);
+      swept = λ found h.
+          let before = found ++ map extent_of (take c.loop-at.count c.loop-at.ended) in
+          swept_put cs c.loop-at.ended c.loop-at.count c.from-count.result (at + 1) c.past-sweep.result.begin _ found c.past-sweep.result.last ends (omega (arith, c.loop-at.invariant.room)) n
+          (swept_as cs _ _ (at + 1) _ _ _ _ refl (sym start) (sym last)
+          (swept_more cs before at sweep.begin sweep.last next (omega arith) c.class_of_ascii-class.ensures (c.loop-at.invariant.swept found h)));
+    }
+
+pub returns-clause-swept : goal.returns-clause-swept
+returns-clause-swept c =
+    let all : c.loop-at.at ≡ c.args.past = omega (arith, c.loop-at-test.false) in
+    λ found h.
+    subst (λ (n : ℕ). IsSwept c.args.bytes.now (found ++ map extent_of (take c.loop-at.count c.loop-at.ended)) n c.loop-at.sweep.begin c.loop-at.sweep.last) all
+    (c.loop-at.invariant.swept found h)
