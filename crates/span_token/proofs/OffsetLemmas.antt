@@ -1,14 +1,15 @@
 -- Where the tokens of a text stand among its bytes.
-use Rattle.std.proofs.Common.{◌≡◌, ◌≤◌, ◌<◌, ◌+◌, ◌-◌, ◌++◌, ◌∷◌, [], ℕ, List, length, inl, inr, slice_get, slice_range, drop, Some, sym, ap, subst, ◌∙◌, arith, chars, IsUtf8}
-use Rattle.std.proofs.lemmas.List.{get_or_append_left, get_or_push, length_push, length-take, length-drop, get_or-take, get_or-drop}
+use Rattle.std.proofs.Common.{◌≡◌, ◌≤◌, ◌<◌, ◌+◌, ◌-◌, ◌++◌, ◌∷◌, [], ℕ, List, length, inl, inr, slice_get, slice_range, drop, take, map, set, cond, Bool, true, false, refl, Some, sym, ap, ap₂, subst, ◌∙◌, arith, chars, IsUtf8}
+use Rattle.std.proofs.lemmas.List.{get_or_append_left, get_or_push, length_push, length-take, length-drop, length-append, map-append, take-set, take_more_set, get_or-take, get_or-drop, get_or-append_right}
 use Rattle.std.proofs.lemmas.Bool.{cases_lt}
 use Rattle.std.proofs.lemmas.Option.{get_or_from_slice_get}
-use Rattle.span_token.specs.Extents.{Extent}
+use Rattle.span_token.specs.Extents.{Extent, extent_of}
 use Rattle.span_token.specs.Leads.{IsPlace}
 use Rattle.span_token.specs.Tokens.{tokens_of}
 use Rattle.span_token.specs.SourceTokens.{nth_token}
-use Rattle.span_token.specs.Offsets.{AreBytesOf, nth_bytes, AreOffsets}
+use Rattle.span_token.specs.Offsets.{AreBytesOf, nth_bytes, AreOffsets, ArePairs}
 use Rattle.span_token.specs.declared.offsets.TokenBytes.{TokenBytes}
+use Rattle.span_token.specs.declared.span.Span.{Span}
 use Rattle.span_token.proofs.PlaceLemmas.{IsBetween, between_places}
 use Rattle.span_token.specs.TokenLaws.{tokens_of_are, token_not_empty, token_in_list}
 
@@ -70,3 +71,55 @@ AreOffsets-range text first past offsets le within are = λ k inside.
     let there : AreBytesOf text (nth_token (tokens_of (chars text)) (first + k)) (nth_bytes offsets (first + k)) =
     subst (λ (i : ℕ). AreBytesOf text (nth_token (tokens_of (chars text)) i) (nth_bytes offsets (first + k))) zero (are (first + k) (omega (arith, inside, long))) in
     subst (AreBytesOf text (nth_token (tokens_of (chars text)) (first + k))) (sym is) there
+
+-- ---- tokens and their bytes, one by one
+
+pub ArePairs-none : (text : List ℕ) → ArePairs text [] []
+ArePairs-none text = record { number = refl; each = λ k inside. absurd (omega (arith, inside)) }
+
+pub ArePairs-append : (text : List ℕ) (ts us : List Extent) (os ps : List TokenBytes) → ArePairs text ts os → ArePairs text us ps → ArePairs text (ts ++ us) (os ++ ps)
+ArePairs-append text ts us os ps h g = record {
+  number = length-append os ps ∙ ap₂ (λ m n. m + n) h.number g.number ∙ sym (length-append ts us);
+  each = λ k inside.
+      let no_token : Extent = record { begin = 0; end = 0 } in
+      let no_bytes : TokenBytes = record { begin = 0; end = 0 } in
+      elim (cases_lt k (length os)) [
+        | inl lt ↦ subst (λ (t : Extent). AreBytesOf text t (nth_bytes (os ++ ps) k)) (sym (get_or_append_left ts us no_token k (omega (arith, lt, h.number))))
+            (subst (AreBytesOf text (nth_token ts k)) (sym (get_or_append_left os ps no_bytes k lt)) (h.each k lt))
+        | inr ge ↦ let first = get_or-append_right ts us (length os) k no_token (sym h.number) (omega arith) in
+            let second = get_or-append_right os ps (length os) k no_bytes refl (omega arith) in
+            subst (λ (t : Extent). AreBytesOf text t (nth_bytes (os ++ ps) k)) (sym first)
+            (subst (AreBytesOf text (nth_token us (k - length os))) (sym second) (g.each (k - length os) (omega (arith, inside, length-append os ps))))
+      ];
+}
+
+pub ArePairs-one : (text : List ℕ) (token : Extent) (bytes : TokenBytes) → AreBytesOf text token bytes → ArePairs text (token ∷ []) (bytes ∷ [])
+ArePairs-one text token bytes h = record {
+  number = refl;
+  each = λ k inside. let first : 0 ≡ k = omega (arith, inside) in
+      subst (λ (i : ℕ). AreBytesOf text (nth_token (token ∷ []) i) (nth_bytes (bytes ∷ []) i)) first h;
+}
+
+-- of all tokens of a text
+pub AreOffsets-pairs : (text : List ℕ) (tokens : List Extent) (offsets : List TokenBytes) → tokens ≡ tokens_of (chars text) → ArePairs text tokens offsets → AreOffsets text 0 offsets
+AreOffsets-pairs text tokens offsets all h = λ k inside.
+    let zero : k ≡ 0 + k = omega arith in
+    subst (λ (i : ℕ). AreBytesOf text (nth_token (tokens_of (chars text)) i) (nth_bytes offsets k)) zero
+    (subst (λ (ts : List Extent). AreBytesOf text (nth_token ts k) (nth_bytes offsets k)) all (h.each k inside))
+
+-- one more in lists with room
+pub ArePairs-put : (text : List ℕ) (ends : Bool) (spans : List Span) (bytes : List TokenBytes) (count n : ℕ) (span : Span) (one : TokenBytes) →
+    count < length spans → count < length bytes → n ≡ cond ends 1 0 → AreBytesOf text (extent_of span) one → ArePairs text (map extent_of (take count spans)) (take count bytes) →
+    ArePairs text (map extent_of (take (count + n) (set spans count span))) (take (count + n) (set bytes count one))
+ArePairs-put text true spans bytes count n span one short long is h g =
+    let more : map extent_of (take (count + 1) (set spans count span)) ≡ map extent_of (take count spans) ++ extent_of span ∷ [] =
+    ap (map extent_of) (take_more_set spans count span short) ∙ map-append extent_of (take count spans) (span ∷ []) in
+    subst (λ (k : ℕ). ArePairs text (map extent_of (take (count + k) (set spans count span))) (take (count + k) (set bytes count one))) (sym is)
+    (subst (λ (ts : List Extent). ArePairs text ts (take (count + 1) (set bytes count one))) (sym more)
+    (subst (ArePairs text (map extent_of (take count spans) ++ extent_of span ∷ [])) (sym (take_more_set bytes count one long))
+    (ArePairs-append text _ _ _ _ g (ArePairs-one text (extent_of span) one h))))
+ArePairs-put text false spans bytes count n span one short long is h g =
+    let same : count ≡ count + n = omega (arith, is) in
+    subst (λ (k : ℕ). ArePairs text (map extent_of (take k (set spans count span))) (take k (set bytes count one))) same
+    (subst (λ (xs : List Span). ArePairs text (map extent_of xs) (take count (set bytes count one))) (sym (take-set spans count span))
+    (subst (ArePairs text (map extent_of (take count spans))) (sym (take-set bytes count one)) g))

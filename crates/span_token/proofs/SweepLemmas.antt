@@ -1,5 +1,6 @@
 -- A sweep over the characters of a text, one character on.
 use Rattle.std.proofs.Common.{◌≡◌, ◌<◌, ◌≤◌, ◌+◌, ◌∙◌, ℕ, Bool, true, false, cond, List, [], ◌∷◌, ◌++◌, length, get_or, set, map, take, refl, sym, ap, subst, arith}
+use mir.Val.{bool_byte}
 use Rattle.std.proofs.lemmas.List.{append_assoc, append-nil, map-append, take-set, take_more_set}
 use Rattle.span_token.specs.Classes.{class_of}
 use Rattle.span_token.specs.Extents.{Extent, extent_of}
@@ -97,6 +98,11 @@ swept_all cs found at begin Word all h =
     split_all cs (with_token found begin at) at all (word_stops cs found at begin here h)
 
 -- ---- tokens that stand in a list with room
+
+-- a truth value as a number
+pub as_number : (b : Bool) → bool_byte b ≡ cond b 1 0
+as_number true = refl
+as_number false = refl
 
 pub one_or_none : (b : Bool) → cond b 1 0 ≤ 1
 one_or_none true = omega arith

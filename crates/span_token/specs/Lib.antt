@@ -18,6 +18,7 @@ pub mod Leads
 pub mod Points
 pub mod Scans
 pub mod Sweeps
+pub mod TextSweeps
 pub mod Places
 pub mod Layout
 pub mod Offsets

@@ -1,5 +1,5 @@
 -- Where the tokens of a text stand among its bytes.
-use Rattle.std.specs.Prelude.{ℕ, ◌+◌, ◌<◌, List, length, slice_index_or, chars}
+use Rattle.std.specs.Prelude.{ℕ, ◌≡◌, ◌+◌, ◌<◌, List, length, slice_index_or, chars}
 use Rattle.span_token.specs.Extents.{Extent}
 use Rattle.span_token.specs.Leads.{IsPlace}
 use Rattle.span_token.specs.Tokens.{tokens_of}
@@ -14,6 +14,11 @@ pub record AreBytesOf (text : List ℕ) (token : Extent) (bytes : TokenBytes) : 
 -- those of the `k`-th token that is kept
 abbrev pub nth_bytes : List TokenBytes → ℕ → TokenBytes
 nth_bytes offsets k = slice_index_or offsets k (record { begin = 0; end = 0 })
+
+-- these are the bytes of these tokens, one by one
+pub record ArePairs (text : List ℕ) (tokens : List Extent) (offsets : List TokenBytes) : Type 0 where
+  pub number : length offsets ≡ length tokens
+  pub each : (k : ℕ) → k < length offsets → AreBytesOf text (nth_token tokens k) (nth_bytes offsets k)
 
 -- these are the bytes of the tokens of a text from number `first` on
 abbrev pub AreOffsets : List ℕ → ℕ → List TokenBytes → Type 0

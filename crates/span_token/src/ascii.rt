@@ -10,7 +10,7 @@ use crate::{OutOfMemory, Span};
 use std::alloc::Global;
 
 /// How many bytes are looked at before the tokens that ended among them are put into the list.
-const STRETCH: usize = 64;
+pub(crate) const STRETCH: usize = 64;
 
 /// The tokens of an ASCII text, in which each byte is a character.
 pub(crate) fn ascii_tokens(alloc: Global, bytes: &[u8]) -> Result<Vec<Span>, OutOfMemory>

@@ -12,6 +12,7 @@
 mod ascii;
 mod classes;
 mod contexts;
+mod decoded;
 mod document;
 mod leads;
 mod limits;

@@ -55,7 +55,7 @@ impl<'a> TokenScan<'a> {
 
 /// The first token from a point on: where it begins, and the point after it.
 #[inline(always)]
-pub(crate) fn next_token(text: &str, from: Point) -> Option<(Point, Point)>
+fn next_token(text: &str, from: Point) -> Option<(Point, Point)>
     requires point { IsPoint text.now from }
     requires seam { IsSeam (chars text.now) from.place }
     requires short { length text.now ≤ text_limit }

@@ -1,5 +1,5 @@
 ghost use Rattle.std.specs.Prelude.{◌≡◌, ◌≤◌};
-ghost use Rattle.span_token.specs.Sweeps.{is_of_token, do_join, ends_between, swept};
+ghost use Rattle.span_token.specs.Sweeps.{is_of_token, do_join, ends_between, begins_between, swept};
 ghost use Rattle.span_token.specs.declared.classes.Class.TheVariants.{Space};
 
 use crate::classes::Class;
@@ -44,11 +44,18 @@ impl Sweep {
     pub(crate) fn past(self, at: u32, next: Class) -> Sweep
         ensures { result ≡ swept self at next }
     {
-        let begins = is_of_token(next) & !does_join(self.last, next);
         Sweep {
-            begin: if begins { at } else { self.begin },
+            begin: if self.begins_at(next) { at } else { self.begin },
             last: next,
         }
+    }
+
+    /// Whether a character of that class begins a token.
+    #[inline(always)]
+    pub(crate) fn begins_at(self, next: Class) -> bool
+        ensures { result ≡ begins_between self.last next }
+    {
+        is_of_token(next) & !does_join(self.last, next)
     }
 }
 

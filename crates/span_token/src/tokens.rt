@@ -6,9 +6,9 @@ ghost use Rattle.span_token.specs.Places.{FitsTokens};
 ghost use Rattle.span_token.specs.Offsets.{AreOffsets};
 
 use crate::ascii::ascii_tokens;
+use crate::decoded::decoded_tokens;
 use crate::offsets::TokenBytes;
-use crate::points::Point;
-use crate::scan::{TokenScan, next_token};
+use crate::scan::TokenScan;
 use crate::{OutOfMemory, Span};
 use std::alloc::Global;
 
@@ -41,29 +41,6 @@ pub(crate) fn tokens_with_bytes(
         return Ok((spans, Vec::new(alloc)));
     }
     decoded_tokens(alloc, text)
-}
-
-/// The same of any text, by decoding it.
-fn decoded_tokens(alloc: Global, text: &str) -> Result<(Vec<Span>, Vec<TokenBytes>), OutOfMemory>
-    requires short { length text.now ≤ text_limit }
-    ensures tokens { IfOk result (λ found. map extent_of found.0.items ≡ tokens_of (chars text.now)) }
-    ensures bytes { IfOk result (λ found. AreOffsets text.now 0 found.1.items) }
-{
-    let mut spans = Vec::new(alloc);
-    let mut offsets = Vec::new(alloc);
-    let mut at = Point { byte: 0, place: 0 };
-    while let Some((begin, end)) = next_token(text, at) {
-        spans.push(Span {
-            begin: begin.place,
-            end: end.place,
-        })?;
-        offsets.push(TokenBytes {
-            begin: begin.byte as u32,
-            end: end.byte as u32,
-        })?;
-        at = end;
-    }
-    Ok((spans, offsets))
 }
 
 /// The tokens of a document's text: kept, or found anew at each call.

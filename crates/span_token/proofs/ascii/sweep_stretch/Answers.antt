@@ -1,15 +1,11 @@
-use Rattle.std.proofs.Common.{◌≡◌, ◌+◌, ◌∙◌, ◌++◌, ℕ, Bool, true, false, List, cond, refl, ap, sym, subst, map, take, arith}
+use Rattle.std.proofs.Common.{◌≡◌, ◌+◌, ◌∙◌, ◌++◌, ℕ, List, cond, refl, ap, sym, subst, map, take, arith}
 use mir.Val.{bool_byte}
 use Rattle.std.proofs.lemmas.List.{append-nil}
 use Rattle.span_token.specs.Extents.{Extent, extent_of}
 use Rattle.span_token.specs.Sweeps.{ends_between, begins_between, IsSwept}
 use Rattle.span_token.specs.declared.sweep.Sweep.{Sweep}
-use Rattle.span_token.proofs.SweepLemmas.{one_or_none, begun_by, swept_more, swept_put, swept_as}
+use Rattle.span_token.proofs.SweepLemmas.{one_or_none, as_number, begun_by, swept_more, swept_put, swept_as}
 use Rattle.span_token.proofs.ascii.sweep_stretch.Goals as goal
-
-as_number : (b : Bool) → bool_byte b ≡ cond b 1 0
-as_number true = refl
-as_number false = refl
 
 pub loop-at-init : goal.loop-at-init
 loop-at-init c = record {

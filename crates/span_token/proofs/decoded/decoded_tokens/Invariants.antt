@@ -1,0 +1,16 @@
+use Rattle.std.proofs.Common.{◌-◌, length, map, chars}
+use Rattle.span_token.specs.Extents.{extent_of}
+use Rattle.span_token.specs.Offsets.{ArePairs}
+use Rattle.span_token.specs.Sweeps.{IsSwept}
+use Rattle.span_token.specs.TextSweeps.{IsAtPoint}
+use Rattle.span_token.proofs.decoded.decoded_tokens.Given as goal
+
+abbrev pub invariant-loop-offsets : goal.invariant-loop-offsets
+invariant-loop-offsets l = record {
+  point : IsAtPoint l.text l.swept;
+  swept : IsSwept (chars l.text) (map extent_of l.spans.items) l.swept.at.place l.swept.sweep.begin l.swept.sweep.last;
+  pairs : ArePairs l.text (map extent_of l.spans.items) l.offsets.items;
+}
+
+abbrev pub decreases-loop-offsets : goal.decreases-loop-offsets
+decreases-loop-offsets l = length (chars l.text) - l.swept.at.place
