@@ -200,6 +200,7 @@ impl<'d> Document<'d> {
     /// Token `i`, counted from 0 in the order of the text.
     ///
     /// Tokens are not empty, and each ends at or before the begin of the next one.
+    #[inline(always)]
     pub fn token(&self, i: u32) -> Span
         requires exists { i < length (tokens_of (characters self.now)) }
         ensures token { slice_get (tokens_of (characters self.now)) i ≡ Some (extent_of result) }

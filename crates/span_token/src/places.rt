@@ -53,6 +53,7 @@ impl Places {
     }
 
     /// The byte of `text` at which character `place` begins, or the text ends.
+    #[inline(always)]
     pub(crate) fn byte_of(&self, text: &str, place: u32) -> usize
         requires fits { FitsText self.now text.now }
         requires exists { place ≤ leads text.now }
@@ -86,6 +87,7 @@ impl Places {
 
     /// The byte at which character `place` begins, or the text ends, where the byte of an earlier character is known,
     /// which may be near or far, as ends of spans are.
+    #[inline(always)]
     pub(crate) fn byte_behind(&self, text: &str, from: usize, passed: u32, place: u32) -> usize
         requires fits { FitsText self.now text.now }
         requires from { IsPlace text.now passed from }
@@ -148,6 +150,7 @@ fn counted_before(counts: &[u32], bytes: &[u8], byte: usize) -> usize
 }
 
 /// The byte at which character `place` begins, sought in the last block before which no more begin.
+#[inline(never)]
 fn sought(counts: &[u32], text: &str, place: u32) -> usize
     requires counts { AreBlockCounts counts.now text.now }
     requires exists { place ≤ leads text.now }

@@ -110,6 +110,7 @@ impl<'a, 'd> SourceTokens<'a, 'd> {
     }
 
     /// Token `i`.
+    #[inline(always)]
     pub fn get(&self, i: usize) -> Span
         requires there { i < length self.now.tokens }
         ensures token { extent_of result ≡ nth_token self.now.tokens i }
@@ -120,6 +121,7 @@ impl<'a, 'd> SourceTokens<'a, 'd> {
     }
 
     /// The text of token `i`.
+    #[inline(always)]
     pub fn text(&self, i: usize) -> &'d str
         requires there { i < length self.now.tokens }
         ensures text { result.now ≡ text_in self.now.doc (nth_token self.now.tokens i) }
@@ -142,6 +144,7 @@ impl<'a, 'd> SourceTokens<'a, 'd> {
     }
 
     /// The text from the begin of token `first` to the end of token `last`.
+    #[inline(always)]
     pub fn run_text(&self, first: usize, last: usize) -> &'d str
         requires in_order { first ≤ last }
         requires there { last < length self.now.tokens }

@@ -64,6 +64,7 @@ impl Tokens {
     }
 
     /// Token `i` of `text`.
+    #[inline(always)]
     pub(crate) fn get(&self, text: &str, i: u32) -> Span
         requires fits { FitsTokens self.now text.now }
         requires short { length text.now ≤ text_limit }
@@ -115,6 +116,7 @@ fn count_found(text: &str) -> u32
 }
 
 /// Token `i`, found after those before it; None where there are fewer.
+#[inline(never)]
 fn nth_found(text: &str, i: u32) -> Option<Span>
     requires { length text.now ≤ text_limit }
     ensures { option_map extent_of result ≡ slice_get (tokens_of (chars text.now)) i }
