@@ -1,4 +1,4 @@
-ghost use Rattle.std.specs.Prelude.{◌≡◌, ℕ, ◌<◌, ◌↔◌, List, true, All, IsTrue};
+ghost use Rattle.std.specs.Prelude.{ℕ, ◌↔◌, List, true, All, IsTrue};
 ghost use Rattle.regex_hir.specs.Meaning.{meaning};
 ghost use Rattle.aql_regex_extract.specs.ByteSets.{Has};
 ghost use Rattle.aql_regex_extract.specs.Bytes.{Begins, AreBytes, IsAdmitted, AdmitsWhole, AdmitsMatches};

@@ -1,5 +1,5 @@
-ghost use Rattle.std.specs.Prelude.{◌≡◌, ◌≤◌, List, Option, map, IfOk, All};
-ghost use Rattle.span_token.specs.Documents.{LiesIn, text_in};
+ghost use Rattle.std.specs.Prelude.{◌≡◌, ◌≤◌, List, Option, IfOk, All};
+ghost use Rattle.span_token.specs.Documents.{LiesIn};
 ghost use Rattle.span_token.specs.Extents.{Extent, extent_of};
 ghost use Rattle.aql_regex_extract.specs.Matches.{has_match, match_rows, extents_of_rows, IsInside};
 ghost use Rattle.aql_regex_extract.specs.Patterns.{whole_form};

@@ -1,5 +1,5 @@
 //! The bytes of the texts that a tree can match, and those with which they begin.
-ghost use Rattle.std.specs.Prelude.{◌≡◌, map, Bool};
+ghost use Rattle.std.specs.Prelude.{map};
 ghost use Rattle.regex_hir.specs.Re.{literal};
 ghost use Rattle.regex_hir.specs.Meaning.{meaning, cat_all, alt_all};
 ghost use Rattle.aql_regex_extract.specs.ByteSets.{Widens};

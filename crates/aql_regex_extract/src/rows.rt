@@ -1,6 +1,5 @@
-ghost use Rattle.std.specs.Prelude.{◌≡◌, ◌++◌, ◌≤◌, option_map, OnOk, All};
+ghost use Rattle.std.specs.Prelude.{◌≡◌, ◌++◌, option_map, OnOk, All};
 ghost use Rattle.regex.specs.Strings.{captures_span, captures_haystack};
-ghost use Rattle.span_token.specs.Documents.{text_in, moved};
 ghost use Rattle.span_token.specs.Extents.{Extent, extent_of};
 ghost use Rattle.span_token.specs.Relations.{ContainsExtent};
 ghost use Rattle.aql_regex_extract.specs.Matches.{placed, row_by, extents_of, IsInside};

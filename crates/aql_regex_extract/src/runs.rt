@@ -54,7 +54,7 @@ fn counted(number: usize, is_more: bool) -> usize
 
 /// Puts the row of the longest run from one token on after the others, if there is one.
 ///
-/// All runs from a token begin with the same byte, so where no match does, the longest one tells it of all.
+/// All runs from a token begin with the same byte, so whether a match may begin there is asked once, of the longest.
 fn push_run(
     whole: &mut WholeMatcher<'_>,
     tokens: &SourceTokens<'_, '_>,
@@ -75,12 +75,16 @@ fn push_run(
 {
     let least = low as usize;
     let mut count = (high as usize).min(tokens.len() - first);
+    if count < least {
+        return Ok(false);
+    }
+    let longest = tokens.run_text(first, first + (count - 1));
+    if !whole.may_begin(longest) {
+        return Ok(false);
+    }
     'lengths: while count >= least {
         let last = first + (count - 1);
         let text = tokens.run_text(first, last);
-        if !whole.may_begin(text) {
-            return Ok(false);
-        }
         if push_row(whole, tokens, first, last, text, groups, into)? {
             return Ok(true);
         }

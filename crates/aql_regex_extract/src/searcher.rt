@@ -1,5 +1,5 @@
-ghost use Rattle.std.specs.Prelude.{◌≡◌, ◌++◌, ◌≤◌, map, IfOk, OnOk, All};
-ghost use Rattle.span_token.specs.Documents.{LiesIn, text_in};
+ghost use Rattle.std.specs.Prelude.{◌≡◌, ◌++◌, IfOk, OnOk, All};
+ghost use Rattle.span_token.specs.Documents.{LiesIn};
 ghost use Rattle.span_token.specs.Extents.{extent_of};
 ghost use Rattle.aql_regex_extract.specs.Matches.{has_match, match_rows, flat_rows, PutsRows, extents_of, IsInside};
 

@@ -1,4 +1,4 @@
--- Marks of texts: a text has the mark of its folding, and a mark that is set stays set.
+-- Marks of texts: an ASCII text has the mark of its folding, and a set keeps its marks when it gets one more.
 use Rattle.std.proofs.Common.{◌≡◌, ◌∙◌, inl, inr, ℕ, ◌+◌, ◌*◌, ◌/◌, ◌%◌, ◌^◌, ◌<◌, ◌⊎◌, Bool, true, false, cond, nat_lt, List, [], ◌∷◌, length, map, get_or, Option, Some, None, IsAscii, refl, sym, ap, subst, arith}
 use Rattle.std.specs.Char.{to_ascii_lowercase}
 use Rattle.std.specs.List.{fold}
@@ -13,7 +13,7 @@ use Rattle.std.proofs.lemmas.Nat.{mod_below}
 use Rattle.std.proofs.lemmas.Nat.Bits.{bit_at_or, bit_at-lt, bit_at-pow_same}
 use Rattle.dict_match.specs.declared.trie.Trie.{Trie}
 use Rattle.dict_match.specs.Dictionaries.{folded}
-use Rattle.dict_match.specs.Marks.{IsSet, mark_of, mark_behind}
+use Rattle.dict_match.specs.Marks.{HasMark, mark_of, mark_behind}
 use Rattle.dict_match.specs.Tries.{IsNumbered}
 use Rattle.dict_match.proofs.FoldLemmas.{folded-ascii}
 
@@ -58,13 +58,13 @@ module _ (bytes : List ℕ) (mark : ℕ) (there : mark / 8 < length bytes) where
   abbrev with_bit : List ℕ
   with_bit = set bytes (mark / 8) (bit_or (get_or bytes (mark / 8) 0) (2 ^ (mark % 8)))
 
-  pub set-itself : IsSet with_bit mark
+  pub set-itself : HasMark with_bit mark
   set-itself =
       ap (λ (b : ℕ). bit_at b (mark % 8)) (get_or-set_same bytes (mark / 8) (bit_or (get_or bytes (mark / 8) 0) (2 ^ (mark % 8))) 0 there)
       ∙ or_set (get_or bytes (mark / 8) 0) (2 ^ (mark % 8)) (mark % 8) (inr (bit_at-pow_same (mark % 8)))
 
-  -- a mark that is set stays set when one is set
-  pub set-kept : (other : ℕ) → IsSet bytes other → IsSet with_bit other
+  -- it has the marks that it had
+  pub set-kept : (other : ℕ) → HasMark bytes other → HasMark with_bit other
   set-kept other is = elim (cases_eq (other / 8) (mark / 8)) [
     | inl same ↦
         ap (λ (n : ℕ). bit_at (get_or with_bit n 0) (other % 8)) same
@@ -75,9 +75,9 @@ module _ (bytes : List ℕ) (mark : ℕ) (there : mark / 8 < length bytes) where
     get_or-set_other_value : (bs : List ℕ) (i j : ℕ) → (j ≡ i → ⊥) → get_or (set bs i (bit_or (get_or bytes (mark / 8) 0) (2 ^ (mark % 8)))) j 0 ≡ get_or bs j 0
     get_or-set_other_value bs i j apart = get_or-set_other bs i j (bit_or (get_or bytes (mark / 8) 0) (2 ^ (mark % 8))) 0 apart
 
--- an ASCII text whose mark isn't set is no word
-pub unmarked : (trie : Trie) (text : List ℕ) → IsNumbered trie → IsAscii text → (IsSet trie.marks (mark_of text) → ⊥) → None ≡ get_by_text trie.words (folded text)
+-- an ASCII text whose mark isn't among the marks is no word
+pub unmarked : (trie : Trie) (text : List ℕ) → IsNumbered trie → IsAscii text → (HasMark trie.marks (mark_of text) → ⊥) → None ≡ get_by_text trie.words (folded text)
 unmarked trie text numbered ascii clear = by_number (get_by_text trie.words (folded text)) refl where
   by_number : (found : Option ℕ) → get_by_text trie.words (folded text) ≡ found → None ≡ found
   by_number None is = refl
-  by_number (Some word) is = absurd (clear (subst (IsSet trie.marks) (mark-folded text ascii) (numbered.marked (folded text) word is)))
+  by_number (Some word) is = absurd (clear (subst (HasMark trie.marks) (mark-folded text ascii) (numbered.marked (folded text) word is)))

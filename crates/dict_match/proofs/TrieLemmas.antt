@@ -13,7 +13,7 @@ use Rattle.std.proofs.lemmas.Slice.Eq.{bytes_eq-Decides}
 use Rattle.std.proofs.Math.ListN.{set}
 use Rattle.dict_match.specs.declared.trie.End.{End}
 use Rattle.dict_match.specs.declared.trie.Trie.{Trie}
-use Rattle.dict_match.specs.Marks.{IsSet, mark_of}
+use Rattle.dict_match.specs.Marks.{HasMark, mark_of}
 use Rattle.dict_match.specs.Tries.{is_same_edge, edge_from, step, IsNumbered, HasEnds, Reaches}
 use Rattle.dict_match.proofs.TreeLemmas.{at_end, some_same, AddsStep, fresh, IsTree-added, IsTree-same, HasEnds-added, HasEnds-again, HasEnds-pushed}
 
@@ -41,8 +41,8 @@ pub record AddsWord (old new : Trie) (text : List ℕ) : Type 0 where
   pub len : hash_map_len new.words ≡ hash_map_len old.words + 1
   pub edges : new.edges ≡ old.edges
   pub ends : new.ends ≡ old.ends
-  pub set_is : IsSet new.marks (mark_of text)
-  pub marks : (mark : ℕ) → IsSet old.marks mark → IsSet new.marks mark
+  pub set_is : HasMark new.marks (mark_of text)
+  pub marks : (mark : ℕ) → HasMark old.marks mark → HasMark new.marks mark
 
 module _ (old new : Trie) (text : List ℕ) (adds : AddsWord old new text) (numbered : IsNumbered old) where
   word_cases : (cs : List ℕ) → ((text ≡ cs) × (get_by_text new.words cs ≡ Some (hash_map_len old.words))) ⊎ ((text ≡ cs → ⊥) × (get_by_text new.words cs ≡ get_by_text old.words cs))
@@ -93,7 +93,7 @@ module _ (old new : Trie) (text : List ℕ) (adds : AddsWord old new text) (numb
     ];
     known = λ node word next h. let low = numbered.known node word next (sym (edge_same node word) ∙ h) in omega (arith, low, adds.len);
     marked = λ cs word h. elim (word_cases cs) [
-      | inl same ↦ subst (λ (t : List ℕ). IsSet new.marks (mark_of t)) same.0 adds.set_is
+      | inl same ↦ subst (λ (t : List ℕ). HasMark new.marks (mark_of t)) same.0 adds.set_is
       | inr other ↦ adds.marks (mark_of cs) (numbered.marked cs word (sym other.1 ∙ h))
     ];
   }
@@ -166,7 +166,7 @@ module _ (old new : Trie) (node word : ℕ) (text : List ℕ) (adds : AddsNode o
       | inl same ↦ let low = numbered.below text word has in omega (arith, low, same.0.1, ap (λ ws. hash_map_len ws) adds.words)
       | inr other ↦ let low = numbered.known q w next (sym other.1 ∙ h) in omega (arith, low, ap (λ ws. hash_map_len ws) adds.words)
     ];
-    marked = λ cs w h. subst (λ (ms : List ℕ). IsSet ms (mark_of cs)) (sym adds.marks) (numbered.marked cs w (sym (word_same cs) ∙ h));
+    marked = λ cs w h. subst (λ (ms : List ℕ). HasMark ms (mark_of cs)) (sym adds.marks) (numbered.marked cs w (sym (word_same cs) ∙ h));
   }
 
 pub Reaches-node : (old new : Trie) (put : List (List (List ℕ) × End)) (node word : ℕ) (text : List ℕ) (path : List (List ℕ)) → AddsNode old new node word →
@@ -233,7 +233,7 @@ Reaches-end old new put node path end words edges marks ends gone r = record {
     below = λ cs w h. let low = r.numbered.below cs w (ap (λ ws. get_by_text ws cs) (sym words) ∙ h) in omega (arith, low, ap (λ ws. hash_map_len ws) words);
     apart = λ t u w h k. r.numbered.apart t u w (ap (λ ws. get_by_text ws t) (sym words) ∙ h) (ap (λ ws. get_by_text ws u) (sym words) ∙ k);
     known = λ q w next h. let low = r.numbered.known q w next (ap (λ es. get is_same_edge es (q, w)) (sym edges) ∙ h) in omega (arith, low, ap (λ ws. hash_map_len ws) words);
-    marked = λ cs w h. subst (λ (ms : List ℕ). IsSet ms (mark_of cs)) (sym marks) (r.numbered.marked cs w (ap (λ ws. get_by_text ws cs) (sym words) ∙ h));
+    marked = λ cs w h. subst (λ (ms : List ℕ). HasMark ms (mark_of cs)) (sym marks) (r.numbered.marked cs w (ap (λ ws. get_by_text ws cs) (sym words) ∙ h));
   };
   tree = IsTree-same (step old) (step new) r.paths (step-same old new words edges) r.tree;
   ends = subst (λ es. HasEnds es r.paths (put ++ (path, end) ∷ [])) (sym ends)

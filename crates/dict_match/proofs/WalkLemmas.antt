@@ -12,7 +12,7 @@ use Rattle.span_token.specs.SourceTokens.{nth_token}
 use Rattle.dict_match.specs.Dictionaries.{folded, entry_texts, texts_of, AgreesWith}
 use Rattle.span_token.specs.SourceTokens.{SomeTokens}
 use Rattle.dict_match.specs.Tries.{end_of, put_dicts, step, edge_from, Reaches}
-use Rattle.dict_match.specs.Walks.{numbers_of, run_texts, AreAhead, IsNear}
+use Rattle.dict_match.specs.Walks.{numbers_of, run_texts, AreAhead, IsKnownOrNext}
 use Rattle.dict_match.proofs.PutLemmas.{agreed-put}
 
 abbrev Text : Type 0
@@ -138,12 +138,8 @@ pub no-numbers : (trie : Trie) (tokens : SomeTokens) (ahead : Ahead) → ahead.n
 no-numbers trie tokens ahead none = none ∙ sym (ap (λ (ws : List (Option ℕ)). take (length ws) (drop ahead.begin (numbers_of trie tokens))) none)
 
 -- before the first token
-pub near-none : (ahead : Ahead) → ahead.begin ≡ 0 → IsNear 0 ahead
-near-none ahead is = record { «from» = omega (arith, is); to = omega (arith, is) }
-
--- a walk goes on from the token behind its first one
-pub near-next : (first : ℕ) (ahead : Ahead) → ahead.begin ≤ first → first < ahead.begin + length ahead.numbers.items → IsNear (first + 1) ahead
-near-next first ahead le lt = record { «from» = omega (arith, le); to = omega (arith, lt) }
+pub next-none : (ahead : Ahead) → ahead.begin ≡ 0 → IsKnownOrNext 0 ahead
+next-none ahead is = record { «from» = omega (arith, is); to = omega (arith, is) }
 
 -- all tokens as a run
 pub run-all : (tokens : SomeTokens) → run_texts tokens 0 (length tokens.tokens) ≡ texts_of tokens.doc tokens.tokens

@@ -3,7 +3,7 @@ use Rattle.std.specs.Prelude.{◌≡◌, ℕ, ◌+◌, ◌*◌, ◌/◌, ◌%◌
 use Rattle.std.specs.Int.{bit_at}
 use Rattle.std.specs.List.{fold}
 
--- the mark of what was read and one more byte; the case of an ASCII letter doesn't count
+-- from the mark of a text, that of the text with one more byte at its end; the case of an ASCII letter doesn't count
 abbrev pub mark_behind : ℕ → ℕ → ℕ
 mark_behind mark byte = (43 * mark + byte % 32) % 262144
 
@@ -11,6 +11,6 @@ mark_behind mark byte = (43 * mark + byte % 32) % 262144
 unfoldable pub mark_of : List ℕ → ℕ
 mark_of text = fold mark_behind 0 text
 
--- a mark is set in a set of them, which has eight in each byte
-abbrev pub IsSet : List ℕ → ℕ → Type 0
-IsSet bytes mark = bit_at (slice_index_or bytes (mark / 8) 0) (mark % 8) ≡ 1
+-- a set of marks, kept as bytes with a bit for each mark, has this one
+abbrev pub HasMark : List ℕ → ℕ → Type 0
+HasMark bytes mark = bit_at (slice_index_or bytes (mark / 8) 0) (mark % 8) ≡ 1

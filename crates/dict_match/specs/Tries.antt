@@ -6,7 +6,7 @@ use Rattle.dict_match.specs.declared.dict_use.DictUse.{DictUse}
 use Rattle.dict_match.specs.declared.trie.End.{End}
 use Rattle.dict_match.specs.declared.trie.Trie.{Trie}
 use Rattle.dict_match.specs.Dictionaries.{folded, entry_texts}
-use Rattle.dict_match.specs.Marks.{mark_of, IsSet}
+use Rattle.dict_match.specs.Marks.{mark_of, HasMark}
 
 -- ---- what is put in
 
@@ -45,12 +45,12 @@ edge_from trie node word = get is_same_edge trie.edges (node, word)
 unfoldable pub step : Trie → ℕ → List ℕ → Option ℕ
 step trie node text = option_and_then (edge_from trie node) (get_by_text trie.words text)
 
--- each folded token has a number of its own and its mark is set, and edges have these numbers
+-- each folded token has a number of its own and its mark is among the marks, and edges have these numbers
 pub record IsNumbered (trie : Trie) : Type 0 where
   pub below : (text : List ℕ) (word : ℕ) → get_by_text trie.words text ≡ Some word → word < hash_map_len trie.words
   pub apart : (t u : List ℕ) (word : ℕ) → get_by_text trie.words t ≡ Some word → get_by_text trie.words u ≡ Some word → t ≡ u
   pub known : (node word next : ℕ) → edge_from trie node word ≡ Some next → word < hash_map_len trie.words
-  pub marked : (text : List ℕ) (word : ℕ) → get_by_text trie.words text ≡ Some word → IsSet trie.marks (mark_of text)
+  pub marked : (text : List ℕ) (word : ℕ) → get_by_text trie.words text ≡ Some word → HasMark trie.marks (mark_of text)
 
 -- a token leads from one node to another where their paths say so
 pub record LeadsOn (paths : List (List (List ℕ))) (node : ℕ) (text : List ℕ) (next : ℕ) : Type 0 where

@@ -12,7 +12,7 @@ use Rattle.dict_match.specs.declared.walk.DictMatch.{DictMatch}
 use Rattle.dict_match.specs.Dictionaries.{folded, texts_of, AgreesWith}
 use Rattle.span_token.specs.SourceTokens.{SomeTokens}
 
--- what the tree's words have for the foldings of some tokens
+-- for each token the number that the tree's words have for its folding, if they have one
 abbrev pub numbers_of : Trie → SomeTokens → List (Option ℕ)
 numbers_of trie tokens = map (λ t. get_by_text trie.words (folded (text_in tokens.doc t))) tokens.tokens
 
@@ -49,12 +49,12 @@ pub record HasRun (dict : DictUse) (tokens : SomeTokens) (first past : ℕ) : Ty
   pub before : last < past
   pub agrees : AgreesWith dict (run_texts tokens first (last + 1))
 
--- the numbers of the foldings of some tokens in a row
+-- what is kept is the numbers of tokens one after another, the first of which is token number `begin`
 abbrev pub AreAhead : Trie → SomeTokens → Ahead → Type 0
 AreAhead trie tokens ahead = ahead.numbers.items ≡ take (length ahead.numbers.items) (drop ahead.begin (numbers_of trie tokens))
 
--- token number `i` is one of them, or the next one
-pub record IsNear (i : ℕ) (ahead : Ahead) : Type 0 where
+-- token number `i` is one of those whose numbers are kept, or the next one behind them
+pub record IsKnownOrNext (i : ℕ) (ahead : Ahead) : Type 0 where
   pub «from» : ahead.begin ≤ i
   pub to : i ≤ ahead.begin + length ahead.numbers.items
 

@@ -1,25 +1,25 @@
-ghost use Rattle.std.specs.Prelude.{◌≡◌, ◌<◌, ◌+◌, ℕ, [], length, IfOk, OnOk};
+ghost use Rattle.std.specs.Prelude.{◌≡◌, ◌<◌, ◌+◌, [], length, IfOk, OnOk};
 ghost use Rattle.std.specs.HashMap.{get_by_text};
 ghost use Rattle.span_token.specs.Documents.{text_in};
 ghost use Rattle.span_token.specs.SourceTokens.{SomeTokens, nth_token};
 ghost use Rattle.dict_match.specs.Dictionaries.{folded};
 ghost use Rattle.dict_match.specs.declared.trie.Trie.{Trie as DeclaredTrie};
 ghost use Rattle.dict_match.specs.Tries.{IsTrie};
-ghost use Rattle.dict_match.specs.Walks.{AreAhead, IsNear};
+ghost use Rattle.dict_match.specs.Walks.{AreAhead, IsKnownOrNext};
 
 use crate::numbers::number_of_folded;
 use crate::trie::Trie;
 use span_token::{OutOfMemory, SourceTokens};
 use std::alloc::Global;
 
-/// The numbers of the foldings of some tokens that stand in a row: those that a walk has looked at, and may look
-/// at again from another token.
+/// The numbers that were looked up for some tokens one after another, kept for walks from later tokens.
 ///
-/// Most tokens begin no entry, so a walk mostly has one number here, and none of the tokens before it.
+/// Most tokens begin no entry, so mostly one number is kept, and none of the tokens before it.
 #[derive(Drop)]
 pub(crate) struct Ahead {
     /// The place of the first of these tokens.
     pub begin: usize,
+    /// For each of them the number of its folding, none where no entry has it.
     pub numbers: Vec<Option<usize>>,
 }
 
@@ -44,8 +44,8 @@ impl Ahead {
     /// Has a walk from token `first` on begin: all numbers are forgotten where that one stands behind their tokens.
     #[inline(always)]
     pub(crate) fn go_to(&mut self, first: usize)
-        requires near { IsNear first self.old }
-        ensures near { IsNear first self.new }
+        requires next { IsKnownOrNext first self.old }
+        ensures next { IsKnownOrNext first self.new }
         ensures numbers { (trie : DeclaredTrie) (tokens : SomeTokens) → AreAhead trie tokens self.old → AreAhead trie tokens self.new }
     {
         if first - self.begin >= self.numbers.len() {
@@ -68,7 +68,7 @@ pub(crate) fn number_at(
     requires trie { IsTrie trie.now }
     requires there { i < length tokens.now.tokens }
     requires numbers { AreAhead trie.now tokens.now ahead.old }
-    requires near { IsNear i ahead.old }
+    requires next { IsKnownOrNext i ahead.old }
     ensures number { IfOk result (λ word. word ≡ get_by_text trie.now.words (folded (text_in tokens.now.doc (nth_token tokens.now.tokens i)))) }
     ensures numbers { OnOk result (AreAhead trie.now tokens.now ahead.new) }
     ensures begin { ahead.new.begin ≡ ahead.old.begin }

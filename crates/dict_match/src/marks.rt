@@ -1,5 +1,5 @@
 ghost use Rattle.std.specs.Prelude.{◌≡◌, ◌<◌, ◌↔◌, ℕ, List, IfSome, IsAscii, IsTrue, length};
-ghost use Rattle.dict_match.specs.Marks.{IsSet, mark_of, mark_behind};
+ghost use Rattle.dict_match.specs.Marks.{HasMark, mark_of, mark_behind};
 
 use span_token::OutOfMemory;
 use std::alloc::Global;
@@ -8,7 +8,7 @@ use std::marker::Model;
 /// How many bytes hold the marks.
 const BYTES: usize = 32_768;
 
-/// A set of marks below 262,144, a bit for each. Contracts see the bytes.
+/// A set of marks, with a bit for each number below 262,144. Contracts see the bytes.
 #[derive(Drop)]
 pub(crate) struct Marks {
     bytes: Vec<u8>,
@@ -25,27 +25,27 @@ impl Model for Marks {
 }
 
 impl Marks {
-    /// None is set.
+    /// The empty set.
     pub(crate) fn new(alloc: Global) -> Result<Marks, OutOfMemory> {
         Ok(Marks {
             bytes: Vec::from_elem(alloc, 0, BYTES)?,
         })
     }
 
-    /// Whether a mark is set.
+    /// Whether the set has a mark.
     #[inline(always)]
-    pub(crate) fn is_set(&self, mark: u32) -> bool
+    pub(crate) fn has(&self, mark: u32) -> bool
         requires below { mark < 262144 }
-        ensures { IsTrue result ↔ IsSet self.now mark }
+        ensures { IsTrue result ↔ HasMark self.now mark }
     {
         (self.bytes[(mark / 8) as usize] >> (mark % 8)) & 1 == 1
     }
 
-    /// Sets a mark.
+    /// Puts a mark into the set.
     pub(crate) fn set(&mut self, mark: u32)
         requires below { mark < 262144 }
-        ensures set { IsSet self.new mark }
-        ensures kept { (other : ℕ) → IsSet self.old other → IsSet self.new other }
+        ensures set { HasMark self.new mark }
+        ensures kept { (other : ℕ) → HasMark self.old other → HasMark self.new other }
     {
         let place = (mark / 8) as usize;
         let byte = self.bytes[place];
@@ -86,7 +86,7 @@ pub(crate) fn mark_where_ascii(text: &str) -> Option<u32>
     Some(mark)
 }
 
-/// The mark of what was read and one more byte.
+/// From the mark of a text, that of the text with one more byte at its end.
 #[inline(always)]
 fn mark_behind(mark: u32, byte: u8) -> u32
     requires below { mark < 262144 }

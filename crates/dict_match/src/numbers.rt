@@ -22,7 +22,7 @@ pub(crate) fn number_of_folded(
     ensures { IfOk result (λ number. number ≡ get_by_text trie.now.words (folded text.now)) }
 {
     if let Some(mark) = mark_where_ascii(text) {
-        if !trie.marks.is_set(mark) {
+        if !trie.marks.has(mark) {
             return Ok(None);
         }
     }

@@ -1,12 +1,9 @@
-ghost use Rattle.std.specs.Prelude.{◌≡◌, ◌≤◌, ◌<◌, ◌+◌, ◌↔◌, [], List, ℕ, length, slice_get, Some, IfOk, OnOk, IsTrue};
-ghost use Rattle.std.specs.HashMap.{get_by_text};
-ghost use Rattle.span_token.specs.Documents.{text_in};
+ghost use Rattle.std.specs.Prelude.{◌≡◌, ◌≤◌, ◌<◌, ◌+◌, ◌↔◌, [], List, length, slice_get, Some, IfOk, OnOk, IsTrue};
 ghost use Rattle.span_token.specs.Extents.{Extent};
-ghost use Rattle.span_token.specs.SourceTokens.{nth_token};
-ghost use Rattle.dict_match.specs.Dictionaries.{folded, texts_of, AgreesWith, IsMatch};
+ghost use Rattle.dict_match.specs.Dictionaries.{texts_of, AgreesWith, IsMatch};
 ghost use Rattle.dict_match.specs.declared.dict_use.DictUse.{DictUse};
 ghost use Rattle.dict_match.specs.Tries.{Reaches, IsTrie, put_dicts};
-ghost use Rattle.dict_match.specs.Walks.{run_texts, IsSpelled, HasEndFor, HasRun, AreAhead, IsNear};
+ghost use Rattle.dict_match.specs.Walks.{run_texts, IsSpelled, HasEndFor, HasRun, AreAhead, IsKnownOrNext};
 
 use crate::ahead::{Ahead, number_at};
 use crate::numbers::number_of_folded;
@@ -50,11 +47,11 @@ fn has_run_from(
     requires trie { IsTrie trie.now }
     requires there { first < length tokens.now.tokens }
     requires numbers { AreAhead trie.now tokens.now ahead.old }
-    requires near { IsNear first ahead.old }
+    requires next { IsKnownOrNext first ahead.old }
     ensures found { (dicts : List DictUse) (the : DictUse) → Reaches trie.now (put_dicts 0 dicts) 0 [] → slice_get dicts dict ≡ Some the
         → IfOk result (λ found. IsTrue found ↔ HasRun the tokens.now first (length tokens.now.tokens)) }
     ensures numbers { OnOk result (AreAhead trie.now tokens.now ahead.new) }
-    ensures next { OnOk result (IsNear (first + 1) ahead.new) }
+    ensures next { OnOk result (IsKnownOrNext (first + 1) ahead.new) }
 {
     let mut node = 0;
     for last in first..tokens.len() {

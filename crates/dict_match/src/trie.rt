@@ -1,4 +1,4 @@
-ghost use Rattle.std.specs.Prelude.{◌≡◌, ◌↔◌, ◌<◌, ◌≤◌, ◌++◌, ◌∷◌, [], List, ℕ, length, map, Some, IfOk, OnOk, IsTrue};
+ghost use Rattle.std.specs.Prelude.{◌≡◌, ◌↔◌, ◌<◌, ◌++◌, ◌∷◌, [], List, ℕ, length, map, Some, IfOk, OnOk, IsTrue};
 ghost use Rattle.std.specs.HashMap.{get_by_text};
 ghost use Rattle.std.specs.List.{Contains};
 ghost use Rattle.dict_match.specs.Dictionaries.{folded, texts_of, entry_texts};
@@ -6,7 +6,7 @@ ghost use Rattle.dict_match.specs.declared.trie.End.{End};
 ghost use Rattle.dict_match.specs.Passes.{HaveAtMost};
 ghost use Rattle.dict_match.specs.Tries.{Reaches, IsTrie, put_entry, put_dict};
 
-use crate::dict_use::{DictUse, copied_texts};
+use crate::dict_use::DictUse;
 use crate::fold::fold_into;
 use crate::marks::{Marks, mark_of};
 use span_token::{
@@ -26,7 +26,7 @@ pub(crate) struct End {
 /// The tree of all entries' folded tokens.
 ///
 /// Each folded token that stands in some entry has a number. From a node an edge leads on for each
-/// number with which some entry goes on there; node 0 is the root. The mark of each folded token is set.
+/// number with which some entry goes on there; node 0 is the root. The mark of each folded token is among the marks.
 #[derive(Drop)]
 pub(crate) struct Trie {
     pub words: HashMap<String, usize>,

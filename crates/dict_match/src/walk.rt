@@ -4,7 +4,7 @@ ghost use Rattle.dict_match.specs.DictMatches.{matches_from, matches_among};
 ghost use Rattle.dict_match.specs.Rows.{dict_and_extent, extents_for};
 ghost use Rattle.dict_match.specs.declared.dict_use.DictUse.{DictUse};
 ghost use Rattle.dict_match.specs.Tries.{Reaches, IsTrie, put_dicts, edge_from};
-ghost use Rattle.dict_match.specs.Walks.{run_texts, IsSpelled, HasEndFor, HasOneEach, PutsWhere, Extends, AreAhead, IsNear};
+ghost use Rattle.dict_match.specs.Walks.{run_texts, IsSpelled, HasEndFor, HasOneEach, PutsWhere, Extends, AreAhead, IsKnownOrNext};
 
 use crate::ahead::{Ahead, number_at};
 use crate::trie::{End, Trie};
@@ -54,13 +54,13 @@ fn push_matches_from(
     requires trie { IsTrie trie.now }
     requires there { first < length tokens.now.tokens }
     requires numbers { AreAhead trie.now tokens.now ahead.old }
-    requires near { IsNear first ahead.old }
+    requires next { IsKnownOrNext first ahead.old }
     ensures matches { (dicts : List DictUse) (i : ℕ) (dict : DictUse) → Reaches trie.now (put_dicts 0 dicts) 0 [] → slice_get dicts i ≡ Some dict
         → OnOk result (extents_for i (map dict_and_extent into.new.items)
         ≡ extents_for i (map dict_and_extent into.old.items) ++ matches_from dict tokens.now.doc tokens.now.tokens first (length tokens.now.tokens)) }
     ensures added { (dicts : List DictUse) → Reaches trie.now (put_dicts 0 dicts) 0 [] → OnOk result (Extends (length dicts) into.old.items into.new.items) }
     ensures numbers { OnOk result (AreAhead trie.now tokens.now ahead.new) }
-    ensures next { OnOk result (IsNear (first + 1) ahead.new) }
+    ensures next { OnOk result (IsKnownOrNext (first + 1) ahead.new) }
 {
     let mut node = 0;
     for last in first..tokens.len() {

@@ -31,22 +31,22 @@ returns-then-not-may_begin-clause-run c = λ pattern finds.
     let tokens = c.args.tokens.now.tokens in
     let groups = c.args.groups.now in
     let first = c.args.first in
-    let count = c.lengths.count in
-    let admitted = c.lengths.whole.admitted.now in
-    let text = c.run_text-text.result.now in
+    let count = c.min-count.result in
+    let admitted = c.args.whole.now.admitted.now in
+    let text = c.run_text-longest.result.now in
     let rows = λ (k : ℕ). whole_row pattern doc groups (run_at tokens first k) in
-    let positive : 1 ≤ count = omega (arith, c.requires.at_least_one, c.lengths-test.true) in
-    let there : first + count ≤ length tokens = omega (arith, c.lengths.invariant.count, c.requires.there) in
-    let is : text ≡ text_in doc (run_at tokens first count) = c.run_text-text.ensures.text ∙ ap (text_in doc) (run_at-count tokens first count positive) in
+    let n : count ≡ min c.args.high (length tokens - first) = omega (arith, c.min-count.ensures, c.len.ensures.len) in
+    let positive : 1 ≤ count = omega (arith, c.requires.at_least_one, c.if-count-least.false) in
+    let there : first + count ≤ length tokens = omega (arith, n, c.requires.there) in
+    let is : text ≡ text_in doc (run_at tokens first count) = c.run_text-longest.ensures.text ∙ ap (text_in doc) (run_at-count tokens first count positive) in
     let bytes : AreBytes (text_in doc (run_at tokens first count)) = subst AreBytes is c.may_begin.ensures.bytes in
     let lost : Begins admitted.firsts true (text_in doc (run_at tokens first count)) → ⊥ = λ begins. c.may_begin.ensures.lost c.if-not-may_begin.true (subst (Begins admitted.firsts true) (sym is) begins) in
-    let admits = (FindsWhole-same _ _ pattern c.lengths.invariant.same finds).admits in
     let none : longest_row rows c.args.low (min c.args.high (length tokens - first) + 1 - c.args.low) ≡ None =
-    sym (c.lengths.invariant.left pattern finds).1
+    ap (λ (k : ℕ). longest_row rows c.args.low (k + 1 - c.args.low)) (sym n)
     ∙ longest-none rows c.args.low (count + 1 - c.args.low) (λ k le lt.
-    none-begins pattern doc tokens admitted admits c.len.ensures.order first count there bytes lost groups k (omega (arith, c.requires.at_least_one, le)) (omega (arith, lt, c.lengths-test.true))) in (
+    none-begins pattern doc tokens admitted finds.admits c.len.ensures.order first count there bytes lost groups k (omega (arith, c.requires.at_least_one, le)) (omega (arith, lt, c.if-count-least.false))) in (
       sym (ap is_some none),
-      (c.lengths.invariant.left pattern finds).0 ∙ sym (append-nil _) ∙ ap (λ o. extents_of c.args.into.now.items ++ unwrap_or o []) (sym none),
+      sym (append-nil _) ∙ ap (λ o. extents_of c.args.into.now.items ++ unwrap_or o []) (sym none),
     )
 
 pub returns-then-branch-clause-run : goal.returns-then-branch-clause-run

@@ -2,14 +2,14 @@ use Rattle.std.proofs.Common.{◌≡◌, ℕ, inl, inr, true, false, length, ref
 use Rattle.std.proofs.lemmas.Bool.{cases_lt}
 use Rattle.dict_match.specs.Walks.{HasRun}
 use Rattle.dict_match.proofs.StepLemmas.{run-match, match-run}
-use Rattle.dict_match.proofs.WalkLemmas.{no-numbers, near-none}
+use Rattle.dict_match.proofs.WalkLemmas.{no-numbers, next-none}
 use Rattle.dict_match.proofs.probe.has_run.Goals as goal
 
 pub loop-first-init : goal.loop-first-init
 loop-first-init c = record {
   none = λ dicts the made at k lt run. absurd (omega (arith, lt));
   numbers = no-numbers c.args.trie.now c.args.tokens.now c.restart.new.self c.restart.ensures.none;
-  near = near-none c.restart.new.self c.restart.ensures.begin;
+  next = next-none c.restart.new.self c.restart.ensures.begin;
 }
 
 pub returns-then-branch : goal.returns-then-branch
@@ -31,7 +31,7 @@ loop-first-preserved c =
             let no : c.in_ok-has_run_from.field-0 ≡ false = c.if-branch.false in cc
       ];
       numbers = c.in_ok-has_run_from.ensures.numbers;
-      near = c.in_ok-has_run_from.ensures.next;
+      next = c.in_ok-has_run_from.ensures.next;
     }
 
 pub returns : goal.returns

@@ -14,8 +14,8 @@ loop-last-init c = record {
   reached = λ put made. subst (λ (p : List (List ℕ)). Reaches c.args.trie.now put 0 p) (sym (keys-none c.args.tokens.now c.args.first)) made;
   none = λ dicts the made at run. let le = run.from in let lt = run.before in absurd (omega (arith, le, lt));
   numbers = c.requires.numbers;
-  begun = c.requires.near.«from»;
-  next = c.requires.near.to;
+  begun = c.requires.next.«from»;
+  next = c.requires.next.to;
 }
 
 pub returns-in_default-clause-found : goal.returns-in_default-clause-found

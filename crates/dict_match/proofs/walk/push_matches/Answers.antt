@@ -6,7 +6,7 @@ use Rattle.dict_match.specs.DictMatches.{matches_from}
 use Rattle.dict_match.specs.Rows.{dict_and_extent, extents_for}
 use Rattle.dict_match.specs.LawProofs.MatchLaws.{among-more, among-all}
 use Rattle.dict_match.proofs.RowLemmas.{extends-none, extends-more}
-use Rattle.dict_match.proofs.WalkLemmas.{no-numbers, near-none}
+use Rattle.dict_match.proofs.WalkLemmas.{no-numbers, next-none}
 use Rattle.dict_match.proofs.walk.push_matches.Goals as goal
 
 pub loop-first-init : goal.loop-first-init
@@ -14,7 +14,7 @@ loop-first-init c = record {
   matches = λ dicts i dict made at. sym (append-nil (extents_for i (map dict_and_extent c.args.into.now.items)));
   added = λ dicts made. extends-none (length dicts) c.args.into.now.items;
   numbers = no-numbers c.args.trie.now c.args.tokens.now c.restart.new.self c.restart.ensures.none;
-  near = near-none c.restart.new.self c.restart.ensures.begin;
+  next = next-none c.restart.new.self c.restart.ensures.begin;
 }
 
 pub loop-first-preserved : goal.loop-first-preserved
@@ -32,7 +32,7 @@ loop-first-preserved c =
       added = λ dicts made.
           extends-more (length dicts) c.args.into.now.items c.loop-first.into.items c.push_matches_from.new.into.items (c.loop-first.invariant.added dicts made) (c.in_ok-push_matches_from.ensures.added dicts made);
       numbers = c.in_ok-push_matches_from.ensures.numbers;
-      near = c.in_ok-push_matches_from.ensures.next;
+      next = c.in_ok-push_matches_from.ensures.next;
     }
 
 pub returns-clause-matches : goal.returns-clause-matches

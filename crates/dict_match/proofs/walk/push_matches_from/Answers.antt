@@ -26,8 +26,8 @@ loop-last-init c =
           sym (ap (λ (es : List Extent). front ++ es) (matches_from-none dict tokens.doc tokens.tokens first) ∙ append-nil front);
       added = λ dicts made. extends-none (length dicts) c.args.into.now.items;
       numbers = c.requires.numbers;
-      begun = c.requires.near.«from»;
-      next = c.requires.near.to;
+      begun = c.requires.next.«from»;
+      next = c.requires.next.to;
     }
 
 pub returns-in_default-clause-matches : goal.returns-in_default-clause-matches

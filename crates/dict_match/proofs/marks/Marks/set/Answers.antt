@@ -2,7 +2,7 @@ use Rattle.std.proofs.Common.{◌≡◌, ◌∙◌, ◌<◌, ℕ, List, length, 
 use Rattle.std.proofs.Math.ListN.{set}
 use Rattle.std.proofs.lemmas.List.{get_or_default}
 use Rattle.std.proofs.lemmas.Nat.{mod_below, one_shl}
-use Rattle.dict_match.specs.Marks.{IsSet}
+use Rattle.dict_match.specs.Marks.{HasMark}
 use Rattle.dict_match.proofs.MarkLemmas.{set-itself, set-kept}
 use Rattle.dict_match.proofs.marks.Marks.set.Goals as goal
 
@@ -16,11 +16,11 @@ returns-clause-set c =
     let bytes = c.self.inside.bytes.items in
     let mark = c.args.mark in
     let there : mark / 8 < length bytes = omega (arith, c.requires.below, c.self.invariant) in
-    subst (λ (bs : List ℕ). IsSet bs mark) (written bytes mark c.index-byte.result.now there c.index-byte.ensures) (set-itself bytes mark there)
+    subst (λ (bs : List ℕ). HasMark bs mark) (written bytes mark c.index-byte.result.now there c.index-byte.ensures) (set-itself bytes mark there)
 
 pub returns-clause-kept : goal.returns-clause-kept
 returns-clause-kept c = λ other is.
     let bytes = c.self.inside.bytes.items in
     let mark = c.args.mark in
     let there : mark / 8 < length bytes = omega (arith, c.requires.below, c.self.invariant) in
-    subst (λ (bs : List ℕ). IsSet bs other) (written bytes mark c.index-byte.result.now there c.index-byte.ensures) (set-kept bytes mark there other (subst (λ (bs : List ℕ). IsSet bs other) (sym c.self.view_is) is))
+    subst (λ (bs : List ℕ). HasMark bs other) (written bytes mark c.index-byte.result.now there c.index-byte.ensures) (set-kept bytes mark there other (subst (λ (bs : List ℕ). HasMark bs other) (sym c.self.view_is) is))

@@ -4,7 +4,7 @@ use Rattle.std.specs.HashMap.{get_by_text, hash_map_len}
 use Rattle.std.specs.Map.{update}
 use Rattle.std.specs.Str.{bytes_eq}
 use Rattle.dict_match.specs.declared.trie.Trie.{Trie}
-use Rattle.dict_match.specs.Marks.{IsSet}
+use Rattle.dict_match.specs.Marks.{HasMark}
 use Rattle.dict_match.proofs.TrieLemmas.{AddsWord, Reaches-word}
 use Rattle.dict_match.proofs.trie.Trie.number.Goals as goal
 
@@ -21,7 +21,7 @@ returns-clause-kept c = λ put node path r.
           ∙ ap (λ (o : Option ℕ). hash_map_len old.words + (if is_some o then 0 else 1)) (c.in_ok-insert.ensures.old ∙ ap (get_by_text old.words) c.in_ok-from_str.ensures.ok ∙ none);
       edges = refl;
       ends = refl;
-      set_is = subst (IsSet new.marks) c.mark_of.ensures.mark c.set.ensures.set;
+      set_is = subst (HasMark new.marks) c.mark_of.ensures.mark c.set.ensures.set;
       marks = c.set.ensures.kept;
     } in
     Reaches-word old new c.args.text.now put node path adds r
