@@ -1,4 +1,4 @@
-ghost use Rattle.std.specs.Prelude.{◌≡◌, ◌<◌, ◌+◌, [], length, IfOk, OnOk};
+ghost use Rattle.std.specs.Prelude.{◌≡◌, ◌<◌, ◌≤◌, ◌+◌, [], length, IfOk, OnOk};
 ghost use Rattle.std.specs.HashMap.{get_by_text};
 ghost use Rattle.span_token.specs.Documents.{text_in};
 ghost use Rattle.span_token.specs.SourceTokens.{SomeTokens, nth_token};
@@ -44,7 +44,7 @@ impl Ahead {
     /// Has a walk from token `first` on begin: all numbers are forgotten where that one stands behind their tokens.
     #[inline(always)]
     pub(crate) fn go_to(&mut self, first: usize)
-        requires next { IsKnownOrNext first self.old }
+        requires begin { self.old.begin ≤ first }
         ensures next { IsKnownOrNext first self.new }
         ensures numbers { (trie : DeclaredTrie) (tokens : SomeTokens) → AreAhead trie tokens self.old → AreAhead trie tokens self.new }
     {

@@ -1,4 +1,4 @@
-ghost use Rattle.std.specs.Prelude.{◌≡◌, IfOk};
+ghost use Rattle.std.specs.Prelude.{◌≡◌, IfOk, None, IsFalse};
 ghost use Rattle.std.specs.HashMap.{get_by_text};
 ghost use Rattle.dict_match.specs.Dictionaries.{folded};
 ghost use Rattle.dict_match.specs.Tries.{IsTrie};
@@ -27,6 +27,20 @@ pub(crate) fn number_of_folded(
         }
     }
     number_by_words(trie, text, buffer)
+}
+
+/// Whether some entry may have a token with this text: most that none has are told by their mark.
+#[inline(always)]
+pub(crate) fn may_be_word(trie: &Trie, text: &str) -> bool
+    requires trie { IsTrie trie.now }
+    ensures { IsFalse result → get_by_text trie.now.words (folded text.now) ≡ None }
+{
+    if let Some(mark) = mark_where_ascii(text) {
+        if !trie.marks.has(mark) {
+            return false;
+        }
+    }
+    true
 }
 
 /// The same by a look at the words.

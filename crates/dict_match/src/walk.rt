@@ -7,6 +7,7 @@ ghost use Rattle.dict_match.specs.Tries.{Reaches, IsTrie, put_dicts, edge_from};
 ghost use Rattle.dict_match.specs.Walks.{run_texts, IsSpelled, HasEndFor, HasOneEach, PutsWhere, Extends, AreAhead, IsKnownOrNext};
 
 use crate::ahead::{Ahead, number_at};
+use crate::numbers::may_be_word;
 use crate::trie::{End, Trie};
 use span_token::{OutOfMemory, OwnedText, SourceTokens, Span};
 
@@ -35,6 +36,9 @@ pub(crate) fn push_matches(
 {
     ahead.restart();
     for first in 0..tokens.len() {
+        if !may_be_word(trie, tokens.text(first)) {
+            continue;
+        }
         ahead.go_to(first);
         push_matches_from(trie, tokens, first, buffer, ahead, into)?;
     }

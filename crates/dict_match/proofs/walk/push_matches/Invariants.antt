@@ -1,10 +1,10 @@
-use Rattle.std.proofs.Common.{◌≡◌, ℕ, List, [], ◌++◌, map, length, slice_get, Some}
+use Rattle.std.proofs.Common.{◌≡◌, ◌≤◌, ℕ, List, [], ◌++◌, map, length, slice_get, Some}
 use Rattle.std.specs.List.{flat_map, range_with_len}
 use Rattle.dict_match.specs.declared.dict_use.DictUse.{DictUse}
 use Rattle.dict_match.specs.DictMatches.{matches_from}
 use Rattle.dict_match.specs.Rows.{dict_and_extent, extents_for}
 use Rattle.dict_match.specs.Tries.{Reaches, put_dicts}
-use Rattle.dict_match.specs.Walks.{Extends, AreAhead, IsKnownOrNext}
+use Rattle.dict_match.specs.Walks.{Extends, AreAhead}
 use Rattle.dict_match.proofs.walk.push_matches.Given as goal
 
 abbrev pub invariant-loop-first : goal.invariant-loop-first
@@ -14,5 +14,5 @@ invariant-loop-first l = record {
       ≡ extents_for i (map dict_and_extent l.fn.into.items) ++ flat_map (λ first. matches_from dict l.tokens.doc l.tokens.tokens first (length l.tokens.tokens)) (range_with_len 0 l.first);
   added : (dicts : List DictUse) → Reaches l.trie (put_dicts 0 dicts) 0 [] → Extends (length dicts) l.fn.into.items l.into.items;
   numbers : AreAhead l.trie l.tokens l.ahead;
-  next : IsKnownOrNext l.first l.ahead;
+  begun : l.ahead.begin ≤ l.first;
 }
