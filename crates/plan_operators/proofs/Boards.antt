@@ -27,7 +27,8 @@ use Rattle.algebra.specs.OperatorLaws.{op-SameBag}
 use Rattle.algebra.specs.Operators.{op}
 use Rattle.algebra.specs.Shapes.{no_shape, shapes_of, shape_by}
 use Rattle.algebra.specs.Values.{all_values, val}
-use Rattle.plan_operators.specs.Boards.{IsOf, Holds, HasAsked, IsBoard, IsEmptyInput, IsEmptyOn, IsInput, IsOnBoard, IsRightInput, IsSpared, IsTaken, IsThere, input_on, rows_found, rows_or_none}
+use Rattle.plan_operators.specs.Boards.{IsOf, Holds, IsBoardOf}
+use Rattle.plan_operators.specs.Filling.{HasAsked, IsEmptyInput, IsEmptyOn, IsInput, IsRightInput, IsSpared, IsGivenUp, IsThere, input_on, rows_found, rows_or_none}
 use Rattle.plan_operators.specs.Given.{MayRead}
 
 none_of : (xs : Rows) → length xs ≡ 0 → xs ≡ []
@@ -50,15 +51,11 @@ module _ (lists : Lists) (doc : Doc) (nodes : List Node) where
   fits i None h = (refl, All-nil (All (IsOfDocument doc)))
   fits i (Some list) h = (h.wide, h.lies)
 
-  module _ (board : List (Option RowList)) (has : IsBoard lists doc nodes board) where
-    -- an input that is there is on the board
-    pub on_board : (o : Option ℕ) → IsAmong (length board) o → IsThere board o → IsOnBoard lists doc nodes board o
-    on_board None among present = record { among = tt; present = tt; has = record { same = SameBag-refl []; wide = refl; lies = All-nil (All (IsOfDocument doc)) } }
-    on_board (Some i) among present = record {
-      among = among;
-      present = present;
-      has = held i (width_of i) (slice_index_or board i None) present (has.each i among);
-    }
+  module _ (board : List (Option RowList)) (has : IsBoardOf lists doc nodes board) where
+    -- an input that is there has its rows on the board
+    pub on_board : (o : Option ℕ) → IsAmong (length board) o → IsThere board o → IsInput lists doc nodes o (input_on nodes board o)
+    on_board None among present = record { same = SameBag-refl []; wide = refl; lies = All-nil (All (IsOfDocument doc)) }
+    on_board (Some i) among present = held i (width_of i) (slice_index_or board i None) present (has.each i among)
 
     -- where an input has no row on the board it is worth none
     pub empty_none : (o : Option ℕ) → IsEmptyInput board o → of_input [] (all_values lists doc nodes) o ≡ []
@@ -83,14 +80,14 @@ module _ (lists : Lists) (doc : Doc) (nodes : List Node) where
     -- the right input of a node that is asked for is there
     pub right_there : (node : Node) → IsAmong (length board) (right_input node) → HasAsked board node → IsRightInput lists doc nodes node (input_on nodes board (right_input node))
     right_there node among asked =
-        ⊎_elim (λ (present : IsThere board (right_input node)). inl (on_board (right_input node) among present).has)
+        ⊎_elim (λ (present : IsThere board (right_input node)). inl (on_board (right_input node) among present))
         (λ (spared : (is_conditional node ≡ true) × IsEmptyInput board (left_input node)).
         let fitting = fit (right_input node) among in
         inr (record { conditional = spared.0; none = empty_none (left_input node) spared.1; wide = fitting.0; lies = fitting.1 }))
         asked.right
 
     -- rows that were taken off it are those of their input
-    pub taken_is : (input other_input : Option ℕ) (rows : RowList) → IsAmong (length board) input → IsTaken input other_input rows board → IsInput lists doc nodes input rows
+    pub taken_is : (input other_input : Option ℕ) (rows : RowList) → IsAmong (length board) input → IsGivenUp input other_input rows board → IsInput lists doc nodes input rows
     taken_is input other_input rows among taken =
         let below : taken.place < length board = subst (IsAmong (length board)) taken.is_input among in
         let is : IsOf lists doc nodes taken.place rows = subst (λ (o : Option RowList). IfSome o (IsOf lists doc nodes taken.place)) taken.rows_are (has.each taken.place below) in
@@ -103,15 +100,15 @@ module _ (lists : Lists) (doc : Doc) (nodes : List Node) where
 
   -- a board that gives up rows of one input, and then of the other
   module _ (old mid new : List (Option RowList)) (left right : Option ℕ) (of_left of_right : Option RowList)
-      (left_given : IfSome of_left (λ rows. IsTaken left right rows old)) (left_none : IfNone of_left ((m : ℕ) → slice_index_or mid m None ≡ slice_index_or old m None))
+      (left_given : IfSome of_left (λ rows. IsGivenUp left right rows old)) (left_none : IfNone of_left ((m : ℕ) → slice_index_or mid m None ≡ slice_index_or old m None))
       (left_others : (m : ℕ) → (left ≡ Some m → ⊥) → slice_index_or mid m None ≡ slice_index_or old m None)
-      (right_given : IfSome of_right (λ rows. IsTaken right left rows mid)) (right_none : IfNone of_right ((m : ℕ) → slice_index_or new m None ≡ slice_index_or mid m None))
+      (right_given : IfSome of_right (λ rows. IsGivenUp right left rows mid)) (right_none : IfNone of_right ((m : ℕ) → slice_index_or new m None ≡ slice_index_or mid m None))
       (right_others : (m : ℕ) → (right ≡ Some m → ⊥) → slice_index_or new m None ≡ slice_index_or mid m None) where
     -- the right one stands as it stood when the left one was given up
     right_at_first : (m : ℕ) → right ≡ Some m → slice_index_or mid m None ≡ slice_index_or old m None
     right_at_first m is = by of_left left_given left_none
       where
-        by : (o : Option RowList) → IfSome o (λ rows. IsTaken left right rows old) → IfNone o ((k : ℕ) → slice_index_or mid k None ≡ slice_index_or old k None) → slice_index_or mid m None ≡ slice_index_or old m None
+        by : (o : Option RowList) → IfSome o (λ rows. IsGivenUp left right rows old) → IfNone o ((k : ℕ) → slice_index_or mid k None ≡ slice_index_or old k None) → slice_index_or mid m None ≡ slice_index_or old m None
         by None given none = none m
         by (Some rows) given none = left_others m (λ other. given.other (is ∙ sym other))
 
@@ -119,25 +116,25 @@ module _ (lists : Lists) (doc : Doc) (nodes : List Node) where
     left_at_last : (m : ℕ) → left ≡ Some m → slice_index_or new m None ≡ slice_index_or mid m None
     left_at_last m is = by of_right right_given right_none
       where
-        by : (o : Option RowList) → IfSome o (λ rows. IsTaken right left rows mid) → IfNone o ((k : ℕ) → slice_index_or new k None ≡ slice_index_or mid k None) → slice_index_or new m None ≡ slice_index_or mid m None
+        by : (o : Option RowList) → IfSome o (λ rows. IsGivenUp right left rows mid) → IfNone o ((k : ℕ) → slice_index_or new k None ≡ slice_index_or mid k None) → slice_index_or new m None ≡ slice_index_or mid m None
         by None given none = none m
         by (Some rows) given none = right_others m (λ other. given.other (is ∙ sym other))
 
-    module _ (has : IsBoard lists doc nodes old) where
+    module _ (has : IsBoardOf lists doc nodes old) where
       -- what is found of the left input is what it has
       pub left_found : IsAmong (length old) left → IsThere old left → IsInput lists doc nodes left (rows_found nodes new left of_left)
       left_found among present = by of_left left_given left_none
         where
-          by : (o : Option RowList) → IfSome o (λ rows. IsTaken left right rows old) → IfNone o ((k : ℕ) → slice_index_or mid k None ≡ slice_index_or old k None) → IsInput lists doc nodes left (rows_found nodes new left o)
+          by : (o : Option RowList) → IfSome o (λ rows. IsGivenUp left right rows old) → IfNone o ((k : ℕ) → slice_index_or mid k None ≡ slice_index_or old k None) → IsInput lists doc nodes left (rows_found nodes new left o)
           by None given none =
-              subst (IsInput lists doc nodes left) (sym (same_input old new left (λ m is. left_at_last m is ∙ none m))) (on_board old has left among present).has
+              subst (IsInput lists doc nodes left) (sym (same_input old new left (λ m is. left_at_last m is ∙ none m))) (on_board old has left among present)
           by (Some rows) given none = taken_is old has left right rows among given
 
       -- and of the right one, or that isn't asked for
       pub right_found : (node : Node) → right ≡ right_input node → IsAmong (length old) right → HasAsked old node → IsRightInput lists doc nodes node (rows_found nodes new right of_right)
       right_found node is among asked = by of_right right_given right_none
         where
-          by : (o : Option RowList) → IfSome o (λ rows. IsTaken right left rows mid) → IfNone o ((k : ℕ) → slice_index_or new k None ≡ slice_index_or mid k None) → IsRightInput lists doc nodes node (rows_found nodes new right o)
+          by : (o : Option RowList) → IfSome o (λ rows. IsGivenUp right left rows mid) → IfNone o ((k : ℕ) → slice_index_or new k None ≡ slice_index_or mid k None) → IsRightInput lists doc nodes node (rows_found nodes new right o)
           by None given none =
               subst (IsRightInput lists doc nodes node)
               (ap (input_on nodes old) (sym is) ∙ sym (same_input old new right (λ m at. none m ∙ right_at_first m at)))
@@ -243,7 +240,7 @@ held-there lists doc nodes n None some is = absurd (true≢false (sym some))
 held-there lists doc nodes n (Some list) some is = is
 
 -- those of outputs hold what their nodes have
-pub all-held : (lists : Lists) (doc : Doc) (nodes : List Node) (board : List (Option RowList)) (shown : List PlanOut) → IsBoard lists doc nodes board → All (λ (out : PlanOut). out.node < length board) shown
+pub all-held : (lists : Lists) (doc : Doc) (nodes : List Node) (board : List (Option RowList)) (shown : List PlanOut) → IsBoardOf lists doc nodes board → All (λ (out : PlanOut). out.node < length board) shown
     → All (λ (out : PlanOut). IsSome (slice_index_or board out.node None)) shown → All (λ (out : PlanOut). Holds lists doc nodes out.node (slice_index_or board out.node None)) shown
 all-held lists doc nodes board shown has there some = λ k d below.
     let n : ℕ = (slice_index_or shown k d).node in

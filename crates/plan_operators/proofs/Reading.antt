@@ -7,29 +7,29 @@ use Rattle.std.proofs.lemmas.Option.{none-some, same_Some, slice_get-get_or}
 use Rattle.row_values.specs.Rows.{RowList}
 use Rattle.algebra.specs.declared.node.Node.{Node}
 use Rattle.algebra.specs.Inputs.{left_input, right_input, IsAmong}
-use Rattle.plan_operators.specs.Readers.{does_wait, number_of_readers, reads, reads_by, times}
+use Rattle.plan_operators.specs.Readers.{does_wait, number_of_readers, reads, reads_by, reads_through}
 
 -- ---- how often an input is a node
 
-pub times-itself : (o : Option ℕ) (i : ℕ) → o ≡ Some i → times o i ≡ 1
-times-itself None i e = absurd (none-some i e)
-times-itself (Some k) i e = ap (λ (b : Bool). cond b 1 0) (eq-eqb k i (same_Some k i e))
+pub through-itself : (o : Option ℕ) (i : ℕ) → o ≡ Some i → reads_through o i ≡ 1
+through-itself None i e = absurd (none-some i e)
+through-itself (Some k) i e = ap (λ (b : Bool). cond b 1 0) (eq-eqb k i (same_Some k i e))
 
-pub times-other : (o : Option ℕ) (i : ℕ) → (o ≡ Some i → ⊥) → times o i ≡ 0
-times-other None i apart = refl
-times-other (Some k) i apart = ap (λ (b : Bool). cond b 1 0) (ne_eqb k i (λ e. apart (ap (λ (n : ℕ). Some n) e)))
+pub through-other : (o : Option ℕ) (i : ℕ) → (o ≡ Some i → ⊥) → reads_through o i ≡ 0
+through-other None i apart = refl
+through-other (Some k) i apart = ap (λ (b : Bool). cond b 1 0) (ne_eqb k i (λ e. apart (ap (λ (n : ℕ). Some n) e)))
 
 once : (b : Bool) → cond b 1 0 ≤ 1
 once true = omega arith
 once false = omega arith
 
-pub times-most : (o : Option ℕ) (i : ℕ) → times o i ≤ 1
-times-most None i = omega arith
-times-most (Some k) i = once (k == i)
+pub through-most : (o : Option ℕ) (i : ℕ) → reads_through o i ≤ 1
+through-most None i = omega arith
+through-most (Some k) i = once (k == i)
 
-pub times-above : (o : Option ℕ) (n i : ℕ) → IsAmong n o → n ≤ i → times o i ≡ 0
-times-above None n i among above = refl
-times-above (Some k) n i among above = times-other (Some k) i (λ e. let same = same_Some k i e in omega (arith, among, above, same))
+pub through-above : (o : Option ℕ) (n i : ℕ) → IsAmong n o → n ≤ i → reads_through o i ≡ 0
+through-above None n i among above = refl
+through-above (Some k) n i among above = through-other (Some k) i (λ e. let same = same_Some k i e in omega (arith, among, above, same))
 
 -- ---- how often a node reads another one
 
@@ -43,20 +43,20 @@ among-more None n m among fewer = tt
 among-more (Some i) n m among fewer = omega (arith, among, fewer)
 
 module _ (nodes : List Node) (k : ℕ) (node : Node) (at : slice_get nodes k ≡ Some node) (i : ℕ) where
-  pub reads-both : reads_by nodes k i ≡ times (left_input node) i + times (right_input node) i
+  pub reads-both : reads_by nodes k i ≡ reads_through (left_input node) i + reads_through (right_input node) i
   reads-both = ap (λ (o : Option Node). reads o i) at
 
   pub reads-left : left_input node ≡ Some i → 0 < reads_by nodes k i
-  reads-left e = omega (arith, reads-both, times-itself (left_input node) i e)
+  reads-left e = omega (arith, reads-both, through-itself (left_input node) i e)
 
   pub reads-right : right_input node ≡ Some i → 0 < reads_by nodes k i
-  reads-right e = omega (arith, reads-both, times-itself (right_input node) i e)
+  reads-right e = omega (arith, reads-both, through-itself (right_input node) i e)
 
   pub reads-most : reads_by nodes k i ≤ 2
-  reads-most = omega (arith, reads-both, times-most (left_input node) i, times-most (right_input node) i)
+  reads-most = omega (arith, reads-both, through-most (left_input node) i, through-most (right_input node) i)
 
   pub reads-above : IsAmong k (left_input node) → IsAmong k (right_input node) → k ≤ i → reads_by nodes k i ≡ 0
-  reads-above left right above = omega (arith, reads-both, times-above (left_input node) k i left above, times-above (right_input node) k i right above)
+  reads-above left right above = omega (arith, reads-both, through-above (left_input node) k i left above, through-above (right_input node) k i right above)
 
 -- ---- which wait
 

@@ -19,7 +19,7 @@ use Rattle.algebra.specs.declared.node.Local.{Local}
 use Rattle.algebra.specs.Operators.{sought_by}
 use Rattle.algebra.specs.Shapes.{IsSought}
 use Rattle.plan_operators.specs.declared.stretches.Stretch.{Stretch}
-use Rattle.plan_operators.specs.Neighbourhoods.{IsIn, IsInSome, DoRise, stretch_at, IsReach, BeginIn, PutsStretch, found_from, rows_from, rows_between}
+use Rattle.plan_operators.specs.Neighbourhoods.{IsIn, IsInSome, FirstsRise, stretch_at, IsReach, BeginIn, PutsStretch, found_from, rows_from, rows_between}
 use Rattle.plan_operators.proofs.Found.{found-by_token}
 use Rattle.plan_operators.proofs.Numbers.{each-map, filter-none, flat_map-shift, flat_map-split, map-flat_map}
 use Rattle.plan_operators.proofs.Reached.{IsFoundNear, found-near, found-limit}
@@ -170,7 +170,7 @@ module _ (lists : Lists) (doc : Doc) (local : Local) (row : List Datum) where
     abbrev pub ArePassed : ℕ → ℕ → ℕ → Type 0
     ArePassed number past done = (n : ℕ) → n < number → min (stretch_at stretches n).past past ≤ done
 
-    module _ (past first : ℕ) (there : past ≤ length (tokens_of (characters doc))) (rise : DoRise stretches) where
+    module _ (past first : ℕ) (there : past ≤ length (tokens_of (characters doc))) (rise : FirstsRise stretches) where
       -- tokens from those that are passed to the next stretch are in none
       between-stretches : (number from begin : ℕ) → number < length stretches → ArePassed number past from → begin ≤ max from (stretch_at stretches number).first → begin ≤ past
           → (k : ℕ) → from ≤ k → k < begin → IsInSome stretches k → ⊥

@@ -12,7 +12,7 @@ use Rattle.algebra.specs.declared.output.PlanOut.{PlanOut}
 use Rattle.algebra.specs.Needed as needs
 use Rattle.algebra.specs.Needed.{Asks, IsNeeded}
 use Rattle.algebra.specs.Plans.{Parts, AreOutputs}
-use Rattle.plan_operators.specs.Readers.{does_wait, number_of_readers, reads_by, total, waits, is_read_from, IsCounted, IsCountedFrom, IsScheduled}
+use Rattle.plan_operators.specs.Readers.{does_wait, number_of_readers, reads_by, total, waits, is_read_from, AreCounted, AreCountedFrom, IsScheduled}
 use Rattle.plan_operators.proofs.Boards.{outputs-there}
 use Rattle.plan_operators.proofs.Reading.{reads-left, reads-right, wait-from, wait-parts}
 use Rattle.plan_operators.proofs.Totals.{total-fewer, total-more, total-none, total-one}
@@ -30,7 +30,7 @@ module _ (readers : List ℕ) where
 
 module _ (nodes : List Node) (outs : List ℕ) where
   -- no node stands behind all others
-  pub counted-none : (readers : List ℕ) → All (λ (n : ℕ). number_of_readers readers n ≡ 1) outs → IsCountedFrom (length nodes) nodes outs readers
+  pub counted-none : (readers : List ℕ) → All (λ (n : ℕ). number_of_readers readers n ≡ 1) outs → AreCountedFrom (length nodes) nodes outs readers
   counted-none readers shown =
       let none : (i : ℕ) → total (is_read_from (length nodes) readers) (λ k. reads_by nodes k i) (length nodes) ≡ 0 = λ i.
       total-none (λ k. reads_by nodes k i) (is_read_from (length nodes) readers) (length nodes)
@@ -40,9 +40,9 @@ module _ (nodes : List Node) (outs : List ℕ) where
         shown = λ i listed. omega (arith, none i, All-contains (λ (n : ℕ). number_of_readers readers n ≡ 1) outs i shown listed);
       }
 
-  module _ (n : ℕ) (old : List ℕ) (was : IsCountedFrom (n + 1) nodes outs old) where
+  module _ (n : ℕ) (old : List ℕ) (was : AreCountedFrom (n + 1) nodes outs old) where
     -- a node that nobody reads
-    pub counted-unread : number_of_readers old n ≡ 0 → IsCountedFrom n nodes outs old
+    pub counted-unread : number_of_readers old n ≡ 0 → AreCountedFrom n nodes outs old
     counted-unread none =
         let same : (i : ℕ) → total (is_read_from n old) (λ k. reads_by nodes k i) (length nodes) ≤ total (is_read_from (n + 1) old) (λ k. reads_by nodes k i) (length nodes) = λ i.
         total-fewer (λ k. reads_by nodes k i) (is_read_from n old) (is_read_from (n + 1) old) (length nodes)
@@ -56,7 +56,7 @@ module _ (nodes : List Node) (outs : List ℕ) where
         }
 
     -- a node whose inputs are counted
-    pub counted-read : (new : List ℕ) → ((k : ℕ) → number_of_readers new k ≡ number_of_readers old k + reads_by nodes n k) → ((k : ℕ) → n ≤ k → reads_by nodes n k ≡ 0) → IsCountedFrom n nodes outs new
+    pub counted-read : (new : List ℕ) → ((k : ℕ) → number_of_readers new k ≡ number_of_readers old k + reads_by nodes n k) → ((k : ℕ) → n ≤ k → reads_by nodes n k ≡ 0) → AreCountedFrom n nodes outs new
     counted-read new more below =
         let grown : (i : ℕ) → total (is_read_from n new) (λ k. reads_by nodes k i) (length nodes) ≤ total (is_read_from (n + 1) old) (λ k. reads_by nodes k i) (length nodes) + reads_by nodes n i = λ i.
         total-more (λ k. reads_by nodes k i) (is_read_from (n + 1) old) (is_read_from n new) n (length nodes)
@@ -72,9 +72,9 @@ module _ (nodes : List Node) (outs : List ℕ) where
           shown = λ i listed. omega (arith, grown i, more i, was.shown i listed);
         }
 
-  module _ (readers : List ℕ) (counted : IsCountedFrom 0 nodes outs readers) where
+  module _ (readers : List ℕ) (counted : AreCountedFrom 0 nodes outs readers) where
     -- on a board without rows those nodes wait that are read
-    pub counted-empty : (board : List (Option RowList)) → ((n : ℕ) → slice_index_or board n None ≡ None) → IsCounted nodes outs (waits board readers) readers
+    pub counted-empty : (board : List (Option RowList)) → ((n : ℕ) → slice_index_or board n None ≡ None) → AreCounted nodes outs (waits board readers) readers
     counted-empty board none =
         let same : (i : ℕ) → total (waits board readers) (λ k. reads_by nodes k i) (length nodes) ≤ total (is_read_from 0 readers) (λ k. reads_by nodes k i) (length nodes) = λ i.
         total-fewer (λ k. reads_by nodes k i) (waits board readers) (is_read_from 0 readers) (length nodes)
@@ -102,10 +102,10 @@ module _ (nodes : List Node) (outs : List ℕ) where
 
 -- the readers that are counted of these nodes and outputs are those of the plan
 pub scheduled : (plan : Parts) (nodes : List Node) (outs : List PlanOut) (readers : List ℕ) → nodes ≡ plan.nodes → outs ≡ plan.outputs → AreOutputs plan.nodes plan.outputs → length readers ≡ length nodes
-    → IsCountedFrom 0 nodes (map (λ (out : PlanOut). out.node) outs) readers → IsScheduled plan readers
+    → AreCountedFrom 0 nodes (map (λ (out : PlanOut). out.node) outs) readers → IsScheduled plan readers
 scheduled plan nodes outs readers same_nodes same_outs valid long counted = record {
   long = long ∙ ap (λ (ns : List Node). length ns) same_nodes;
   there = outputs-there plan.nodes plan.outputs valid;
-  counted = subst (λ (ns : List Node). IsCountedFrom 0 ns (map (λ (out : PlanOut). out.node) plan.outputs) readers) same_nodes
-      (subst (λ (os : List PlanOut). IsCountedFrom 0 nodes (map (λ (out : PlanOut). out.node) os) readers) same_outs counted);
+  counted = subst (λ (ns : List Node). AreCountedFrom 0 ns (map (λ (out : PlanOut). out.node) plan.outputs) readers) same_nodes
+      (subst (λ (os : List PlanOut). AreCountedFrom 0 nodes (map (λ (out : PlanOut). out.node) os) readers) same_outs counted);
 }

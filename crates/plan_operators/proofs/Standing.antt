@@ -10,8 +10,9 @@ use Rattle.algebra.specs.declared.node.Node.{Node}
 use Rattle.algebra.specs.Inputs.{left_input, right_input, is_conditional, IsAmong}
 use Rattle.algebra.specs.Needed as needs
 use Rattle.algebra.specs.Plans.{Parts}
-use Rattle.plan_operators.specs.Boards.{IsAskedFor, IsEmptyInput, IsFilled, IsMissing, IsNeededOn, IsOf, IsPassedOn, IsSource, IsStanding, IsTakenOff, IsThere, shown_by}
-use Rattle.plan_operators.specs.Readers.{number_of_readers, number_waiting, reads_by, total, waits, IsCountedFrom}
+use Rattle.plan_operators.specs.Boards.{IsOf}
+use Rattle.plan_operators.specs.Filling.{IsAskedBy, IsEmptyInput, IsEvaluated, IsAbsentInput, IsNeededNode, IsPassedOn, IsSourceOf, IsStanding, IsTakenOff, IsThere, shown_by}
+use Rattle.plan_operators.specs.Readers.{number_of_readers, number_waiting, reads_by, total, waits, AreCountedFrom}
 use Rattle.plan_operators.proofs.Boards.{emptied}
 use Rattle.plan_operators.proofs.Reading.{read-there, reads-left, reads-right, some-or-none, wait-from, wait-none, wait-parts, wait-some}
 use Rattle.plan_operators.proofs.Scheduling.{counted-empty}
@@ -19,7 +20,7 @@ use Rattle.plan_operators.proofs.Totals.{total-one, total-without, total-without
 
 -- at the start no node has rows
 pub standing-empty : (doc : Doc) (plan : Parts) (board : List (Option RowList)) (readers : List ℕ) → length board ≡ length plan.nodes → ((n : ℕ) → slice_index_or board n None ≡ None)
-    → length readers ≡ length plan.nodes → IsCountedFrom 0 plan.nodes (shown_by plan) readers → IsStanding doc plan board readers
+    → length readers ≡ length plan.nodes → AreCountedFrom 0 plan.nodes (shown_by plan) readers → IsStanding doc plan board readers
 standing-empty doc plan board readers long none readers_long counted = record {
   long = long;
   readers_long = readers_long;
@@ -58,12 +59,12 @@ module _ (doc : Doc) (plan : Parts) (board : List (Option RowList)) (readers : L
   pub shown-waits : (n : ℕ) → Contains (shown_by plan) n → slice_index_or board n None ≡ None → waits board readers n ≡ true
   shown-waits n shown absent = wait-from (slice_index_or board n None) (number_of_readers readers n) absent (omega (arith, is.counted.shown n shown))
 
-  module _ (n : ℕ) (node : Node) (at : slice_get plan.nodes n ≡ Some node) (waiting : waits board readers n ≡ true) (needed : IsNeededOn doc plan n) where
+  module _ (n : ℕ) (node : Node) (at : slice_get plan.nodes n ≡ Some node) (waiting : waits board readers n ≡ true) (needed : IsNeededNode doc plan n) where
     -- what it asks for and isn't there
-    pub missing-asked : (i : ℕ) → IsAmong n (left_input node) → IsAmong n (right_input node) → IsMissing board node i → IsAskedFor doc plan board readers n i
+    pub missing-asked : (i : ℕ) → IsAmong n (left_input node) → IsAmong n (right_input node) → IsAbsentInput board node i → IsAskedBy doc plan board readers n i
     missing-asked i left right missing = by missing.asked
       where
-        by : (left_input node ≡ Some i) ⊎ ((right_input node ≡ Some i) × (is_conditional node ≡ true → IsThere board (left_input node) × (IsEmptyInput board (left_input node) → ⊥))) → IsAskedFor doc plan board readers n i
+        by : (left_input node ≡ Some i) ⊎ ((right_input node ≡ Some i) × (is_conditional node ≡ true → IsThere board (left_input node) × (IsEmptyInput board (left_input node) → ⊥))) → IsAskedBy doc plan board readers n i
         by (inl e) = record {
           lower = subst (IsAmong n) e left;
           waiting = absent_waits n i waiting (reads-left plan.nodes n node at i e) missing.absent;
@@ -89,16 +90,16 @@ module _ (doc : Doc) (plan : Parts) (board : List (Option RowList)) (readers : L
       pub passed-waits : waits board readers source ≡ true
       passed-waits = absent_waits n source waiting passed_read passed.absent
 
-      pub passed-needed : IsNeededOn doc plan source
+      pub passed-needed : IsNeededNode doc plan source
       passed-needed = needs.input n source node at (inl (passed.passing.from_it node at)) needed
 
     -- so whichever node has the inputs
-    module _ (source : ℕ) (from_source : IsSource plan.nodes board readers n source) where
+    module _ (source : ℕ) (from_source : IsSourceOf plan.nodes board readers n source) where
       pub source-waits : waits board readers source ≡ true
       source-waits = ⊎_elim (λ (e : source ≡ n). ap (waits board readers) e ∙ waiting) (λ (passed : IsPassedOn plan.nodes board readers source n). passed-waits source passed) from_source
 
-      pub source-needed : IsNeededOn doc plan source
-      source-needed = ⊎_elim (λ (e : source ≡ n). subst (IsNeededOn doc plan) (sym e) needed) (λ (passed : IsPassedOn plan.nodes board readers source n). passed-needed source passed) from_source
+      pub source-needed : IsNeededNode doc plan source
+      source-needed = ⊎_elim (λ (e : source ≡ n). subst (IsNeededNode doc plan) (sym e) needed) (λ (passed : IsPassedOn plan.nodes board readers source n). passed-needed source passed) from_source
 
       -- the board with its rows
       module _ (mid new : List (Option RowList)) (mid_readers new_readers : List ℕ) (off : IsTakenOff (reads_by plan.nodes source) board readers mid mid_readers)
@@ -190,9 +191,9 @@ module _ (doc : Doc) (plan : Parts) (board : List (Option RowList)) (readers : L
             (λ (same : slice_index_or mid m None ≡ slice_index_or board m None). subst (Rightly m) (sym same) (is.has.each m (omega (arith, below, long, off.long)))) (off.less m)))
             (cases_eq m n)
 
-        needed_each : (m : ℕ) → IsSome (slice_index_or new m None) → IsNeededOn doc plan m
+        needed_each : (m : ℕ) → IsSome (slice_index_or new m None) → IsNeededNode doc plan m
         needed_each m some =
-            ⊎_elim (λ (e : m ≡ n). subst (IsNeededOn doc plan) (sym e) needed)
+            ⊎_elim (λ (e : m ≡ n). subst (IsNeededNode doc plan) (sym e) needed)
             (λ (other : m ≡ n → ⊥).
             let still : IsSome (slice_index_or mid m None) = subst IsSome (others m other) some in
             ⊎_elim (λ (none : slice_index_or mid m None ≡ None). absurd (true≢false (sym (subst IsSome none still))))
@@ -229,24 +230,23 @@ module _ (doc : Doc) (plan : Parts) (board : List (Option RowList)) (readers : L
             (λ (same : slice_index_or mid m None ≡ slice_index_or board m None). subst IsSome (sym same) some) (off.less m)))
             (cases_eq m n)
 
-        pub filled-next : IsFilled doc plan board readers new new_readers
-        filled-next = record { stands = standing-next; fewer = fewer-wait; kept = shown-kept }
+        has_rows : IsSome (slice_index_or new n None)
+        has_rows = subst IsSome (sym there) refl
+
+        pub evaluated-next : IsEvaluated doc plan n board readers new new_readers
+        evaluated-next = record { stands = standing-next; there = has_rows; less = still_waits; fewer = fewer-wait; kept = shown-kept }
 
 -- what the node asks for whose inputs a node needs
-pub source-asked : (doc : Doc) (plan : Parts) (board : List (Option RowList)) (readers : List ℕ) → IsStanding doc plan board readers → (n : ℕ) → waits board readers n ≡ true → IsNeededOn doc plan n
-    → (source : ℕ) → IsSource plan.nodes board readers n source → source ≤ n → (node other : Node) → slice_get plan.nodes source ≡ Some node → slice_get plan.nodes n ≡ Some other
-    → IsAmong source (left_input node) → IsAmong source (right_input node) → (i : ℕ) → IsMissing board node i → IsAskedFor doc plan board readers n i
+pub source-asked : (doc : Doc) (plan : Parts) (board : List (Option RowList)) (readers : List ℕ) → IsStanding doc plan board readers → (n : ℕ) → waits board readers n ≡ true → IsNeededNode doc plan n
+    → (source : ℕ) → IsSourceOf plan.nodes board readers n source → source ≤ n → (node other : Node) → slice_get plan.nodes source ≡ Some node → slice_get plan.nodes n ≡ Some other
+    → IsAmong source (left_input node) → IsAmong source (right_input node) → (i : ℕ) → IsAbsentInput board node i → IsAskedBy doc plan board readers n i
 source-asked doc plan board readers is n waiting needed source from_source lower node other at at_n left right i missing =
-    let asked : IsAskedFor doc plan board readers source i =
+    let asked : IsAskedBy doc plan board readers source i =
     missing-asked doc plan board readers is source node at (source-waits doc plan board readers is n other at_n waiting needed source from_source)
     (source-needed doc plan board readers is n other at_n waiting needed source from_source) i left right missing in
     let before = asked.lower in
     record { lower = omega (arith, before, lower); waiting = asked.waiting; needed = asked.needed }
 
--- what is left to do: a node that is asked for has a lower number than the one that asks, and each node that is evaluated waits no
--- more
-pub less-asked : (w l t i : ℕ) → i < t → w * l + i < w * l + t
-less-asked w l t i lower = omega (arith, lower)
-
-pub less-filled : (w v l t i : ℕ) → v < w → i < l → v * l + i < w * l + t
-less-filled w v l t i fewer below = grind (arith, common_steps)
+-- what is left to do, where one node less waits
+pub less-evaluated : (w v l t i : ℕ) → v < w → i < l → v * l + i < w * l + t
+less-evaluated w v l t i fewer below = grind (arith, common_steps)

@@ -16,7 +16,7 @@ use Rattle.row_values.specs.Rows.{span_in}
 use Rattle.algebra.specs.declared.node.JoinKind.{JoinKind}
 use Rattle.algebra.specs.Operators.{does_join}
 use Rattle.plan_operators.specs.declared.stretches.Stretch.{Stretch}
-use Rattle.plan_operators.specs.Neighbourhoods.{AreAround, DoRise, IsIn, IsInSome, IsInRun, stretch_at}
+use Rattle.plan_operators.specs.Neighbourhoods.{AreAround, FirstsRise, IsIn, IsInSome, IsInRun, stretch_at}
 
 -- ---- one more stretch
 
@@ -68,7 +68,7 @@ in-either all last i some = elim (cases_lt some.0 (length all)) [
 
 -- the stretches so far, of which the last may grow, have the tokens of those that were seen
 pub record AreMerged (seen all : List Stretch) (last : Stretch) : Type 0 where
-  pub rise : DoRise all
+  pub rise : FirstsRise all
   pub next : (d : Stretch) → 0 < length all → (get_or all (length all - 1) d).first ≤ last.first
   pub same : (i : ℕ) → IsInSome seen i → IsInSome (all ++ last ∷ []) i
 
@@ -90,7 +90,7 @@ merged-grown seen all last stretch are low = record { rise = are.rise; next = ar
       | inr here ↦ let a = here.«from» in let b = here.to in in-last all (record { first = last.first; past = max last.past stretch.past }) i (record { «from» = omega (arith, a, low); to = omega (arith, b) })
     ]
 
-pub merged-rise : (seen all : List Stretch) (last : Stretch) → AreMerged seen all last → DoRise (all ++ last ∷ [])
+pub merged-rise : (seen all : List Stretch) (last : Stretch) → AreMerged seen all last → FirstsRise (all ++ last ∷ [])
 merged-rise seen all last are = IsNonDecreasingBy-push (λ (s : Stretch). s.first) all last are.rise are.next
 
 -- or stands behind it

@@ -1,11 +1,13 @@
 -- Words of public clauses
 -- what an operator is given
 pub mod Given
--- what the nodes of a plan have, so far as they are evaluated
+-- the rows of nodes on a board
 pub mod Boards
+-- Words of private clauses
 -- how often the nodes of a plan are read, and which of them wait
 pub mod Readers
--- Words of private clauses
+-- how a board is filled
+pub mod Filling
 -- rows with the place of a dictionary
 pub mod Places
 -- runs of tokens near the outer rows of a restricted join

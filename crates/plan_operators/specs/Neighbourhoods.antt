@@ -44,27 +44,29 @@ pub record IsInRun (tokens : List Extent) (first past : ℕ) (e : Extent) : Type
   pub there : past ≤ length tokens
   pub ends : EndsIn (run_extent tokens first (past - 1)) e
 
--- such a run begins early enough and ends late enough
-pub record IsNear (near : Near) (first past : ℕ) : Type 0 where
+-- the run of tokens from number `first` to before `past` begins early enough and ends late enough to be near
+pub record IsNearRun (near : Near) (first past : ℕ) : Type 0 where
   pub begins : first < near.before
   pub ends : near.past ≤ past
 
 -- ---- stretches of tokens
 
--- a token is in a stretch; in one of several, of which one that isn't there has none
+-- token i is in the stretch from number `first` to before `past`
 pub record IsIn (first past i : ℕ) : Type 0 where
   pub «from» : first ≤ i
   pub to : i < past
 
+-- stretch number n; one without tokens where there is none
 abbrev pub stretch_at : List Stretch → ℕ → Stretch
 stretch_at stretches n = slice_index_or stretches n (record { first = 0; past = 0 })
 
+-- token i is in one of the stretches
 abbrev pub IsInSome : List Stretch → ℕ → Type 0
 IsInSome stretches i = (n : ℕ) × IsIn (stretch_at stretches n).first (stretch_at stretches n).past i
 
 -- no stretch begins before the one in front of it
-abbrev pub DoRise : List Stretch → Type 0
-DoRise = IsNonDecreasingBy (λ stretch. stretch.first)
+abbrev pub FirstsRise : List Stretch → Type 0
+FirstsRise = IsNonDecreasingBy (λ stretch. stretch.first)
 
 -- each run of at most `reach` tokens that joins with the span of a row begins in one of the stretches
 abbrev pub AreAround : Doc → JoinKind → ℕ → ℕ → List Stretch → List Datum → Type 0

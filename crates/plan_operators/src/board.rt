@@ -2,7 +2,8 @@ ghost use Rattle.std.specs.Prelude.{◌≡◌, ℕ, ◌<◌, ◌⊎◌, IfOk, If
 ghost use Rattle.span_token.specs.Documents.{Doc};
 ghost use Rattle.algebra.specs.Needed.{IsNeeded};
 ghost use Rattle.algebra.specs.Plans.{Parts};
-ghost use Rattle.plan_operators.specs.Boards.{Holds, IsAskedFor, IsFilled, IsNeededOn, IsStanding, shown_by};
+ghost use Rattle.plan_operators.specs.Boards.{Holds, IsBoardOf};
+ghost use Rattle.plan_operators.specs.Filling.{IsAskedBy, IsEvaluated, IsNeededNode, IsStanding, shown_by};
 ghost use Rattle.plan_operators.specs.Readers.{number_of_readers, waits};
 
 use crate::Schedule;
@@ -13,12 +14,21 @@ use scalar_ops::Tools;
 use span_token::{Document, OutOfMemory};
 use std::alloc::Global;
 
-/// The rows of the nodes that the outputs of a plan need on a document, by the nodes' numbers.
+/// The rows of the nodes that the outputs of a plan show, on a document.
+///
+/// The result, a board, has a place for each node of the plan, by its number from 0 (`long`). A node that an output
+/// shows has its rows there (`shown`). Any other place is empty, or has rows that weren't given up to a node that
+/// reads them: these too are the rows of its node (`board`), which is one that the outputs need on this document
+/// (`needed`). The rows of a node are what it is worth as a bag, with its columns, and their spans, in characters
+/// from 0, lie in the document.
 ///
 /// A node is evaluated where it is asked for, and at most once: the outputs ask for the nodes that they show, and
 /// a node that is evaluated asks for its inputs, but a conditional join for its right one only where its left one
 /// has a row. Rows are given up to the last node that reads them, so that what only passes through isn't copied;
-/// what is given up, passed on or not asked for has no rows here. `tools` are made of the plan's tables.
+/// what is given up, passed on or not asked for has no rows here.
+///
+/// `tools` are made of the plan's tables (`of_plan`), and stay as they are (`same`), for want of memory too. The
+/// only error is `OutOfMemory`; what was evaluated until then is freed.
 ///
 /// Meaning: `val`, `specs/Values.antt`, and `IsNeeded`, `specs/Needed.antt` of `algebra`.
 pub fn evaluate<'d>(
@@ -30,6 +40,7 @@ pub fn evaluate<'d>(
     requires of_plan { tools.old ≡ schedule.now.lists }
     ensures long { IfOk result (λ board. vec_len board ≡ length schedule.now.nodes) }
     ensures shown { IfOk result (λ board. All (λ out. Holds schedule.now.lists doc.now schedule.now.nodes out.node (slice_index_or board.items out.node None)) schedule.now.outputs) }
+    ensures board { IfOk result (λ board. IsBoardOf schedule.now.lists doc.now schedule.now.nodes board.items) }
     ensures needed { IfOk result (λ board. (n : ℕ) → IsSome (slice_index_or board.items n None) → IsNeeded schedule.now.lists doc.now schedule.now.nodes (map (λ out. out.node) schedule.now.outputs) n) }
     ensures same { tools.new ≡ tools.old }
 {
@@ -113,11 +124,12 @@ fn fill<'d>(
     Ok(())
 }
 
-/// The node that waited last, taken off those that wait; node `n` where none does.
+/// The node that is looked at next, when the rows of another one are there: the one that asked last, which is taken
+/// off those that asked, where it waits still; else node `n`, for whose rows all of them ask.
 fn last_asking(asking: &mut Vec<u32>, board: &[Option<Rows<'_>>], readers: &[u64], n: u32) -> u32
     requires long { length readers.now ≡ length board.now }
     ensures waits { (result ≡ n) ⊎ (waits board.now readers.now result ≡ true) }
-    ensures needed { (doc : Doc) (plan : Parts) → All (IsNeededOn doc plan) asking.old.items → IsNeededOn doc plan n → All (IsNeededOn doc plan) asking.new.items × IsNeededOn doc plan result }
+    ensures needed { (doc : Doc) (plan : Parts) → All (IsNeededNode doc plan) asking.old.items → IsNeededNode doc plan n → All (IsNeededNode doc plan) asking.new.items × IsNeededNode doc plan result }
 {
     match asking.pop() {
         Some(last) => {
@@ -154,10 +166,10 @@ fn fill_or_ask<'d>(
     requires of_plan { tools.old ≡ plan.now.lists }
     requires stands { IsStanding doc.now plan.now board.old.items readers.old.items }
     requires waits { waits board.old.items readers.old.items n ≡ true }
-    requires needed { IsNeededOn doc.now plan.now n }
-    ensures asked { IfOk result (λ asked. IfSome asked (IsAskedFor doc.now plan.now board.new.items readers.new.items n)) }
+    requires needed { IsNeededNode doc.now plan.now n }
+    ensures asked { IfOk result (λ asked. IfSome asked (IsAskedBy doc.now plan.now board.new.items readers.new.items n)) }
     ensures before { IfOk result (λ asked. IfSome asked (λ _. (board.new.items ≡ board.old.items) × (readers.new.items ≡ readers.old.items))) }
-    ensures filled { IfOk result (λ asked. IfNone asked (IsFilled doc.now plan.now board.old.items readers.old.items board.new.items readers.new.items)) }
+    ensures evaluated { IfOk result (λ asked. IfNone asked (IsEvaluated doc.now plan.now n board.old.items readers.old.items board.new.items readers.new.items)) }
     ensures same { tools.new ≡ tools.old }
 {
     let nodes = plan.nodes();

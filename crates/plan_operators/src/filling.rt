@@ -1,11 +1,12 @@
 //! What a node asks for, and its rows, of the rows of its inputs.
 
-ghost use Rattle.std.specs.Prelude.{◌≡◌, ◌↔◌, ℕ, ◌+◌, ◌<◌, ◌≤◌, ◌⊎◌, IfOk, IfSome, IfNone, IsTrue, IsFalse, Some, None, length, slice_get, slice_index_or, vec_len};
+ghost use Rattle.std.specs.Prelude.{◌≡◌, ◌↔◌, ℕ, ◌<◌, ◌≤◌, ◌⊎◌, IfOk, IfSome, IfNone, IsTrue, IsFalse, Some, None, length, slice_get, slice_index_or, vec_len};
 ghost use Rattle.algebra.specs.declared.node.Node as declared_node;
 ghost use Rattle.algebra.specs.Inputs.{left_input, right_input, IsAmong};
 ghost use Rattle.plan_operators.specs.Given.{input_rows};
-ghost use Rattle.plan_operators.specs.Boards.{IsOf, IsBoard, HasAsked, IsEmptyInput, IsEmptyOn, IsInput, IsMissing, IsPassing, IsRightInput, IsSource, IsTaken, IsTakenOff, IsThere, input_on, rows_found};
-ghost use Rattle.plan_operators.specs.Readers.{number_of_readers, reads_by, times};
+ghost use Rattle.plan_operators.specs.Boards.{IsBoardOf, IsOf};
+ghost use Rattle.plan_operators.specs.Filling.{HasAsked, IsAbsentInput, IsEmptyInput, IsEmptyOn, IsGivenUp, IsInput, IsPassing, IsRightInput, IsSourceOf, IsTakenOff, IsThere, input_on, rows_found};
+ghost use Rattle.plan_operators.specs.Readers.{number_of_readers, reads_by, reads_through};
 
 use crate::Input;
 use crate::operator::apply;
@@ -22,7 +23,7 @@ pub(crate) fn source_of(nodes: &Nodes, n: u32, board: &[Option<Rows<'_>>], reade
     requires there { n < length nodes.now }
     requires long { length board.now ≡ length nodes.now }
     requires readers_long { length readers.now ≡ length nodes.now }
-    ensures source { IsSource nodes.now board.now readers.now n result }
+    ensures source { IsSourceOf nodes.now board.now readers.now n result }
     ensures lower { result ≤ n }
 {
     let node = nodes.get(n);
@@ -45,7 +46,7 @@ pub(crate) fn missing(node: &Node, board: &[Option<Rows<'_>>]) -> Option<u32>
     requires left_there { IsAmong (length board.now) (left_input node.now) }
     requires right_there { IsAmong (length board.now) (right_input node.now) }
     ensures none { IfNone result (HasAsked board.now node.now) }
-    ensures one { IfSome result (IsMissing board.now node.now) }
+    ensures one { IfSome result (IsAbsentInput board.now node.now) }
 {
     let (left, right) = node.inputs();
     if !is_there(board, left) {
@@ -112,7 +113,7 @@ pub(crate) fn rows_of<'d>(
     requires readers_long { vec_len readers.old ≡ length nodes.now }
     requires source_there { source < length nodes.now }
     requires source { (source ≡ n) ⊎ IsPassing nodes.now source n }
-    requires board { IsBoard tools.old doc.now nodes.now board.old.items }
+    requires board { IsBoardOf tools.old doc.now nodes.now board.old.items }
     requires asked { (node : declared_node.Node) → slice_get nodes.now source ≡ Some node → HasAsked board.old.items node }
     requires read { (i : ℕ) → reads_by nodes.now source i ≤ number_of_readers readers.old.items i }
     ensures rows { IfOk result (IsOf tools.old doc.now nodes.now n) }
@@ -168,11 +169,11 @@ fn given_up<'d>(
 ) -> Option<Rows<'d>>
     requires among { IsAmong (vec_len board.old) input }
     requires long { vec_len readers.old ≡ vec_len board.old }
-    requires read { (i : ℕ) → times input i ≤ number_of_readers readers.old.items i }
-    ensures given { IfSome result (λ rows. IsTaken input other rows board.old.items) }
+    requires read { (i : ℕ) → reads_through input i ≤ number_of_readers readers.old.items i }
+    ensures given { IfSome result (λ rows. IsGivenUp input other rows board.old.items) }
     ensures none { IfNone result ((m : ℕ) → slice_index_or board.new.items m None ≡ slice_index_or board.old.items m None) }
     ensures others { (m : ℕ) → (input ≡ Some m → ⊥) → slice_index_or board.new.items m None ≡ slice_index_or board.old.items m None }
-    ensures off { IsTakenOff (times input) board.old.items readers.old.items board.new.items readers.new.items }
+    ensures off { IsTakenOff (reads_through input) board.old.items readers.old.items board.new.items readers.new.items }
 {
     match input {
         Some(i) => {

@@ -7,7 +7,7 @@ ghost use Rattle.span_token.specs.Extents.{Extent, extent_of};
 ghost use Rattle.span_token.specs.SourceTokens.{run_extent};
 ghost use Rattle.span_token.specs.Tokens.{tokens_of};
 ghost use Rattle.algebra.specs.Operators.{does_join};
-ghost use Rattle.plan_operators.specs.Neighbourhoods.{AreBegun, IsInRun, IsNear};
+ghost use Rattle.plan_operators.specs.Neighbourhoods.{AreBegun, IsInRun, IsNearRun};
 
 use algebra::JoinKind;
 use span_token::{Document, Span};
@@ -23,7 +23,7 @@ pub(crate) struct Near {
 /// Where runs of tokens stand that may join with the span of an outer row.
 pub(crate) fn where_near(doc: &Document<'_>, kind: JoinKind, outer: Span) -> Near
     requires in_document { LiesIn (extent_of outer) doc.now }
-    ensures { (first past : ℕ) (e : Extent) → IsInRun (tokens_of (characters doc.now)) first past e → IsTrue (does_join doc.now kind (extent_of outer) e) → IsNear result first past }
+    ensures { (first past : ℕ) (e : Extent) → IsInRun (tokens_of (characters doc.now)) first past e → IsTrue (does_join doc.now kind (extent_of outer) e) → IsNearRun result first past }
 {
     match kind {
         JoinKind::Follows { min, max } => {
@@ -57,7 +57,7 @@ fn within(doc: &Document<'_>, from: u64, to: u64) -> Near
     requires { to < 2 ^ 63 + 2 ^ 33 }
     ensures { (first past x y : ℕ) (e : Extent) → IsInRun (tokens_of (characters doc.now)) first past e
         → from ≤ x → x ≤ (run_extent (tokens_of (characters doc.now)) first (past - 1)).end
-        → (run_extent (tokens_of (characters doc.now)) first (past - 1)).begin ≤ y → y ≤ to → IsNear result first past }
+        → (run_extent (tokens_of (characters doc.now)) first (past - 1)).begin ≤ y → y ≤ to → IsNearRun result first past }
 {
     Near {
         before: begun_before(doc, to + 1),

@@ -1,9 +1,7 @@
-ghost use Rattle.std.specs.Prelude.{◌≡◌, true, [], IfOk};
+ghost use Rattle.std.specs.Prelude.{◌≡◌, IfOk};
 ghost use Rattle.aql_base.specs.Bags.{SameBag};
 ghost use Rattle.row_values.specs.Rows.{RowsLieIn};
-ghost use Rattle.aql_typed.specs.Meaning.{Rows as RowsMeant};
 ghost use Rattle.algebra.specs.declared.shape.Shape as declared_shape;
-ghost use Rattle.algebra.specs.Inputs.{is_conditional};
 ghost use Rattle.algebra.specs.Operators.{op};
 ghost use Rattle.algebra.specs.Shapes.{shape_by};
 ghost use Rattle.plan_operators.specs.Given.{input_rows, MayRead};

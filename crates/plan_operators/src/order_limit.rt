@@ -1,4 +1,4 @@
-ghost use Rattle.std.specs.Prelude.{◌≡◌, ◌<◌, All, Some, length, IfOk};
+ghost use Rattle.std.specs.Prelude.{◌≡◌, ◌<◌, All, IfOk};
 ghost use Rattle.span_token.specs.Documents.{Doc};
 ghost use Rattle.row_values.specs.Rows.{RowsLieIn};
 ghost use Rattle.aql_typed.specs.Meaning.{cut};

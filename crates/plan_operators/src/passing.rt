@@ -9,7 +9,7 @@ ghost use Rattle.algebra.specs.declared.shape.Shape as declared_shape;
 ghost use Rattle.algebra.specs.Inputs.{right_input};
 ghost use Rattle.algebra.specs.Operators.{op};
 ghost use Rattle.algebra.specs.Shapes.{no_shape, shape_by};
-ghost use Rattle.plan_operators.specs.Boards.{does_pass, is_projection};
+ghost use Rattle.plan_operators.specs.Filling.{does_pass, is_projection};
 ghost use Rattle.plan_operators.specs.Given.{MayRead};
 
 use crate::dict_part::part_values;

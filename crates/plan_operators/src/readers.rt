@@ -1,15 +1,15 @@
 //! Who reads the rows of each node of a plan.
 
-ghost use Rattle.std.specs.Prelude.{◌≡◌, ℕ, ◌+◌, ◌*◌, ◌<◌, ◌≤◌, ◌^◌, IfOk, All, List, length, map, vec_len};
+ghost use Rattle.std.specs.Prelude.{◌≡◌, ℕ, ◌+◌, ◌<◌, ◌≤◌, ◌^◌, IfOk, All, List, length, map, vec_len};
 ghost use Rattle.algebra.specs.Inputs.{IsAmong};
-ghost use Rattle.plan_operators.specs.Readers.{IsCountedFrom, number_of_readers, reads_by, times};
+ghost use Rattle.plan_operators.specs.Readers.{AreCountedFrom, number_of_readers, reads_by, reads_through};
 
 use algebra::{Nodes, PlanOut};
 use span_token::OutOfMemory;
 use std::alloc::Global;
 
-/// For each node how often nodes read it that somebody reads, and one more where an output shows it; 0 where
-/// nobody needs it.
+/// For each node, by its number, how many readers it has: each node that has readers itself counts once for each of
+/// its inputs that is the node, and all outputs that show the node count once together. A node without readers has 0.
 pub(crate) fn count_readers(
     alloc: Global,
     nodes: &Nodes,
@@ -17,7 +17,7 @@ pub(crate) fn count_readers(
 ) -> Result<Vec<u64>, OutOfMemory>
     requires there { All (λ out. out.node < length nodes.now) outputs.now }
     ensures long { IfOk result (λ readers. vec_len readers ≡ length nodes.now) }
-    ensures counted { IfOk result (λ readers. IsCountedFrom 0 nodes.now (map (λ out. out.node) outputs.now) readers.items) }
+    ensures counted { IfOk result (λ readers. AreCountedFrom 0 nodes.now (map (λ out. out.node) outputs.now) readers.items) }
 {
     let mut readers = none_of(alloc, nodes.len())?;
     count_shown(outputs, &mut readers);
@@ -55,7 +55,7 @@ fn count_from_last(nodes: &Nodes, readers: &mut Vec<u64>)
     requires long { vec_len readers.old ≡ length nodes.now }
     requires few { (n : ℕ) → number_of_readers readers.old.items n ≤ 1 }
     ensures long { vec_len readers.new ≡ vec_len readers.old }
-    ensures counted { (outs : List ℕ) → IsCountedFrom (length nodes.now) nodes.now outs readers.old.items → IsCountedFrom 0 nodes.now outs readers.new.items }
+    ensures counted { (outs : List ℕ) → AreCountedFrom (length nodes.now) nodes.now outs readers.old.items → AreCountedFrom 0 nodes.now outs readers.new.items }
 {
     let mut rest = nodes.len();
     'nodes: while rest > 0 {
@@ -87,7 +87,7 @@ fn count(input: Option<u32>, readers: &mut Vec<u64>)
     requires there { IsAmong (vec_len readers.old) input }
     requires few { (k : ℕ) → number_of_readers readers.old.items k < 2 ^ 40 }
     ensures long { vec_len readers.new ≡ vec_len readers.old }
-    ensures more { (k : ℕ) → number_of_readers readers.new.items k ≡ number_of_readers readers.old.items k + times input k }
+    ensures more { (k : ℕ) → number_of_readers readers.new.items k ≡ number_of_readers readers.old.items k + reads_through input k }
 {
     if let Some(i) = input {
         readers[i as usize] += 1;

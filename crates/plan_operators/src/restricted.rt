@@ -1,4 +1,4 @@
-ghost use Rattle.std.specs.Prelude.{◌≡◌, ◌+◌, ◌-◌, ◌<◌, ◌≤◌, ◌^◌, ◌∷◌, ◌++◌, [], ℕ, Bool, List, All, take, IfOk, OnOk, length};
+ghost use Rattle.std.specs.Prelude.{◌≡◌, ◌+◌, ◌<◌, ◌≤◌, ◌^◌, ◌++◌, Bool, List, All, take, IfOk, OnOk, length};
 ghost use Rattle.std.specs.List.{filter};
 ghost use Rattle.aql_base.specs.Bags.{SameBag};
 ghost use Rattle.span_token.specs.Documents.{characters};
@@ -9,7 +9,7 @@ ghost use Rattle.algebra.specs.declared.node.Local.TheVariants as sought;
 ghost use Rattle.algebra.specs.Operators.{restricted, sought_by, followed};
 ghost use Rattle.algebra.specs.Shapes.{IsSought};
 ghost use Rattle.row_operators.specs.Searches.{extraction_for};
-ghost use Rattle.plan_operators.specs.Neighbourhoods.{IsReach, BeginIn, DoRise, PutsStretch, rows_between};
+ghost use Rattle.plan_operators.specs.Neighbourhoods.{IsReach, BeginIn, FirstsRise, PutsStretch, rows_between};
 
 use crate::span_join::span_join;
 use crate::stretches::{Stretch, stretches_around};
@@ -100,7 +100,7 @@ fn push_near<'d>(
     requires reach { IsReach tools.old doc.now local reach }
     requires some { 1 ≤ reach }
     requires few { reach < 2 ^ 32 }
-    requires rise { DoRise stretches.now }
+    requires rise { FirstsRise stretches.now }
     requires width { length row.now + 1 ≡ into.old.width }
     ensures rows { (keep : List Datum → Bool) → BeginIn doc.now reach stretches.now row.now keep → OnOk result (filter keep into.new.rows ≡ filter keep (into.old.rows ++ followed tools.old doc.now (sought_by local) row.now)) }
     ensures width { OnOk result (into.new.width ≡ into.old.width) }

@@ -1,8 +1,8 @@
 //! Where runs of tokens begin that may join with some outer row.
 
-ghost use Rattle.std.specs.Prelude.{◌≡◌, ◌+◌, ◌<◌, ◌≤◌, ◌^◌, ℕ, All, IfOk};
+ghost use Rattle.std.specs.Prelude.{◌+◌, ◌<◌, ◌≤◌, ◌^◌, ℕ, All, IfOk};
 ghost use Rattle.row_values.specs.Rows.{RowsLieIn};
-ghost use Rattle.plan_operators.specs.Neighbourhoods.{AreAround, DoRise, IsIn, IsInSome, IsNear};
+ghost use Rattle.plan_operators.specs.Neighbourhoods.{AreAround, FirstsRise, IsIn, IsInSome, IsNearRun};
 
 use crate::near::{Near, where_near};
 use algebra::JoinKind;
@@ -33,7 +33,7 @@ pub(crate) fn stretches_around<'d>(
     requires in_document { RowsLieIn doc.now outer.now.rows }
     requires few { reach < 2 ^ 32 }
     ensures around { IfOk result (λ all. All (AreAround doc.now kind lc reach all.items) outer.now.rows) }
-    ensures rise { IfOk result (λ all. DoRise all.items) }
+    ensures rise { IfOk result (λ all. FirstsRise all.items) }
 {
     let mut all = stretches_of_each(alloc, doc, kind, outer, lc, reach)?;
     all.sort_unstable_by_key(|stretch| stretch.first);
@@ -65,7 +65,7 @@ fn stretches_of_each<'d>(
 
 /// Where runs of at most `reach` tokens begin that are near.
 fn begins_of(near: Near, reach: u64) -> Stretch
-    ensures { (first past : ℕ) → IsNear near first past → past ≤ first + reach → IsIn result.first result.past first }
+    ensures { (first past : ℕ) → IsNearRun near first past → past ≤ first + reach → IsIn result.first result.past first }
 {
     Stretch {
         first: near.past.saturating_sub(reach),
@@ -75,9 +75,9 @@ fn begins_of(near: Near, reach: u64) -> Stretch
 
 /// The same tokens and those of short gaps, of fewer than `gap` tokens, in stretches that stand apart.
 fn merged(alloc: Global, stretches: &[Stretch], gap: u64) -> Result<Vec<Stretch>, OutOfMemory>
-    requires rise { DoRise stretches.now }
+    requires rise { FirstsRise stretches.now }
     ensures same { IfOk result (λ all. (i : ℕ) → IsInSome stretches.now i → IsInSome all.items i) }
-    ensures rise { IfOk result (λ all. DoRise all.items) }
+    ensures rise { IfOk result (λ all. FirstsRise all.items) }
 {
     let mut all = Vec::new(alloc);
     let mut last = Stretch { first: 0, past: 0 };

@@ -5,7 +5,7 @@ use Rattle.row_values.specs.Rows.{RowList}
 use Rattle.algebra.specs.declared.node.Node.{Node}
 use Rattle.algebra.specs.declared.output.PlanOut.{PlanOut}
 use Rattle.algebra.specs.Plans.{Parts}
-use Rattle.plan_operators.specs.Boards.{IsStanding}
+use Rattle.plan_operators.specs.Filling.{IsStanding}
 use Rattle.plan_operators.specs.Readers.{IsScheduled}
 use Rattle.plan_operators.proofs.Boards.{all-held, there-more}
 use Rattle.plan_operators.proofs.Standing.{standing-empty}
@@ -37,6 +37,13 @@ loop-out-preserved c =
           c.loop-out.invariant.there;
       same = c.in_ok-fill.ensures.same ∙ c.loop-out.invariant.same;
     }
+
+pub returns-clause-board : goal.returns-clause-board
+returns-clause-board c =
+    let board : List (Option RowList) = c.loop-out.board.items in
+    let stands : IsStanding c.args.doc.now c.args.schedule.now board c.loop-out.readers.items =
+    subst (λ (p : Parts). IsStanding c.args.doc.now p board c.loop-out.readers.items) c.plan-plan.ensures c.loop-out.invariant.stands in
+    stands.has
 
 pub returns-clause-shown : goal.returns-clause-shown
 returns-clause-shown c =

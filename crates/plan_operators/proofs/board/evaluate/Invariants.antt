@@ -1,6 +1,6 @@
 use Rattle.std.proofs.Common.{◌≡◌, All, None, take}
 use Rattle.std.specs.Prelude.{slice_index_or, IsSome}
-use Rattle.plan_operators.specs.Boards.{IsStanding}
+use Rattle.plan_operators.specs.Filling.{IsStanding}
 use Rattle.plan_operators.proofs.board.evaluate.Given as goal
 
 abbrev pub invariant-loop-out : goal.invariant-loop-out

@@ -3,7 +3,8 @@ use Rattle.row_values.specs.Rows.{RowList, RowsLieIn}
 use Rattle.algebra.specs.Inputs.{left_input, right_input}
 use Rattle.algebra.specs.Folds.{of_input}
 use Rattle.algebra.specs.Shapes.{no_shape, shapes_of}
-use Rattle.plan_operators.specs.Boards.{IsInput, IsOf, IsPassing, IsRightInput}
+use Rattle.plan_operators.specs.Boards.{IsOf}
+use Rattle.plan_operators.specs.Filling.{IsInput, IsPassing, IsRightInput}
 use Rattle.plan_operators.specs.Given.{input_rows, MayRead}
 use Rattle.plan_operators.proofs.Boards.{may_read, passed_is, right_lies, right_wide, rows_are}
 use Rattle.plan_operators.proofs.Reading.{node-at}

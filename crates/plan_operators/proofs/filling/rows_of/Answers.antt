@@ -3,9 +3,9 @@ use Rattle.std.proofs.lemmas.Option.{same_Some}
 use Rattle.row_values.specs.Rows.{RowList}
 use Rattle.algebra.specs.declared.node.Node.{Node}
 use Rattle.algebra.specs.Inputs.{left_input, right_input, IsAmong}
-use Rattle.plan_operators.specs.Boards.{HasAsked, IsInput, IsRightInput, IsThere, rows_found}
+use Rattle.plan_operators.specs.Filling.{HasAsked, IsInput, IsRightInput, IsThere, rows_found}
 use Rattle.plan_operators.specs.Given.{input_rows}
-use Rattle.plan_operators.specs.Readers.{reads_by, times}
+use Rattle.plan_operators.specs.Readers.{reads_by, reads_through}
 use Rattle.plan_operators.proofs.Boards.{left_found, right_found}
 use Rattle.plan_operators.proofs.Reading.{among-more, node-at, reads-both}
 use Rattle.plan_operators.proofs.Taking.{off-both}
@@ -72,10 +72,10 @@ returns-clause-off c =
     let here = node-at nodes c.args.source node c.requires.source_there c.get-node.ensures.node in
     let left = c.inputs-left.result.0 in
     let right = c.inputs-left.result.1 in
-    off-both (times left) (times right) (reads_by nodes c.args.source) c.args.board.now.items c.given_up-left_given.new.board.items c.given_up-right_given.new.board.items c.args.readers.now.items
+    off-both (reads_through left) (reads_through right) (reads_by nodes c.args.source) c.args.board.now.items c.given_up-left_given.new.board.items c.given_up-right_given.new.board.items c.args.readers.now.items
     c.given_up-left_given.new.readers.items c.given_up-right_given.new.readers.items c.given_up-left_given.ensures.off c.given_up-right_given.ensures.off
     (λ m.
-    let sum : reads_by nodes c.args.source m ≡ times (left_input node) m + times (right_input node) m = reads-both nodes c.args.source node here m in
-    let on_left : times left m ≡ times (left_input node) m = ap (λ (o : Option ℕ). times o m) c.inputs-left.ensures.left in
-    let on_right : times right m ≡ times (right_input node) m = ap (λ (o : Option ℕ). times o m) c.inputs-left.ensures.right in
+    let sum : reads_by nodes c.args.source m ≡ reads_through (left_input node) m + reads_through (right_input node) m = reads-both nodes c.args.source node here m in
+    let on_left : reads_through left m ≡ reads_through (left_input node) m = ap (λ (o : Option ℕ). reads_through o m) c.inputs-left.ensures.left in
+    let on_right : reads_through right m ≡ reads_through (right_input node) m = ap (λ (o : Option ℕ). reads_through o m) c.inputs-left.ensures.right in
     omega (arith, sum, on_left, on_right))

@@ -1,6 +1,6 @@
 use Rattle.std.proofs.Common.{◌≡◌, ◌∙◌, ◌-◌, ◌+◌, ◌<◌, ℕ, length, sym, subst, arith}
 use Rattle.std.proofs.lemmas.List.{get_or_default}
-use Rattle.plan_operators.specs.Readers.{number_of_readers, IsCountedFrom}
+use Rattle.plan_operators.specs.Readers.{number_of_readers, AreCountedFrom}
 use Rattle.plan_operators.proofs.Scheduling.{counted-read, counted-unread}
 use Rattle.plan_operators.proofs.readers.count_from_last.Goals as goal
 
@@ -18,7 +18,7 @@ nodes-preserved-then-index-gt0 c =
           let most = c.count_inputs.ensures.most k in
           omega (arith, few, more, most, c.nodes-test.true);
       counted = λ outs was.
-          counted-read c.args.nodes.now outs n c.nodes.readers.items (subst (λ (m : ℕ). IsCountedFrom m c.args.nodes.now outs c.nodes.readers.items) before (c.nodes.invariant.counted outs was))
+          counted-read c.args.nodes.now outs n c.nodes.readers.items (subst (λ (m : ℕ). AreCountedFrom m c.args.nodes.now outs c.nodes.readers.items) before (c.nodes.invariant.counted outs was))
           c.count_inputs.new.readers.items c.count_inputs.ensures.more c.count_inputs.ensures.below;
     }
 
@@ -35,5 +35,5 @@ nodes-preserved c =
       within = omega (arith, c.nodes.invariant.within);
       few = λ k. let few = c.nodes.invariant.few k in omega (arith, few);
       counted = λ outs was.
-          counted-unread c.args.nodes.now outs n c.nodes.readers.items (subst (λ (m : ℕ). IsCountedFrom m c.args.nodes.now outs c.nodes.readers.items) before (c.nodes.invariant.counted outs was)) unread;
+          counted-unread c.args.nodes.now outs n c.nodes.readers.items (subst (λ (m : ℕ). AreCountedFrom m c.args.nodes.now outs c.nodes.readers.items) before (c.nodes.invariant.counted outs was)) unread;
     }

@@ -1,7 +1,7 @@
 use Rattle.std.proofs.Common.{◌≡◌, ◌∙◌, ◌+◌, ◌≤◌, ◌++◌, ◌∷◌, [], max, List, Vec, Global, take, sym, ap, subst, arith}
 use Rattle.std.proofs.lemmas.List.{take_all, take_more}
 use Rattle.plan_operators.specs.declared.stretches.Stretch.{Stretch}
-use Rattle.plan_operators.specs.Neighbourhoods.{DoRise, IsInSome, stretch_at}
+use Rattle.plan_operators.specs.Neighbourhoods.{FirstsRise, IsInSome, stretch_at}
 use Rattle.plan_operators.proofs.StretchLemmas.{merged-grown, merged-pushed, merged-rise, merged-same}
 use Rattle.plan_operators.proofs.stretches.merged.Goals as goal
 use Rattle.plan_operators.proofs.stretches.merged.Goals.{then-stretch-saturating_add, else-stretch-saturating_add+in_ok-push}
@@ -35,7 +35,7 @@ loop-stretch-preserved c =
 
 pub returns-clause-rise : goal.returns-clause-rise
 returns-clause-rise c =
-    subst DoRise (sym c.in_ok-push-2.ensures.items)
+    subst FirstsRise (sym c.in_ok-push-2.ensures.items)
     (merged-rise (take c.loop-stretch.stretch-index c.args.stretches.now) c.loop-stretch.all.items c.loop-stretch.last c.loop-stretch.invariant.merged)
 
 pub returns-clause-same : goal.returns-clause-same

@@ -1,13 +1,13 @@
 use Rattle.std.proofs.Common.{List, subst, sym, rules}
 use Rattle.std.proofs.lemmas.List.Sorted.{IsNonDecreasingBy-from_sort_by_key}
 use Rattle.plan_operators.specs.declared.stretches.Stretch.{Stretch}
-use Rattle.plan_operators.specs.Neighbourhoods.{DoRise, IsInSome}
+use Rattle.plan_operators.specs.Neighbourhoods.{FirstsRise, IsInSome}
 use Rattle.plan_operators.proofs.StretchLemmas.{around-more, in-sorted}
 use Rattle.plan_operators.proofs.stretches.stretches_around.Goals as goal
 
 pub merged-requires : goal.merged-requires
 merged-requires c = record {
-  rise = subst DoRise (sym c.as_slice.ensures.value)
+  rise = subst FirstsRise (sym c.as_slice.ensures.value)
       (IsNonDecreasingBy-from_sort_by_key (λ (s : Stretch). s.first) _ c.sort_unstable_by_key.ensures.sorted (λ a r f h. search rules));
 }
 
