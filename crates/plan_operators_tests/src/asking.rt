@@ -1,9 +1,10 @@
 //! Plans whose nodes are asked for by outputs, by other nodes, and by conditional joins of which some have no left row.
 
 use crate::evaluation::{evaluated, put_words};
-use crate::setup::{GREAT, NONE, SMALL, columns, numbers, tables_of};
+use crate::setup::{GREAT, NONE, SMALL, TWO_WORDS, columns, numbers, tables_of};
 use crate::standing::{put, showing};
 use algebra::{Node, Nodes, Plan};
+use span_token::OutOfMemory;
 use std::alloc::Global;
 use std::test::Fail;
 
@@ -57,27 +58,54 @@ fn two_left_sides(alloc: Global, patterns: [u32; 2]) -> Result<Plan, Fail> {
     showing(alloc, nodes, tables_of(alloc)?, &[8, 9])
 }
 
+/// The small words.
+static SMALL_WORDS: [&str; 5] = ["1-3", "4-7", "9-10", "15-19", "20-23"];
+
+/// The great words.
+static GREAT_WORDS: [&str; 2] = ["0-3", "8-10"];
+
+/// One word of small letters or two.
+static ONE_OR_TWO: [&str; 3] = ["1-7", "9-10", "15-23"];
+
+/// Puts the line of node `n` whose rows are spans, each with all pairs of small words.
+fn push_joined(n: &str, lefts: &[&str], text: &mut String) -> Result<(), OutOfMemory> {
+    text.push_str(n)?;
+    text.push_str(" 3:")?;
+    for left in lefts {
+        for first in &SMALL_WORDS {
+            for second in &SMALL_WORDS {
+                text.push_str("[")?;
+                for (part, after) in [(left, " "), (first, " "), (second, "]")] {
+                    text.push_str(part)?;
+                    text.push_str(after)?;
+                }
+            }
+        }
+    }
+    text.push_str("\n")?;
+    Ok(())
+}
+
 #[test]
 fn right_sides_wait_for_each_left_side_whatever_its_number(rt: HostRuntime) -> Result<(), Fail> {
     let alloc = rt.alloc();
     let words = "1:[1-3][4-7][9-10][15-19][20-23]";
-    let table: [([u32; 2], String); 3] = [
-        (
-            [NONE, NONE],
-            String::from_str(alloc, "2 -\n3 -\n5 -\n7 -\n")?,
-        ),
-        (
-            [NONE, GREAT],
-            format!(in alloc; "2 {words}\n3 -\n5 -\n7 -\n")?,
-        ),
-        (
-            [GREAT, NONE],
-            format!(in alloc; "2 {words}\n3 -\n5 -\n7 -\n")?,
-        ),
+    let none: &[&str] = &[];
+    let great = GREAT_WORDS.as_slice();
+    let table: [([u32; 2], &str, &[&str], &[&str]); 4] = [
+        ([NONE, NONE], "-", none, none),
+        ([NONE, GREAT], words, none, great),
+        ([GREAT, NONE], words, great, none),
+        ([GREAT, TWO_WORDS], words, great, ONE_OR_TWO.as_slice()),
     ];
-    for (patterns, want) in &table {
+    for (patterns, right, first, second) in &table {
+        let mut want = String::from_str(alloc, "2 ")?;
+        want.push_str(right)?;
+        want.push_str("\n3 -\n5 -\n7 -\n")?;
+        push_joined("8", first, &mut want)?;
+        push_joined("9", second, &mut want)?;
         let plan = two_left_sides(alloc, *patterns)?;
-        let got = evaluated(alloc, &plan, &[2, 3, 5, 7])?;
+        let got = evaluated(alloc, &plan, &[2, 3, 5, 7, 8, 9])?;
         assert_eq!(rt; got.as_str(), want.as_str(), "{patterns:?}");
     }
     Ok(())
