@@ -13,7 +13,7 @@ usage: bench/growth.py corpus [PROGRAM ..]      the time on 2, 20 and 200 MB of 
   ROUNDS      how often each is run (default: 3; 30 for `start`)
   TEXT        how many MB of text `document` cuts (default: 100)
 
-All runs are with one worker. Times are processor seconds, user and system, the best of all rounds, with the start in them; those
+All runs are with one worker; those of `memory` with as many as WORKERS says. Times are processor seconds, user and system, the best of all rounds, with the start in them; those
 of `start` are by the clock. Behind them stand exponents: of the power of the size by which the time of a corpus, or that of one
 document, grows from each size to the next. Ends with 1 where an exponent is above 1.05 (corpus) or 1.1 (document), or a start
 takes more than 5 ms (demonstration) or 30 ms (dictionary): `!` marks it. Memory for a document is taken once by a process and
@@ -33,6 +33,7 @@ import time
 from common import AQLX, DATA, JOINS, NAMES, look_for_names, look_for_programs, machine, run, stop, text_of
 
 ROUNDS = int(os.environ.get("ROUNDS") or 0)
+WORKERS = os.environ.get("WORKERS") or "1"
 MAILS = DATA / "mail-M.jsonl"
 MEGABYTE = 1_000_000
 CORPUS = [2 * MEGABYTE, 20 * MEGABYTE, 200 * MEGABYTE]
@@ -163,7 +164,7 @@ def memory(names, work):
         write_mails(size, corpus)
     print(f"{'program':<17}" + "".join(f" {named(size):>8}" for size in sizes) + "   peak memory in MB")
     for name in names:
-        words = [AQLX, "run", str(text_of(name, MAILS, work)[0])]
+        words = [AQLX, "run", str(text_of(name, MAILS, work)[0]), "--workers", WORKERS]
         peaks = [max(run(words, corpus, os.devnull, work)[1] for _ in range(ROUNDS or 3)) for corpus in corpora]
         print(f"{name:<17}" + "".join(f" {peak:>8.1f}" for peak in peaks), flush=True)
     return True
