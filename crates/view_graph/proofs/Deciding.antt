@@ -19,7 +19,7 @@ use Rattle.view_graph.proofs.Defining.{flat_map-push, creates_within}
 use Rattle.view_graph.proofs.Once.{Or, contains_or, Again, again_not, one_again, again_or, later_cut, same_cut, Fails, one_fails, fails_or}
 use Rattle.view_graph.proofs.Longest.{Circle, ranks_or_circle}
 use Rattle.view_graph.proofs.Sorting.{put_in_order, one_by_rank}
-use Rattle.view_graph.proofs.Places.{few_defined, few_outputs, document, IsListed, listed, views_differ}
+use Rattle.view_graph.proofs.Creating.{few_defined, few_outputs, document, IsListed, listed, views_differ}
 use Rattle.view_graph.proofs.Following.{user_within}
 use Rattle.view_graph.proofs.Turning.{IsCycle-turned}
 use Rattle.view_graph.proofs.Relations.{no_circle}
@@ -197,15 +197,15 @@ module _ (program : List Statement) where
       by rest (inl less) = (0, omega arith, All-cons (λ p. x ≤ p) x (y ∷ ys) (omega arith) (All-weaker (λ p. get_or (y ∷ ys) rest.0 0 ≤ p) (λ p. x ≤ p) (λ p h. omega (arith, less, h)) (y ∷ ys) rest.2))
       by rest (inr more) = (suc rest.0, omega (arith, rest.1), All-cons (λ p. get_or (y ∷ ys) rest.0 0 ≤ p) x (y ∷ ys) more rest.2)
 
-  begun : (places : List ℕ) → 0 < length places → (turned : List ℕ) × IsBegunAtLeast places turned
+  begun : (views : List ℕ) → 0 < length views → (turned : List ℕ) × IsBegunAtLeast views turned
   begun [] some = absurd (omega (arith, some))
   begun (x ∷ xs) some = let l = least_of x xs in (drop l.0 (x ∷ xs) ++ take l.0 (x ∷ xs), record { at = l.0; within = l.1; turn = refl; least = l.2 })
 
-  with_names : (places : List ℕ) → AreViews program places → (views : List (List ℕ)) × AllZip (CreatesView program) places views
+  with_names : (cycle : List ℕ) → AreViews program cycle → (views : List (List ℕ)) × AllZip (CreatesView program) cycle views
   with_names [] are = ([], tt)
   with_names (p ∷ ps) are =
-      let head = All-head (λ place. (name : List ℕ) × CreatesView program place name) p ps are in
-      let rest = with_names ps (All-tail (λ place. (name : List ℕ) × CreatesView program place name) p ps are) in
+      let head = All-head (λ view. (name : List ℕ) × CreatesView program view name) p ps are in
+      let rest = with_names ps (All-tail (λ view. (name : List ℕ) × CreatesView program view name) p ps are) in
       (head.0 ∷ rest.0, (head.1, rest.1))
 
   abbrev Decided : Type 0
@@ -216,7 +216,7 @@ module _ (program : List Statement) where
       let turned = begun circle.0 circle.1.some in
       let cycle = IsCycle-turned (Uses program) circle.0 turned.0 circle.1 circle.2 turned.1 in
       let views = with_names turned.0 (are_used program turned.0 cycle.closed) in
-      inr (Cycle views.0, (outputs, record { places = turned.0; cycle = cycle; named = views.1 }))
+      inr (Cycle views.0, (outputs, record { indexes = turned.0; cycle = cycle; named = views.1 }))
 
   with_ranks : HasOutputs program → ((v : ℕ) → v < length program → (rank : ℕ) × HasRank (Uses program) v rank) → Decided
   unfolding IsListed
@@ -225,7 +225,7 @@ module _ (program : List Statement) where
       All-weaker (IsListed 0 program) (λ v. (rank : ℕ) × HasRank (Uses program) v rank) (λ v h. ranks v (omega (arith, h.1, h.2))) (views_of program) (listed program 0) in
       let order = put_in_order (Uses program) (views_of program) all in
       inl (
-        map (λ place. place + 1) order.0,
+        map (λ view. view + 1) order.0,
         resolved_by program order.0 outputs
             (λ views closed. no_circle (Uses program) (λ a b h. ranks a (user_within program a (view_named h.name) h.source (cases_lt a (length program)))) views closed) order.1 _ refl,
       )
@@ -291,10 +291,10 @@ module _ (program : List Statement) where
   not_both order (UnknownView n a) r h = looks_not n (view_named a) h.1 r.outputs.names.defined
   not_both order (UnknownDictionary n a) r h = looks_not n (dictionary_named a) h.1 r.outputs.names.defined
   not_both order (DuplicateOutput n a) r h = outputs_not n a h.1 r.outputs.outputs_distinct
-  not_both order (Cycle views) r h = r.no_cycle h.1.places h.1.cycle.closed
+  not_both order (Cycle views) r h = r.no_cycle h.1.indexes h.1.cycle.closed
 
   one_order : (xs ys : List ℕ) → IsResolved program xs → IsResolved program ys → xs ≡ ys
-  one_order xs ys h k = h.numbers ∙ ap (λ (ps : List ℕ). map (λ place. place + 1) ps) (one_by_rank (Uses program) (views_of program) h.places k.places (views_differ program) h.by_rank k.by_rank) ∙ sym k.numbers
+  one_order xs ys h k = h.numbers ∙ ap (λ (ps : List ℕ). map (λ view. view + 1) ps) (one_by_rank (Uses program) (views_of program) h.ranked k.ranked (views_differ program) h.by_rank k.by_rank) ∙ sym k.numbers
 
   pub decided : IsNameDecided program
   decided = record { one_of_two = one_of_two; one_order = one_order; one_fault = one_fault; not_both = not_both }

@@ -39,29 +39,29 @@ names_defined-one before s named one = names_defined-push before s ∙ ap (λ mo
 
 module _ (before : List Statement) (s : Statement) where
   -- only a statement of the program creates a view
-  pub creates_within : (place : ℕ) (name : List ℕ) → CreatesView before place name → (place < length before) ⊎ (length before ≤ place) → place < length before
-  creates_within place name creates (inl below) = below
-  creates_within place name creates (inr past) = absurd (nothing (sym (ap defined_by (get_or_past before place require past)) ∙ creates))
+  pub creates_within : (index : ℕ) (name : List ℕ) → CreatesView before index name → (index < length before) ⊎ (length before ≤ index) → index < length before
+  creates_within index name creates (inl below) = below
+  creates_within index name creates (inr past) = absurd (nothing (sym (ap defined_by (get_or_past before index require past)) ∙ creates))
     where
       nothing : ◌≡◌ {A = List Named} [] (view_named name ∷ []) → ⊥
       nothing e = cc
 
-  creates_kept : (place : ℕ) (name : List ℕ) → place < length before → CreatesView before place name → CreatesView (before ++ s ∷ []) place name
-  creates_kept place name below creates = ap defined_by (get_or_append_left before (s ∷ []) require place below) ∙ creates
+  creates_kept : (index : ℕ) (name : List ℕ) → index < length before → CreatesView before index name → CreatesView (before ++ s ∷ []) index name
+  creates_kept index name below creates = ap defined_by (get_or_append_left before (s ∷ []) require index below) ∙ creates
 
   -- a name that is defined stays so
-  kept_at : (place : ℕ) (named : Named) → (place < length before) ⊎ (length before ≤ place) → defined_by (get_or before place require) ≡ named ∷ [] → defined_by (get_or (before ++ s ∷ []) place require) ≡ named ∷ []
-  kept_at place named (inl below) defines = ap defined_by (get_or_append_left before (s ∷ []) require place below) ∙ defines
-  kept_at place named (inr past) defines = absurd (nothing (sym (ap defined_by (get_or_past before place require past)) ∙ defines))
+  kept_at : (index : ℕ) (named : Named) → (index < length before) ⊎ (length before ≤ index) → defined_by (get_or before index require) ≡ named ∷ [] → defined_by (get_or (before ++ s ∷ []) index require) ≡ named ∷ []
+  kept_at index named (inl below) defines = ap defined_by (get_or_append_left before (s ∷ []) require index below) ∙ defines
+  kept_at index named (inr past) defines = absurd (nothing (sym (ap defined_by (get_or_past before index require past)) ∙ defines))
     where
       nothing : ◌≡◌ {A = List Named} [] (named ∷ []) → ⊥
       nothing e = cc
 
-  creates_cases : (place : ℕ) (name : List ℕ) → (place < length before) ⊎ ((place ≡ length before) ⊎ (length before < place)) → CreatesView (before ++ s ∷ []) place name
-      → CreatesView before place name ⊎ ((place ≡ length before) × (defined_by s ≡ view_named name ∷ []))
-  creates_cases place name (inl below) creates = inl (sym (ap defined_by (get_or_append_left before (s ∷ []) require place below)) ∙ creates)
-  creates_cases place name (inr (inl at)) creates = inr (at, sym (ap defined_by (get_or_push before s require place (sym at))) ∙ creates)
-  creates_cases place name (inr (inr past)) creates = absurd (nothing (sym (ap defined_by (get_or_past (before ++ s ∷ []) place require (omega (arith, length_push before s)))) ∙ creates))
+  creates_cases : (index : ℕ) (name : List ℕ) → (index < length before) ⊎ ((index ≡ length before) ⊎ (length before < index)) → CreatesView (before ++ s ∷ []) index name
+      → CreatesView before index name ⊎ ((index ≡ length before) × (defined_by s ≡ view_named name ∷ []))
+  creates_cases index name (inl below) creates = inl (sym (ap defined_by (get_or_append_left before (s ∷ []) require index below)) ∙ creates)
+  creates_cases index name (inr (inl at)) creates = inr (at, sym (ap defined_by (get_or_push before s require index (sym at))) ∙ creates)
+  creates_cases index name (inr (inr past)) creates = absurd (nothing (sym (ap defined_by (get_or_past (before ++ s ∷ []) index require (omega (arith, length_push before s)))) ∙ creates))
     where
       nothing : ◌≡◌ {A = List Named} [] (view_named name ∷ []) → ⊥
       nothing e = cc
@@ -85,16 +85,16 @@ module _ (before : List Statement) (s : Statement) where
     -- a statement that creates no view leaves the views
     views_kept : (entry : List ℕ → Option (Option ℕ)) → ((q : List ℕ) → ¬ (Contains more (view_named q))) → IndexesViews before entry → IndexesViews (before ++ s ∷ []) entry
     views_kept entry none views = record {
-      there = λ place q creates. ⊎_elim (views.there place q) (λ h. absurd (none q (0, subst (λ (names : List Named). 0 < length names) (sym h.1 ∙ defines) (omega arith), subst (λ (names : List Named). get_or names 0 (view_named q) ≡ view_named q) (sym h.1 ∙ defines) refl)))
-          (creates_cases place q (three place (length before)) creates);
-      only = λ place q is. let old = views.only place q is in creates_kept place q (creates_within place q old (two place (length before))) old;
+      there = λ index q creates. ⊎_elim (views.there index q) (λ h. absurd (none q (0, subst (λ (names : List Named). 0 < length names) (sym h.1 ∙ defines) (omega arith), subst (λ (names : List Named). get_or names 0 (view_named q) ≡ view_named q) (sym h.1 ∙ defines) refl)))
+          (creates_cases index q (three index (length before)) creates);
+      only = λ index q is. let old = views.only index q is in creates_kept index q (creates_within index q old (two index (length before))) old;
       known = λ q is. defined_kept (view_named q) (views.known q is);
       unknown = λ q is at. ⊎_elim (views.unknown q is) (none q) (defined_cases (view_named q) at);
     }
 
     dictionaries_kept : (there : List ℕ → Option ℕ) → ((q : List ℕ) → ¬ (Contains more (dictionary_named q))) → IndexesDictionaries before there → IndexesDictionaries (before ++ s ∷ []) there
     dictionaries_kept there none dictionaries = record {
-      only = λ place q is. kept_at place (dictionary_named q) (two place (length before)) (dictionaries.only place q is);
+      only = λ index q is. kept_at index (dictionary_named q) (two index (length before)) (dictionaries.only index q is);
       known = λ q is. defined_kept (dictionary_named q) (dictionaries.known q is);
       unknown = λ q is at. ⊎_elim (dictionaries.unknown q is) (none q) (defined_cases (dictionary_named q) at);
     }
@@ -109,29 +109,29 @@ module _ (before : List Statement) (s : Statement) where
           by true e = inl ((bytes_eq-Decides name q).0 e, updates q ∙ ap (λ (t : Bool). cond t (Some (Some (length before))) (entry q)) e)
           by false e = inr ((λ same. true≢false (sym ((bytes_eq-Decides name q).1 same) ∙ e)), updates q ∙ ap (λ (t : Bool). cond t (Some (Some (length before))) (entry q)) e)
 
-      view_there : IndexesViews before entry → (place : ℕ) (q : List ℕ) → CreatesView before place q ⊎ ((place ≡ length before) × (defined_by s ≡ view_named q ∷ []))
-          → ((name ≡ q) × (new q ≡ Some (Some (length before)))) ⊎ (¬ (name ≡ q) × (new q ≡ entry q)) → new q ≡ Some (Some place)
-      view_there views place q (inl old) (inl is) = absurd (nothing (sym absent ∙ ap entry is.0 ∙ views.there place q old))
+      view_there : IndexesViews before entry → (index : ℕ) (q : List ℕ) → CreatesView before index q ⊎ ((index ≡ length before) × (defined_by s ≡ view_named q ∷ []))
+          → ((name ≡ q) × (new q ≡ Some (Some (length before)))) ⊎ (¬ (name ≡ q) × (new q ≡ entry q)) → new q ≡ Some (Some index)
+      view_there views index q (inl old) (inl is) = absurd (nothing (sym absent ∙ ap entry is.0 ∙ views.there index q old))
         where
-          nothing : ◌≡◌ {A = Option (Option ℕ)} None (Some (Some place)) → ⊥
+          nothing : ◌≡◌ {A = Option (Option ℕ)} None (Some (Some index)) → ⊥
           nothing e = cc
-      view_there views place q (inl old) (inr is) = is.1 ∙ views.there place q old
-      view_there views place q (inr at) (inl is) = is.1 ∙ ap (λ (n : ℕ). Some (Some n)) (sym at.0)
-      view_there views place q (inr at) (inr is) = absurd (is.0 (same (sym one ∙ at.1)))
+      view_there views index q (inl old) (inr is) = is.1 ∙ views.there index q old
+      view_there views index q (inr at) (inl is) = is.1 ∙ ap (λ (n : ℕ). Some (Some n)) (sym at.0)
+      view_there views index q (inr at) (inr is) = absurd (is.0 (same (sym one ∙ at.1)))
         where
           same : ◌≡◌ {A = List Named} (view_named name ∷ []) (view_named q ∷ []) → name ≡ q
           same e = cc
 
-      view_only : IndexesViews before entry → (place : ℕ) (q : List ℕ) → ((name ≡ q) × (new q ≡ Some (Some (length before)))) ⊎ (¬ (name ≡ q) × (new q ≡ entry q)) → new q ≡ Some (Some place) → CreatesView (before ++ s ∷ []) place q
-      view_only views place q (inl is) h =
-          let at : length before ≡ place = same (sym is.1 ∙ h) in
-          ap defined_by (get_or_push before s require place at) ∙ one ∙ ap (λ (text : List ℕ). view_named text ∷ []) is.0
+      view_only : IndexesViews before entry → (index : ℕ) (q : List ℕ) → ((name ≡ q) × (new q ≡ Some (Some (length before)))) ⊎ (¬ (name ≡ q) × (new q ≡ entry q)) → new q ≡ Some (Some index) → CreatesView (before ++ s ∷ []) index q
+      view_only views index q (inl is) h =
+          let at : length before ≡ index = same (sym is.1 ∙ h) in
+          ap defined_by (get_or_push before s require index at) ∙ one ∙ ap (λ (text : List ℕ). view_named text ∷ []) is.0
         where
-          same : ◌≡◌ {A = Option (Option ℕ)} (Some (Some (length before))) (Some (Some place)) → length before ≡ place
+          same : ◌≡◌ {A = Option (Option ℕ)} (Some (Some (length before))) (Some (Some index)) → length before ≡ index
           same e = cc
-      view_only views place q (inr is) h =
-          let old = views.only place q (sym is.1 ∙ h) in
-          creates_kept place q (creates_within place q old (two place (length before))) old
+      view_only views index q (inr is) h =
+          let old = views.only index q (sym is.1 ∙ h) in
+          creates_kept index q (creates_within index q old (two index (length before))) old
 
       view_known : IndexesViews before entry → (q : List ℕ) → ((name ≡ q) × (new q ≡ Some (Some (length before)))) ⊎ (¬ (name ≡ q) × (new q ≡ entry q)) → IsSome (new q) → Contains (names_defined (before ++ s ∷ [])) (view_named q)
       view_known views q (inl is) h =
@@ -155,8 +155,8 @@ module _ (before : List Statement) (s : Statement) where
       pub index_view : (there : List ℕ → Option ℕ) → IndexesNames before entry there → IndexesNames (before ++ s ∷ []) new there
       index_view there names = record {
         views = record {
-          there = λ place q creates. view_there names.views place q (creates_cases place q (three place (length before)) creates) (updated q);
-          only = λ place q is. view_only names.views place q (updated q) is;
+          there = λ index q creates. view_there names.views index q (creates_cases index q (three index (length before)) creates) (updated q);
+          only = λ index q is. view_only names.views index q (updated q) is;
           known = λ q is. view_known names.views q (updated q) is;
           unknown = λ q is at. view_unknown names.views q (updated q) is (defined_cases (view_named name ∷ []) one (view_named q) at);
         };
@@ -179,13 +179,13 @@ module _ (before : List Statement) (s : Statement) where
           by true e = inl ((bytes_eq-Decides name q).0 e, updates q ∙ ap (λ (t : Bool). cond t (Some (length before)) (there q)) e)
           by false e = inr ((λ same. true≢false (sym ((bytes_eq-Decides name q).1 same) ∙ e)), updates q ∙ ap (λ (t : Bool). cond t (Some (length before)) (there q)) e)
 
-      dictionary_only : IndexesDictionaries before there → (place : ℕ) (q : List ℕ) → Updated q → new q ≡ Some place → CreatesDictionary (before ++ s ∷ []) place q
-      dictionary_only dictionaries place q (inl is) h =
-          ap defined_by (get_or_push before s require place (same (sym is.1 ∙ h))) ∙ one ∙ ap (λ (text : List ℕ). dictionary_named text ∷ []) is.0
+      dictionary_only : IndexesDictionaries before there → (index : ℕ) (q : List ℕ) → Updated q → new q ≡ Some index → CreatesDictionary (before ++ s ∷ []) index q
+      dictionary_only dictionaries index q (inl is) h =
+          ap defined_by (get_or_push before s require index (same (sym is.1 ∙ h))) ∙ one ∙ ap (λ (text : List ℕ). dictionary_named text ∷ []) is.0
         where
-          same : ◌≡◌ {A = Option ℕ} (Some (length before)) (Some place) → length before ≡ place
+          same : ◌≡◌ {A = Option ℕ} (Some (length before)) (Some index) → length before ≡ index
           same e = cc
-      dictionary_only dictionaries place q (inr is) h = kept_at place (dictionary_named q) (two place (length before)) (dictionaries.only place q (sym is.1 ∙ h))
+      dictionary_only dictionaries index q (inr is) h = kept_at index (dictionary_named q) (two index (length before)) (dictionaries.only index q (sym is.1 ∙ h))
 
       dictionary_known : IndexesDictionaries before there → (q : List ℕ) → Updated q → IsSome (new q) → Contains (names_defined (before ++ s ∷ [])) (dictionary_named q)
       dictionary_known dictionaries q (inl is) h =
@@ -210,7 +210,7 @@ module _ (before : List Statement) (s : Statement) where
       index_dictionary entry names = record {
         views = views_kept (dictionary_named name ∷ []) one entry (λ q at. apart q (in_one (dictionary_named name) (view_named q) at)) names.views;
         dictionaries = record {
-          only = λ place q is. dictionary_only names.dictionaries place q (dictionary_updated q) is;
+          only = λ index q is. dictionary_only names.dictionaries index q (dictionary_updated q) is;
           known = λ q is. dictionary_known names.dictionaries q (dictionary_updated q) is;
           unknown = λ q is at. dictionary_unknown names.dictionaries q (dictionary_updated q) is (defined_cases (dictionary_named name ∷ []) one (dictionary_named q) at);
         };
@@ -251,14 +251,14 @@ module _ (entry : List ℕ → Option (Option ℕ)) (there : List ℕ → Option
   entry_cases : (q : List ℕ) → ((codes "Document" ≡ q) × (entry q ≡ Some None)) ⊎ (¬ (codes "Document" ≡ q) × (entry q ≡ None))
   entry_cases q = entry_by q (bytes_eq (codes "Document") q) refl
 
-  first_only : (place : ℕ) (q : List ℕ) → ((codes "Document" ≡ q) × (entry q ≡ Some None)) ⊎ (¬ (codes "Document" ≡ q) × (entry q ≡ None)) → entry q ≡ Some (Some place) → CreatesView [] place q
-  first_only place q (inl is) h = absurd (nothing (sym is.1 ∙ h))
+  first_only : (index : ℕ) (q : List ℕ) → ((codes "Document" ≡ q) × (entry q ≡ Some None)) ⊎ (¬ (codes "Document" ≡ q) × (entry q ≡ None)) → entry q ≡ Some (Some index) → CreatesView [] index q
+  first_only index q (inl is) h = absurd (nothing (sym is.1 ∙ h))
     where
-      nothing : ◌≡◌ {A = Option (Option ℕ)} (Some None) (Some (Some place)) → ⊥
+      nothing : ◌≡◌ {A = Option (Option ℕ)} (Some None) (Some (Some index)) → ⊥
       nothing e = cc
-  first_only place q (inr is) h = absurd (nothing (sym is.1 ∙ h))
+  first_only index q (inr is) h = absurd (nothing (sym is.1 ∙ h))
     where
-      nothing : ◌≡◌ {A = Option (Option ℕ)} None (Some (Some place)) → ⊥
+      nothing : ◌≡◌ {A = Option (Option ℕ)} None (Some (Some index)) → ⊥
       nothing e = cc
 
   first_known : (q : List ℕ) → ((codes "Document" ≡ q) × (entry q ≡ Some None)) ⊎ (¬ (codes "Document" ≡ q) × (entry q ≡ None)) → IsSome (entry q) → Contains (names_defined []) (view_named q)
@@ -279,13 +279,13 @@ module _ (entry : List ℕ → Option (Option ℕ)) (there : List ℕ → Option
   pub index_first : IndexesNames [] entry there
   index_first = record {
     views = record {
-      there = λ place q creates. absurd (nothing q creates);
-      only = λ place q is. first_only place q (entry_cases q) is;
+      there = λ index q creates. absurd (nothing q creates);
+      only = λ index q is. first_only index q (entry_cases q) is;
       known = λ q is. first_known q (entry_cases q) is;
       unknown = λ q is at. first_unknown q (entry_cases q) is (in_one (view_named (codes "Document")) (view_named q) at);
     };
     dictionaries = record {
-      only = λ place q is. absurd (empty place (sym (none q) ∙ is));
+      only = λ index q is. absurd (empty index (sym (none q) ∙ is));
       known = λ q is. absurd (subst (λ (o : Option ℕ). IsSome o → ⊥) (sym (none q)) (λ e. true≢false (sym e)) is);
       unknown = λ q is at. apart q (in_one (view_named (codes "Document")) (dictionary_named q) at);
     };
@@ -295,8 +295,8 @@ module _ (entry : List ℕ → Option (Option ℕ)) (there : List ℕ → Option
       nothing : (q : List ℕ) → ◌≡◌ {A = List Named} [] (view_named q ∷ []) → ⊥
       nothing q e = cc
 
-      empty : (place : ℕ) → ◌≡◌ {A = Option ℕ} None (Some place) → ⊥
-      empty place e = cc
+      empty : (index : ℕ) → ◌≡◌ {A = Option ℕ} None (Some index) → ⊥
+      empty index e = cc
 
       apart : (q : List ℕ) → view_named (codes "Document") ≡ dictionary_named q → ⊥
       apart q e = cc

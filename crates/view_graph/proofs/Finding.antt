@@ -11,16 +11,16 @@ use Rattle.view_graph.specs.Found.{StandsAt}
 use Rattle.view_graph.specs.Kept.{IsIndexed, KeepsGraph}
 use Rattle.view_graph.proofs.Once.{differ_permutation, at_most}
 use Rattle.view_graph.proofs.Sorting.{first_or_rest}
-use Rattle.view_graph.proofs.Places.{views_differ, definer, defined_within}
+use Rattle.view_graph.proofs.Creating.{views_differ, definer, defined_within}
 use Rattle.view_graph.proofs.Following.{view_in}
 
 -- the numbers of an order are distinct
 pub order_differs : (program : List Statement) (order : List ℕ) → IsResolved program order → AllDiffer order
 order_differs program order r = subst (λ (ns : List ℕ). AllDiffer ns) (sym r.numbers) (λ i j d less within same.
-    let below : j < length r.places = omega (arith, within, length-map r.places (λ place. place + 1)) in
-    let one : get_or (map (λ place. place + 1) r.places) i d ≡ get_or r.places i 0 + 1 = get_or-map (λ place. place + 1) r.places i 0 d (omega (arith, less, below)) in
-    let other : get_or (map (λ place. place + 1) r.places) j d ≡ get_or r.places j 0 + 1 = get_or-map (λ place. place + 1) r.places j 0 d below in
-    differ_permutation (views_of program) r.places r.by_rank.each_once (views_differ program) i j 0 less below (omega (arith, one, other, same)))
+    let below : j < length r.ranked = omega (arith, within, length-map r.ranked (λ view. view + 1)) in
+    let one : get_or (map (λ view. view + 1) r.ranked) i d ≡ get_or r.ranked i 0 + 1 = get_or-map (λ view. view + 1) r.ranked i 0 d (omega (arith, less, below)) in
+    let other : get_or (map (λ view. view + 1) r.ranked) j d ≡ get_or r.ranked j 0 + 1 = get_or-map (λ view. view + 1) r.ranked j 0 d below in
+    differ_permutation (views_of program) r.ranked r.by_rank.each_once (views_differ program) i j 0 less below (omega (arith, one, other, same)))
 
 -- no more numbers than statements
 pub order_short : (order : List ℕ) (count : ℕ) → All (λ number. (0 < number) × (number ≤ count)) order → AllDiffer order → length order ≤ count + 1
@@ -57,46 +57,46 @@ indexed_all order indexes count i range end long all = λ k below. (let r = rang
 same_view : (a b : List ℕ) → view_named a ≡ view_named b → a ≡ b
 same_view a b e = cc
 
-nothing : (place : ℕ) → ◌≡◌ {A = Option (Option ℕ)} (Some None) (Some (Some place)) → ⊥
-nothing place e = cc
+nothing : (view : ℕ) → ◌≡◌ {A = Option (Option ℕ)} (Some None) (Some (Some view)) → ⊥
+nothing view e = cc
 
 module _ (program : List Statement) (order : List ℕ) (views : List ℕ → Option (Option ℕ)) (dictionaries : List ℕ → Option ℕ) (indexes : List ℕ)
     (kept : KeepsGraph program order views dictionaries indexes) where
   -- a view of the map is that of a statement
-  pub view_within : (place : ℕ) (name : List ℕ) → views name ≡ Some (Some place) → place < length program
-  view_within place name e = defined_within program kept.names.distinct place (view_named name) (kept.names.views.only place name e) (cases_lt place (length program))
+  pub view_within : (view : ℕ) (name : List ℕ) → views name ≡ Some (Some view) → view < length program
+  view_within view name e = defined_within program kept.names.distinct view (view_named name) (kept.names.views.only view name e) (cases_lt view (length program))
 
-  pub dictionary_within : (place : ℕ) (name : List ℕ) → dictionaries name ≡ Some place → place < length program
-  dictionary_within place name e = defined_within program kept.names.distinct place (dictionary_named name) (kept.names.dictionaries.only place name e) (cases_lt place (length program))
+  pub dictionary_within : (index : ℕ) (name : List ℕ) → dictionaries name ≡ Some index → index < length program
+  dictionary_within index name e = defined_within program kept.names.distinct index (dictionary_named name) (kept.names.dictionaries.only index name e) (cases_lt index (length program))
 
-  in_order : (place : ℕ) (name : List ℕ) → views name ≡ Some (Some place) → (index : ℕ) × (index < length order) × (get_or order index 0 ≡ place + 1)
-  in_order place name e =
-      let at = view_in program kept.resolved.places kept.resolved.outputs kept.resolved.no_cycle kept.resolved.by_rank kept.resolved.used_first place name (view_within place name e) (kept.names.views.only place name e) in
-      let long : length order ≡ length kept.resolved.places = ap length kept.resolved.numbers ∙ length-map kept.resolved.places (λ place. place + 1) in (
+  in_order : (view : ℕ) (name : List ℕ) → views name ≡ Some (Some view) → (index : ℕ) × (index < length order) × (get_or order index 0 ≡ view + 1)
+  in_order view name e =
+      let at = view_in program kept.resolved.ranked kept.resolved.outputs kept.resolved.no_cycle kept.resolved.by_rank kept.resolved.used_first view name (view_within view name e) (kept.names.views.only view name e) in
+      let long : length order ≡ length kept.resolved.ranked = ap length kept.resolved.numbers ∙ length-map kept.resolved.ranked (λ view. view + 1) in (
         at.0,
         omega (arith, long, at.1),
-        ap (λ (ns : List ℕ). get_or ns at.0 0) kept.resolved.numbers ∙ get_or-map (λ place. place + 1) kept.resolved.places at.0 0 0 at.1
-            ∙ ap (λ (p : ℕ). p + 1) (get_or_default kept.resolved.places at.0 0 place at.1 ∙ at.2),
+        ap (λ (ns : List ℕ). get_or ns at.0 0) kept.resolved.numbers ∙ get_or-map (λ view. view + 1) kept.resolved.ranked at.0 0 0 at.1
+            ∙ ap (λ (p : ℕ). p + 1) (get_or_default kept.resolved.ranked at.0 0 view at.1 ∙ at.2),
       )
 
-  pub index_within : (place : ℕ) (name : List ℕ) → views name ≡ Some (Some place) → place < length indexes
-  index_within place name e = let at = in_order place name e in let h = kept.indexed at.0 at.1 in omega (arith, at.2, h.0)
+  pub index_within : (view : ℕ) (name : List ℕ) → views name ≡ Some (Some view) → view < length indexes
+  index_within view name e = let at = in_order view name e in let h = kept.indexed at.0 at.1 in omega (arith, at.2, h.0)
 
   -- where the view stands
-  pub stands : (place : ℕ) (name : List ℕ) → views name ≡ Some (Some place) → (index : ℕ) → index ≡ get_or indexes place 0 → StandsAt program order name (place + 1) index
-  stands place name e index is =
-      let at = in_order place name e in
+  pub stands : (view : ℕ) (name : List ℕ) → views name ≡ Some (Some view) → (index : ℕ) → index ≡ get_or indexes view 0 → StandsAt program order name (view + 1) index
+  stands view name e index is =
+      let at = in_order view name e in
       let h = kept.indexed at.0 at.1 in
-      let back : get_or order at.0 0 - 1 ≡ place = omega (arith, at.2) in
+      let back : get_or order at.0 0 - 1 ≡ view = omega (arith, at.2) in
       let same : at.0 ≡ index = sym h.1 ∙ ap (λ (p : ℕ). get_or indexes p 0) back ∙ sym is in
-      let before : place ≡ place + 1 - 1 = omega arith in
+      let before : view ≡ view + 1 - 1 = omega arith in
       record {
-        creates = subst (λ (p : ℕ). CreatesView program p name) before (kept.names.views.only place name e);
+        creates = subst (λ (p : ℕ). CreatesView program p name) before (kept.names.views.only view name e);
         within = omega (arith, same, at.1);
-        number_is = subst (λ (k : ℕ). get_or order k 0 ≡ place + 1) same at.2;
+        number_is = subst (λ (k : ℕ). get_or order k 0 ≡ view + 1) same at.2;
       }
 
-  -- the one name that has no place
+  -- the one name that has no statement
   pub is_document : (name : List ℕ) → views name ≡ Some None → name ≡ codes "Document"
   is_document name e =
       ⊎_elim

@@ -19,7 +19,7 @@ pub mod Turning
 pub mod Longest
 pub mod Sorting
 -- the relation of the program, and the answers
-pub mod Places
+pub mod Creating
 pub mod Following
 pub mod Relations
 pub mod Resolving

@@ -11,7 +11,7 @@ use Rattle.view_graph.specs.Faults.{LooksUpUndefined}
 use Rattle.view_graph.specs.Uses.{CreatesView, statement_at}
 use Rattle.view_graph.specs.Answers.{IsNameFault}
 use Rattle.view_graph.specs.Indexes.{IndexesNames}
-use Rattle.view_graph.specs.Lookups.{LooksUp, PlacesOf, PlacesUsed, MentionsUndefined, Unknown, IsUseGraph}
+use Rattle.view_graph.specs.Lookups.{LooksUp, AreViewsNamed, AreViewsUsed, MentionsUndefined, Unknown, IsUseGraph}
 use Rattle.view_graph.proofs.Defining.{flat_map-push}
 
 same_view : (a b : List ℕ) → view_named a ≡ view_named b → a ≡ b
@@ -28,37 +28,37 @@ module _ (program : List Statement) (entry : List ℕ → Option (Option ℕ)) (
   is_some : (entered : Option ℕ) → entry text ≡ Some entered → IsSome (entry text)
   is_some entered e = subst (λ (o : Option (Option ℕ)). IsSome o) (sym e) refl
 
-  pub found_view : (place : ℕ) → named ≡ view_named text → entry text ≡ Some (Some place) → LooksUp program named (View place)
-  found_view place is e = (
-    defined_as (view_named text) is (names.views.known text (is_some (Some place) e)),
-    (text, is, names.views.only place text e),
+  pub found_view : (view : ℕ) → named ≡ view_named text → entry text ≡ Some (Some view) → LooksUp program named (View view)
+  found_view view is e = (
+    defined_as (view_named text) is (names.views.known text (is_some (Some view) e)),
+    (text, is, names.views.only view text e),
     λ other name named_is creates.
         same other (ap (λ (t : List ℕ). entry t) (same_view text name (sym is ∙ named_is)) ∙ names.views.there other name creates),
   )
     where
-      same : (other : ℕ) → entry text ≡ Some (Some other) → other ≡ place
+      same : (other : ℕ) → entry text ≡ Some (Some other) → other ≡ view
       same other h = pair (sym h ∙ e)
         where
-          pair : ◌≡◌ {A = Option (Option ℕ)} (Some (Some other)) (Some (Some place)) → other ≡ place
+          pair : ◌≡◌ {A = Option (Option ℕ)} (Some (Some other)) (Some (Some view)) → other ≡ view
           pair q = cc
 
   pub found_document : named ≡ view_named text → entry text ≡ Some None → LooksUp program named Other
   found_document is e = (
     defined_as (view_named text) is (names.views.known text (is_some None e)),
-    λ place name named_is creates.
-        nothing place (sym e ∙ ap (λ (t : List ℕ). entry t) (same_view text name (sym is ∙ named_is)) ∙ names.views.there place name creates),
+    λ view name named_is creates.
+        nothing view (sym e ∙ ap (λ (t : List ℕ). entry t) (same_view text name (sym is ∙ named_is)) ∙ names.views.there view name creates),
   )
     where
-      nothing : (place : ℕ) → ◌≡◌ {A = Option (Option ℕ)} (Some None) (Some (Some place)) → ⊥
-      nothing place q = cc
+      nothing : (view : ℕ) → ◌≡◌ {A = Option (Option ℕ)} (Some None) (Some (Some view)) → ⊥
+      nothing view q = cc
 
   pub found_no_view : named ≡ view_named text → entry text ≡ None → LooksUp program named Nothing
   found_no_view is e = λ at. names.views.unknown text e (subst (λ (n : Named). IsDefined program n) is at)
 
-  pub found_dictionary : (place : ℕ) → named ≡ dictionary_named text → there text ≡ Some place → LooksUp program named Other
-  found_dictionary place is e = (
+  pub found_dictionary : (view : ℕ) → named ≡ dictionary_named text → there text ≡ Some view → LooksUp program named Other
+  found_dictionary view is e = (
     defined_as (dictionary_named text) is (names.dictionaries.known text (subst (λ (o : Option ℕ). IsSome o) (sym e) refl)),
-    λ place name named_is creates. apart text name (sym is ∙ named_is),
+    λ view name named_is creates. apart text name (sym is ∙ named_is),
   )
 
   pub found_no_dictionary : named ≡ dictionary_named text → there text ≡ None → LooksUp program named Nothing
@@ -66,31 +66,31 @@ module _ (program : List Statement) (entry : List ℕ → Option (Option ℕ)) (
 
 module _ (program : List Statement) where
   -- no name
-  pub places_none : PlacesOf program [] []
-  places_none = record {
+  pub no_views : AreViewsNamed program [] []
+  no_views = record {
     defined = λ k d below. absurd (omega arith);
-    only = λ place at. absurd (omega (arith, at.1));
-    each = λ place name at creates. absurd (omega (arith, at.1));
+    only = λ view at. absurd (omega (arith, at.1));
+    each = λ view name at creates. absurd (omega (arith, at.1));
   }
 
-  module _ (names : List Named) (named : Named) (places : List ℕ) (before : PlacesOf program names places) where
+  module _ (names : List Named) (named : Named) (views : List ℕ) (before : AreViewsNamed program names views) where
     -- one more that is a view of the program
-    pub places_view : (place : ℕ) → LooksUp program named (View place) → PlacesOf program (names ++ named ∷ []) (places ++ place ∷ [])
-    places_view place found = record {
+    pub with_view : (view : ℕ) → LooksUp program named (View view) → AreViewsNamed program (names ++ named ∷ []) (views ++ view ∷ [])
+    with_view view found = record {
       defined = All-push (IsDefined program) names named before.defined found.0;
       only = λ other at. ⊎_elim
           (λ old. let h = before.only other old in (h.0, Contains-append_left names (named ∷ []) (view_named h.0) h.1, h.2))
           (λ same. (found.1.0, subst (λ (n : Named). Contains (names ++ named ∷ []) n) found.1.1 (Contains-push names named), subst (λ (p : ℕ). CreatesView program p found.1.0) same found.1.2))
-          (Contains-push_cases places place other at);
+          (Contains-push_cases views view other at);
       each = λ other name at creates. ⊎_elim
-          (λ old. Contains-append_left places (place ∷ []) other (before.each other name old creates))
-          (λ same. subst (λ (p : ℕ). Contains (places ++ place ∷ []) p) (sym (found.2 other name same creates)) (Contains-push places place))
+          (λ old. Contains-append_left views (view ∷ []) other (before.each other name old creates))
+          (λ same. subst (λ (p : ℕ). Contains (views ++ view ∷ []) p) (sym (found.2 other name same creates)) (Contains-push views view))
           (Contains-push_cases names named (view_named name) at);
     }
 
     -- one more that is none
-    pub places_other : LooksUp program named Other → PlacesOf program (names ++ named ∷ []) places
-    places_other found = record {
+    pub with_other : LooksUp program named Other → AreViewsNamed program (names ++ named ∷ []) views
+    with_other found = record {
       defined = All-push (IsDefined program) names named before.defined found.0;
       only = λ other at. let h = before.only other at in (h.0, Contains-append_left names (named ∷ []) (view_named h.0) h.1, h.2);
       each = λ other name at creates. ⊎_elim
@@ -133,30 +133,30 @@ module _ (program : List Statement) where
       by (dictionary_named name) is undefined fault_is = subst (λ (f : NameFault). IsNameFault program f) (sym fault_is) (distinct, unknown (dictionary_named name) is undefined)
 
 -- the query of a view uses what it names
-pub used_by_view : (program : List Statement) (s : Statement) (name : Name) (query : Query) (places : List ℕ) (names : List Named) → s ≡ create name query → names ≡ names_in_query query
-    → PlacesOf program names places → PlacesUsed program s places
-used_by_view program s name query places names is names_is found =
-    let looked : PlacesOf program (names_in_query query) places = subst (λ (ns : List Named). PlacesOf program ns places) names_is found in
-    subst (λ (s : Statement). PlacesUsed program s places) (sym is) (record { looked_up = looked.defined; used = looked })
+pub used_by_view : (program : List Statement) (s : Statement) (name : Name) (query : Query) (views : List ℕ) (names : List Named) → s ≡ create name query → names ≡ names_in_query query
+    → AreViewsNamed program names views → AreViewsUsed program s views
+used_by_view program s name query views names is names_is found =
+    let looked : AreViewsNamed program (names_in_query query) views = subst (λ (ns : List Named). AreViewsNamed program ns views) names_is found in
+    subst (λ (s : Statement). AreViewsUsed program s views) (sym is) (record { looked_up = looked.defined; used = looked })
 
 -- one more statement
-pub graph_more : (program : List Statement) (n : ℕ) (uses new : List (List ℕ)) (used : List ℕ) → n < length program → IsUseGraph program n uses → PlacesUsed program (statement_at program n) used
+pub graph_more : (program : List Statement) (n : ℕ) (uses new : List (List ℕ)) (used : List ℕ) → n < length program → IsUseGraph program n uses → AreViewsUsed program (statement_at program n) used
     → new ≡ uses ++ used ∷ [] → IsUseGraph program (n + 1) new
 graph_more program n uses new used within graph found is = subst (λ (all : List (List ℕ)). IsUseGraph program (n + 1) all) (sym is) (record {
   length_is = omega (arith, length_push uses used, graph.length_is);
   looked_up = subst (λ (names : List Named). All (IsDefined program) names)
       (sym (ap names_looked_up (take_more program n require within) ∙ flat_map-push looked_up_by (take n program) (statement_at program n)))
       (All-append (IsDefined program) (names_looked_up (take n program)) (looked_up_by (statement_at program n)) graph.looked_up found.looked_up);
-  used = λ place below. by place (cases_order place n) below;
+  used = λ view below. by view (cases_order view n) below;
 })
   where
-    at : (place : ℕ) (places : List ℕ) → get_or (uses ++ used ∷ []) place [] ≡ places → PlacesOf program (names_used_by (statement_at program place)) places
-        → PlacesOf program (names_used_by (statement_at program place)) (get_or (uses ++ used ∷ []) place [])
-    at place places same is = subst (λ (ps : List ℕ). PlacesOf program (names_used_by (statement_at program place)) ps) (sym same) is
+    at : (view : ℕ) (views : List ℕ) → get_or (uses ++ used ∷ []) view [] ≡ views → AreViewsNamed program (names_used_by (statement_at program view)) views
+        → AreViewsNamed program (names_used_by (statement_at program view)) (get_or (uses ++ used ∷ []) view [])
+    at view views same is = subst (λ (ps : List ℕ). AreViewsNamed program (names_used_by (statement_at program view)) ps) (sym same) is
 
-    by : (place : ℕ) → (place ≡ n) ⊎ ((place < n) ⊎ (n < place)) → place < n + 1 → PlacesOf program (names_used_by (statement_at program place)) (get_or (uses ++ used ∷ []) place [])
-    by place (inl same) below =
-        at place used (get_or_push uses used [] place (graph.length_is ∙ sym same)) (subst (λ (p : ℕ). PlacesOf program (names_used_by (statement_at program p)) used) (sym same) found.used)
-    by place (inr (inl before)) below =
-        at place (get_or uses place []) (get_or_append_left uses (used ∷ []) [] place (omega (arith, graph.length_is))) (graph.used place before)
-    by place (inr (inr past)) below = absurd (omega arith)
+    by : (view : ℕ) → (view ≡ n) ⊎ ((view < n) ⊎ (n < view)) → view < n + 1 → AreViewsNamed program (names_used_by (statement_at program view)) (get_or (uses ++ used ∷ []) view [])
+    by view (inl same) below =
+        at view used (get_or_push uses used [] view (graph.length_is ∙ sym same)) (subst (λ (p : ℕ). AreViewsNamed program (names_used_by (statement_at program p)) used) (sym same) found.used)
+    by view (inr (inl before)) below =
+        at view (get_or uses view []) (get_or_append_left uses (used ∷ []) [] view (omega (arith, graph.length_is))) (graph.used view before)
+    by view (inr (inr past)) below = absurd (omega arith)

@@ -54,7 +54,7 @@ pub differ_push : {X : Type 0} (xs : List X) (x : X) → AllDiffer xs → ¬ (Co
 differ_push xs x differ new =
     all_pairs_push (λ a b. ¬ (a ≡ b)) xs x differ (λ k d below is. new (k, below, get_or_default xs k x d below ∙ is))
 
--- ---- the same list cut at two places
+-- ---- the same list cut at two indexes
 
 -- what stands before the later cut
 pub later_cut : {S : Type 0} (b c : List S) (s t : S) (a e : List S) → b ++ s ∷ a ≡ c ++ t ∷ e → length b < length c → (more : List S) × (c ≡ b ++ s ∷ more)

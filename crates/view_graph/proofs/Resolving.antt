@@ -34,10 +34,10 @@ are_used program views circle k d below = by k below
         at (suc k) below (h.name, subst (λ (i : ℕ). CreatesView program (get_or views i 0) h.name) (omega arith) h.view)
 
 -- what comes after a view has no lesser rank, so the view doesn't use it
-used_first : (program : List Statement) (places : List ℕ) → IsByRank (Uses program) (views_of program) places → AllPairs (λ view later. ¬ (Uses program view later)) places
-used_first program places ranks = λ i j d before within uses.
+used_first : (program : List Statement) (ranked : List ℕ) → IsByRank (Uses program) (views_of program) ranked → AllPairs (λ view later. ¬ (Uses program view later)) ranked
+used_first program ranked ranks = λ i j d before within uses.
     let c = ranks.in_order i j d before within in
-    let less = lesser_rank (Uses program) (get_or places i d) (get_or places j d) c.rank c.other_rank uses c.ranked c.other_ranked in
+    let less = lesser_rank (Uses program) (get_or ranked i d) (get_or ranked j d) c.rank c.other_rank uses c.ranked c.other_ranked in
     ⊎_elim (λ lower. omega (arith, less, lower)) (λ same. omega (arith, less, same.0)) c.in_order
 
 -- names that are defined once and looked up
@@ -48,17 +48,17 @@ has_names program count uses all distinct graph = record {
 }
 
 -- where no view uses itself through others, views by rank are the answer
-pub resolved_by : (program : List Statement) (places : List ℕ) → HasOutputs program → ((views : List ℕ) → ¬ (IsClosed (Uses program) views)) → IsByRank (Uses program) (views_of program) places → (order : List ℕ) → order ≡ map (λ place. place + 1) places
+pub resolved_by : (program : List Statement) (ranked : List ℕ) → HasOutputs program → ((views : List ℕ) → ¬ (IsClosed (Uses program) views)) → IsByRank (Uses program) (views_of program) ranked → (order : List ℕ) → order ≡ map (λ view. view + 1) ranked
     → IsResolved program order
-resolved_by program places outputs no_cycle ranks order numbers = record {
+resolved_by program ranked outputs no_cycle ranks order numbers = record {
   outputs = outputs;
   no_cycle = no_cycle;
-  places = places;
+  ranked = ranked;
   by_rank = ranks;
   numbers = numbers;
   one_rank = one_rank (Uses program);
-  used_first = used_first program places ranks;
-  follows = subst (λ (ns : List ℕ). FollowsUses program ns) (sym numbers) (follows program places outputs no_cycle ranks (used_first program places ranks));
+  used_first = used_first program ranked ranks;
+  follows = subst (λ (ns : List ℕ). FollowsUses program ns) (sym numbers) (follows program ranked outputs no_cycle ranks (used_first program ranked ranks));
 }
 
 module _ (program : List Statement) (uses : List (List ℕ)) (graph : IsUseGraph program (length program) uses) (outputs : HasOutputs program) where
@@ -69,16 +69,16 @@ module _ (program : List Statement) (uses : List (List ℕ)) (graph : IsUseGraph
       let ranks = by_rank_along (Edge uses) (Uses program) (edge_uses program uses graph) (uses_edge program uses graph) (views_of program) h.0 h.1 in
       resolved_by program h.0 outputs (no_circle_done program uses graph marks all) ranks order h.2
 
-  module _ (places cycle : List ℕ) (circle : IsClosed (Edge uses) places) (distinct : AllDiffer places) (begun : IsBegunAtLeast places cycle) where
+  module _ (way cycle : List ℕ) (circle : IsClosed (Edge uses) way) (distinct : AllDiffer way) (begun : IsBegunAtLeast way cycle) where
     turned : IsCycle (Uses program) cycle
-    turned = cycle_along (Edge uses) (Uses program) (edge_uses program uses graph) cycle (IsCycle-turned (Edge uses) places cycle circle distinct begun)
+    turned = cycle_along (Edge uses) (Uses program) (edge_uses program uses graph) cycle (IsCycle-turned (Edge uses) way cycle circle distinct begun)
 
     pub are_views : AreViews program cycle
     are_views = are_used program cycle turned.closed
 
     -- a circle is the fault
     pub cycle_fault : (views : List (List ℕ)) → AllZip (CreatesView program) cycle views → IsNameFault program (Cycle views)
-    cycle_fault views named = (outputs, record { places = cycle; cycle = turned; named = named })
+    cycle_fault views named = (outputs, record { indexes = cycle; cycle = turned; named = named })
 
 -- an output's name that stands twice is the fault
 pub output_fault : (program : List Statement) → HasNames program → (fault : NameFault) → IsOutputAgain program fault → IsNameFault program fault

@@ -95,7 +95,7 @@ module _ (R : ℕ → ℕ → Type 0) where
       by (inl same) (inl above) = inr (from (inr (sym same, omega (arith, above))))
       by (inl same) (inr below) = inl (to (inr (same, below)))
 
-  -- a number put into its place
+  -- a number put where it belongs
   put : (v : ℕ) (xs : List ℕ) → Ranked v → All Ranked xs → AllPairs (ComesBefore R) xs → (ys : List ℕ) × IsPermutation (v ∷ xs) ys × AllPairs (ComesBefore R) ys
   put v [] rank ranked order = (v ∷ [], IsPermutation-refl (v ∷ []), λ i j d less within. absurd (omega (arith, less, within)))
   put v (x ∷ xs) rank ranked order = by (one_before v x rank (All-head Ranked x xs ranked)) (put v xs rank (All-tail Ranked x xs ranked) (pairs_tail (ComesBefore R) x xs order))

@@ -21,9 +21,9 @@ pub record HasOutputs (program : List Statement) : Type 0 where
 
 -- the views of the list, by their names, are a cycle
 pub record NamesCycle (program : List Statement) (views : List (List ℕ)) : Type 0 where
-  pub places : List ℕ
-  pub cycle : IsCycle (Uses program) places
-  pub named : AllZip (CreatesView program) places views
+  pub indexes : List ℕ
+  pub cycle : IsCycle (Uses program) indexes
+  pub named : AllZip (CreatesView program) indexes views
 
 -- the fault is the program's first: of names defined, then of names looked up, then of outputs, then a cycle
 abbrev pub IsNameFault : List Statement → NameFault → Type 0
@@ -46,8 +46,8 @@ pub record StandsBefore (program : List Statement) (order : List ℕ) (index : �
 pub record FollowsUses (program : List Statement) (order : List ℕ) : Type 0 where
   pub in_program : All (λ number. (0 < number) × (number ≤ length program)) order
   pub views : All (λ number. IsView (statement_numbered program number)) order
-  pub one_view : (place other : ℕ) (name : List ℕ) → CreatesView program place name → CreatesView program other name → place ≡ other
-  pub no_document : (place : ℕ) → ¬ (CreatesView program place (codes "Document"))
+  pub one_view : (view other : ℕ) (name : List ℕ) → CreatesView program view name → CreatesView program other name → view ≡ other
+  pub no_document : (view : ℕ) → ¬ (CreatesView program view (codes "Document"))
   pub used_before : (index : ℕ) (name : List ℕ) → index < length order → Contains (names_used_by (statement_numbered program (slice_index order index))) (view_named name)
       → (name ≡ codes "Document") ⊎ StandsBefore program order index name
 
@@ -56,11 +56,11 @@ pub record FollowsUses (program : List Statement) (order : List ℕ) : Type 0 wh
 pub record IsResolved (program : List Statement) (order : List ℕ) : Type 0 where
   pub outputs : HasOutputs program
   pub no_cycle : (views : List ℕ) → ¬ (IsClosed (Uses program) views)
-  pub places : List ℕ
-  pub by_rank : IsByRank (Uses program) (views_of program) places
-  pub numbers : order ≡ map (λ place. place + 1) places
+  pub ranked : List ℕ
+  pub by_rank : IsByRank (Uses program) (views_of program) ranked
+  pub numbers : order ≡ map (λ view. view + 1) ranked
   pub one_rank : (view rank other : ℕ) → HasRank (Uses program) view rank → HasRank (Uses program) view other → rank ≡ other
-  pub used_first : AllPairs (λ view later. ¬ (Uses program view later)) places
+  pub used_first : AllPairs (λ view later. ¬ (Uses program view later)) ranked
   pub follows : FollowsUses program order
 
 abbrev pub IsCycleFault : NameFault → Type 0

@@ -27,16 +27,16 @@ abbrev pub AddsText : (List ℕ → Bool) → (List ℕ → Bool) → List ℕ �
 AddsText old new name true = (old name ≡ false) × ((q : List ℕ) → new q ≡ (if bytes_eq name q then true else old q))
 AddsText old new name false = old name ≡ true
 
--- each view has the place of its statement, and `Document` none
+-- each view has the index of its statement, and `Document` none
 pub record IndexesViews (before : List Statement) (entry : List ℕ → Option (Option ℕ)) : Type 0 where
-  pub there : (place : ℕ) (name : List ℕ) → CreatesView before place name → entry name ≡ Some (Some place)
-  pub only : (place : ℕ) (name : List ℕ) → entry name ≡ Some (Some place) → CreatesView before place name
+  pub there : (index : ℕ) (name : List ℕ) → CreatesView before index name → entry name ≡ Some (Some index)
+  pub only : (index : ℕ) (name : List ℕ) → entry name ≡ Some (Some index) → CreatesView before index name
   pub known : (name : List ℕ) → IsSome (entry name) → Contains (names_defined before) (view_named name)
   pub unknown : (name : List ℕ) → entry name ≡ None → ¬ (Contains (names_defined before) (view_named name))
 
--- each dictionary has the place of its statement
+-- each dictionary has the index of its statement
 pub record IndexesDictionaries (before : List Statement) (entry : List ℕ → Option ℕ) : Type 0 where
-  pub only : (place : ℕ) (name : List ℕ) → entry name ≡ Some place → CreatesDictionary before place name
+  pub only : (index : ℕ) (name : List ℕ) → entry name ≡ Some index → CreatesDictionary before index name
   pub known : (name : List ℕ) → IsSome (entry name) → Contains (names_defined before) (dictionary_named name)
   pub unknown : (name : List ℕ) → entry name ≡ None → ¬ (Contains (names_defined before) (dictionary_named name))
 

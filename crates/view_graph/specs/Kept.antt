@@ -5,7 +5,7 @@ use Rattle.aql_syntax.specs.Shapes.{IsFormed}
 use Rattle.view_graph.specs.Answers.{IsResolved}
 use Rattle.view_graph.specs.Indexes.{IndexesNames}
 
--- the index of each number of the order, by the place of its statement
+-- the index of each number of the order, by the index of its statement
 abbrev pub IsIndexed : List ℕ → List ℕ → Type 0
 IsIndexed order indexes =
     (index : ℕ) → index < length order → (slice_index order index - 1 < length indexes) × (slice_index indexes (slice_index order index - 1) ≡ index)

@@ -8,26 +8,26 @@ use Rattle.view_graph.specs.declared.fault.NameFault.TheVariants.{UnknownView, U
 use Rattle.view_graph.specs.Names.{Named, view_named, dictionary_named, names_used_by, looked_up_by, names_looked_up, IsDefined}
 use Rattle.view_graph.specs.Uses.{CreatesView, statement_at}
 
--- what is found of a name: the one place that creates the view, or that it is defined and no view of the program
+-- what is found of a name: the one statement that creates the view, or that it is defined and no view of the program
 abbrev pub LooksUp : List Statement → Named → Found → Type 0
-LooksUp program named (View place) =
+LooksUp program named (View view) =
     IsDefined program named
-    × ((name : List ℕ) × (named ≡ view_named name) × CreatesView program place name)
-    × ((other : ℕ) (name : List ℕ) → named ≡ view_named name → CreatesView program other name → other ≡ place)
+    × ((name : List ℕ) × (named ≡ view_named name) × CreatesView program view name)
+    × ((other : ℕ) (name : List ℕ) → named ≡ view_named name → CreatesView program other name → other ≡ view)
 LooksUp program named Other =
-    IsDefined program named × ((place : ℕ) (name : List ℕ) → named ≡ view_named name → ¬ (CreatesView program place name))
+    IsDefined program named × ((view : ℕ) (name : List ℕ) → named ≡ view_named name → ¬ (CreatesView program view name))
 LooksUp program named Nothing = ¬ (IsDefined program named)
 
--- the names are defined, and the places are those of the views among them
-pub record PlacesOf (program : List Statement) (names : List Named) (places : List ℕ) : Type 0 where
+-- the names are defined, and the views are those among them
+pub record AreViewsNamed (program : List Statement) (names : List Named) (views : List ℕ) : Type 0 where
   pub defined : All (IsDefined program) names
-  pub only : (place : ℕ) → Contains places place → (name : List ℕ) × Contains names (view_named name) × CreatesView program place name
-  pub each : (place : ℕ) (name : List ℕ) → Contains names (view_named name) → CreatesView program place name → Contains places place
+  pub only : (view : ℕ) → Contains views view → (name : List ℕ) × Contains names (view_named name) × CreatesView program view name
+  pub each : (view : ℕ) (name : List ℕ) → Contains names (view_named name) → CreatesView program view name → Contains views view
 
--- what the statement looks up is defined, and the places are those of the views that it uses
-pub record PlacesUsed (program : List Statement) (statement : Statement) (places : List ℕ) : Type 0 where
+-- what the statement looks up is defined, and the views are those that it uses
+pub record AreViewsUsed (program : List Statement) (statement : Statement) (views : List ℕ) : Type 0 where
   pub looked_up : All (IsDefined program) (looked_up_by statement)
-  pub used : PlacesOf program (names_used_by statement) places
+  pub used : AreViewsNamed program (names_used_by statement) views
 
 abbrev pub Unknown : ℕ → Named → NameFault → Type 0
 Unknown number (view_named name) fault = fault ≡ UnknownView number name
@@ -43,8 +43,8 @@ pub record MentionsUndefined (program : List Statement) (number : ℕ) (names : 
   pub first : All (IsDefined program) earlier
   pub is : Unknown number named fault
 
--- for each of the first statements the places of the views that it uses
+-- for each of the first statements the views that it uses
 pub record IsUseGraph (program : List Statement) (count : ℕ) (uses : List (List ℕ)) : Type 0 where
   pub length_is : length uses ≡ count
   pub looked_up : All (IsDefined program) (names_looked_up (take count program))
-  pub used : (place : ℕ) → place < count → PlacesOf program (names_used_by (statement_at program place)) (slice_index_or uses place [])
+  pub used : (view : ℕ) → view < count → AreViewsNamed program (names_used_by (statement_at program view)) (slice_index_or uses view [])

@@ -5,9 +5,9 @@ use Rattle.view_graph.specs.declared.search.Mark.TheVariants.{Unseen, Open, Rank
 use Rattle.view_graph.specs.declared.search.Frame.{Frame}
 use Rattle.view_graph.specs.Graphs.{HasRank}
 
--- the views that a view uses, by their places
+-- the views that a view uses; a view is told by its index, from 0
 abbrev pub used_in : List (List ℕ) → ℕ → List ℕ
-used_in uses place = slice_index_or uses place []
+used_in uses view = slice_index_or uses view []
 
 abbrev pub Edge : List (List ℕ) → ℕ → ℕ → Type 0
 Edge uses user used = Contains (used_in uses user) used
@@ -17,7 +17,7 @@ abbrev pub IsGraph : List (List ℕ) → Type 0
 IsGraph uses = (user used : ℕ) → Edge uses user used → used < length uses
 
 abbrev pub mark_at : List Mark → ℕ → Mark
-mark_at marks place = slice_index_or marks place Unseen
+mark_at marks view = slice_index_or marks view Unseen
 
 abbrev pub is_unseen : Mark → Bool
 is_unseen Unseen = true
@@ -39,39 +39,39 @@ done marks = count_by is_ranked marks
 
 -- no view that was met is unseen again
 abbrev pub StaysSeen : List Mark → List Mark → Type 0
-StaysSeen old new = (place : ℕ) → mark_at new place ≡ Unseen → mark_at old place ≡ Unseen
+StaysSeen old new = (view : ℕ) → mark_at new view ≡ Unseen → mark_at old view ≡ Unseen
 
 -- a view that was just met
 abbrev pub begun : ℕ → Frame
-begun place = record { place = place; next = 0; rank = 0 }
+begun view = record { view = view; next = 0; rank = 0 }
 
 abbrev pub frame_at : List Frame → ℕ → Frame
 frame_at stack depth = slice_index_or stack depth (begun 0)
 
 -- the views before `next` among those used have ranks below `rank`, and one has the rank just below it
 pub record IsScanned (uses : List (List ℕ)) (frame : Frame) : Type 0 where
-  pub within : frame.next ≤ length (used_in uses frame.place)
-  pub below : (k : ℕ) → k < frame.next → (rank : ℕ) × HasRank (Edge uses) (slice_index (used_in uses frame.place) k) rank × (rank < frame.rank)
-  pub reached : (frame.rank ≡ 0) ⊎ ((k : ℕ) × (rank : ℕ) × (k < frame.next) × HasRank (Edge uses) (slice_index (used_in uses frame.place) k) rank × (frame.rank ≡ rank + 1))
+  pub within : frame.next ≤ length (used_in uses frame.view)
+  pub below : (k : ℕ) → k < frame.next → (rank : ℕ) × HasRank (Edge uses) (slice_index (used_in uses frame.view) k) rank × (rank < frame.rank)
+  pub reached : (frame.rank ≡ 0) ⊎ ((k : ℕ) × (rank : ℕ) × (k < frame.next) × HasRank (Edge uses) (slice_index (used_in uses frame.view) k) rank × (frame.rank ≡ rank + 1))
 
 -- marked ranks are right, and below the number of those that are done
 abbrev pub AreRanked : List (List ℕ) → List Mark → Type 0
-AreRanked uses marks = (place rank : ℕ) → mark_at marks place ≡ Ranked rank → HasRank (Edge uses) place rank × (rank < done marks)
+AreRanked uses marks = (view rank : ℕ) → mark_at marks view ≡ Ranked rank → HasRank (Edge uses) view rank × (rank < done marks)
 
 -- a view on the way, at its depth
 pub record IsOnWay (uses : List (List ℕ)) (marks : List Mark) (depth : ℕ) (frame : Frame) : Type 0 where
-  pub within : frame.place < length uses
+  pub within : frame.view < length uses
   pub scanned : IsScanned uses frame
   pub low : frame.rank ≤ done marks
-  pub marked : mark_at marks frame.place ≡ Open depth
+  pub marked : mark_at marks frame.view ≡ Open depth
 
 -- the walk under way: each view on the way uses the next, and all that are done have their ranks
 pub record IsSearch (uses : List (List ℕ)) (marks : List Mark) (stack : List Frame) : Type 0 where
   pub marked : length marks ≡ length uses
   pub ranked : AreRanked uses marks
   pub frames : (depth : ℕ) → depth < length stack → IsOnWay uses marks depth (frame_at stack depth)
-  pub open_ : (place depth : ℕ) → mark_at marks place ≡ Open depth → (depth < length stack) × ((frame_at stack depth).place ≡ place)
-  pub path : (depth : ℕ) → depth + 1 < length stack → Edge uses (frame_at stack depth).place (frame_at stack (depth + 1)).place
+  pub open_ : (view depth : ℕ) → mark_at marks view ≡ Open depth → (depth < length stack) × ((frame_at stack depth).view ≡ view)
+  pub path : (depth : ℕ) → depth + 1 < length stack → Edge uses (frame_at stack depth).view (frame_at stack (depth + 1)).view
 
 -- a step of the walk: the walk goes on, nearer to its end
 pub record GoesOn (uses : List (List ℕ)) (old new : List Mark) (before after : List Frame) : Type 0 where
@@ -83,9 +83,9 @@ pub record GoesOn (uses : List (List ℕ)) (old new : List Mark) (before after :
 pub record IsCircle (uses : List (List ℕ)) (marks : List Mark) (stack : List Frame) (depth : ℕ) : Type 0 where
   pub search : IsSearch uses marks stack
   pub within : depth < length stack
-  pub closing : Edge uses (frame_at stack (length stack - 1)).place (frame_at stack depth).place
+  pub closing : Edge uses (frame_at stack (length stack - 1)).view (frame_at stack depth).view
 
 -- all views met have ranks
 pub record IsDone (uses : List (List ℕ)) (marks : List Mark) : Type 0 where
   pub marked : length marks ≡ length uses
-  pub ranked : (place : ℕ) → place < length uses → (rank : ℕ) × (mark_at marks place ≡ Ranked rank) × HasRank (Edge uses) place rank
+  pub ranked : (view : ℕ) → view < length uses → (rank : ℕ) × (mark_at marks view ≡ Ranked rank) × HasRank (Edge uses) view rank

@@ -1,11 +1,11 @@
--- Which view uses which. A place is a statement's index in the program, from 0: its number less one.
+-- Which view uses which. A statement's index in the program counts from 0: it is its number less one. A view is told by it.
 use Rattle.std.specs.Prelude.{◌≡◌, ℕ, suc, ◌-◌, List, [], ◌∷◌, slice_index_or, Contains, ⊤}
 use Rattle.aql_syntax.specs.Trees.{Statement, create, require}
 use Rattle.view_graph.specs.Names.{view_named, dictionary_named, defined_by, names_used_by}
 
--- the statement at a place; past the end `require`, which defines and uses nothing
+-- the statement at an index; past the end `require`, which defines and uses nothing
 abbrev pub statement_at : List Statement → ℕ → Statement
-statement_at program place = slice_index_or program place require
+statement_at program index = slice_index_or program index require
 
 -- the statement with this number, from 1
 abbrev pub statement_numbered : List Statement → ℕ → Statement
@@ -16,13 +16,13 @@ abbrev pub IsView : Statement → Type 0
 IsView (create name query) = ⊤
 IsView statement = ⊥
 
--- the statement at this place creates the view with this name
+-- the statement at this index creates the view with this name
 abbrev pub CreatesView : List Statement → ℕ → List ℕ → Type 0
-CreatesView program place name = defined_by (statement_at program place) ≡ view_named name ∷ []
+CreatesView program index name = defined_by (statement_at program index) ≡ view_named name ∷ []
 
--- the statement at this place creates the dictionary with this name
+-- the statement at this index creates the dictionary with this name
 abbrev pub CreatesDictionary : List Statement → ℕ → List ℕ → Type 0
-CreatesDictionary program place name = defined_by (statement_at program place) ≡ dictionary_named name ∷ []
+CreatesDictionary program index name = defined_by (statement_at program index) ≡ dictionary_named name ∷ []
 
 -- a source of the query of the view at `user`, or of a query nested in it, names the view at `used`
 pub record Uses (program : List Statement) (user used : ℕ) : Type 0 where
@@ -30,12 +30,12 @@ pub record Uses (program : List Statement) (user used : ℕ) : Type 0 where
   pub source : Contains (names_used_by (statement_at program user)) (view_named name)
   pub view : CreatesView program used name
 
--- the places, from `place` on, of the statements that create a view
+-- the indexes, from `index` on, of the statements that create a view
 abbrev pub views_from : ℕ → List Statement → List ℕ
-views_from place [] = []
-views_from place (create name query ∷ statements) = place ∷ views_from (suc place) statements
-views_from place (statement ∷ statements) = views_from (suc place) statements
+views_from index [] = []
+views_from index (create name query ∷ statements) = index ∷ views_from (suc index) statements
+views_from index (statement ∷ statements) = views_from (suc index) statements
 
--- the places of the views of a program
+-- the views of a program, by index
 abbrev pub views_of : List Statement → List ℕ
 views_of program = views_from 0 program

@@ -8,4 +8,4 @@ use Rattle.view_graph.specs.Search.{Edge, IsDone}
 
 abbrev pub IsWalk : List (List ℕ) → Walk → Type 0
 IsWalk uses (Ranked marks) = IsDone uses marks.items
-IsWalk uses (Circle places) = IsClosed (Edge uses) places.items × AllDiffer places.items
+IsWalk uses (Circle views) = IsClosed (Edge uses) views.items × AllDiffer views.items

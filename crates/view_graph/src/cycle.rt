@@ -11,18 +11,18 @@ use aql_syntax::Statement;
 use span_token::{OutOfMemory, OwnedList, OwnedText};
 use std::alloc::Global;
 
-/// The names of the views at these places.
+/// The names of the views of a cycle.
 pub(crate) fn names_of(
     alloc: Global,
     statements: &[Statement],
-    places: &[u32],
+    cycle: &[u32],
 ) -> Result<OwnedList<OwnedText>, OutOfMemory>
-    requires { AreViews (map statement_of statements.now) places.now }
-    ensures { IfOk result (AllZip (CreatesView (map statement_of statements.now)) places.now) }
+    requires { AreViews (map statement_of statements.now) cycle.now }
+    ensures { IfOk result (AllZip (CreatesView (map statement_of statements.now)) cycle.now) }
 {
     let mut views = OwnedList::new(alloc);
-    for place in places {
-        let name = OwnedText::copied(alloc, view_name(&statements[*place as usize]))?;
+    for view in cycle {
+        let name = OwnedText::copied(alloc, view_name(&statements[*view as usize]))?;
         views.push(name)?;
     }
     Ok(views)
@@ -38,27 +38,27 @@ fn view_name(statement: &Statement) -> &str
     }
 }
 
-/// The same circle, begun at its least place.
-pub(crate) fn from_least(alloc: Global, places: &[u32]) -> Result<Vec<u32>, OutOfMemory>
-    requires { 0 < length places.now }
-    ensures { IfOk result (λ cycle. IsBegunAtLeast places.now cycle.items) }
+/// The same circle, begun at its least view.
+pub(crate) fn from_least(alloc: Global, circle: &[u32]) -> Result<Vec<u32>, OutOfMemory>
+    requires { 0 < length circle.now }
+    ensures { IfOk result (λ cycle. IsBegunAtLeast circle.now cycle.items) }
 {
-    let at = least(places);
+    let at = least(circle);
     let mut cycle = Vec::new(alloc);
-    cycle.extend_from_slice(&places[at..])?;
-    cycle.extend_from_slice(&places[..at])?;
+    cycle.extend_from_slice(&circle[at..])?;
+    cycle.extend_from_slice(&circle[..at])?;
     Ok(cycle)
 }
 
 /// The index of the least number; there is one or more.
-fn least(places: &[u32]) -> usize
-    requires { 0 < length places.now }
-    ensures within { result < length places.now }
-    ensures least { All (λ place. slice_index places.now result ≤ place) places.now }
+fn least(circle: &[u32]) -> usize
+    requires { 0 < length circle.now }
+    ensures within { result < length circle.now }
+    ensures least { All (λ view. slice_index circle.now result ≤ view) circle.now }
 {
     let mut at = 0;
-    for i in 0..places.len() {
-        if places[i] < places[at] {
+    for i in 0..circle.len() {
+        if circle[i] < circle[at] {
             at = i;
         }
     }

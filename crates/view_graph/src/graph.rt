@@ -93,9 +93,9 @@ impl Graph {
         match view_entry(&self.names.views, name) {
             None => None,
             Some(None) => Some(NamedView::Document),
-            Some(Some(place)) => Some(NamedView::View {
-                number: place + 1,
-                index: index_at(&self.indexes, place),
+            Some(Some(view)) => Some(NamedView::View {
+                number: view + 1,
+                index: index_at(&self.indexes, view),
             }),
         }
     }
@@ -108,7 +108,7 @@ impl Graph {
     {
         match dictionary_entry(&self.names.dictionaries, name) {
             None => None,
-            Some(place) => Some(place + 1),
+            Some(index) => Some(index + 1),
         }
     }
 }
@@ -188,8 +188,8 @@ fn views_in_order(
             let order = in_order(alloc, statements, &marks)?;
             Ok(order)
         }
-        Walk::Circle(places) => {
-            let cycle = from_least(alloc, &places)?;
+        Walk::Circle(circle) => {
+            let cycle = from_least(alloc, &circle)?;
             let views = names_of(alloc, statements, &cycle)?;
             Err(Failure::Fault(NameFault::Cycle { views }))
         }

@@ -15,7 +15,7 @@ use indexmap::{IndexMap, IndexSet};
 use span_token::{Failure, OutOfMemory, OwnedText};
 use std::alloc::Global;
 
-/// The names that some statements define, with the places of their statements, from 0. `Document`,
+/// The names that some statements define, with the indexes of their statements, from 0. `Document`,
 /// which is there from the start, has none.
 #[derive(Drop)]
 pub(crate) struct Names {
@@ -38,12 +38,12 @@ fn add_view(
     alloc: Global,
     views: &mut IndexMap<String, Option<u32>>,
     name: &str,
-    place: u32,
+    index: u32,
 ) -> Result<bool, OutOfMemory>
-    ensures { IfOk result (Adds (entry_of views.old) (entry_of views.new) name.now (Some place)) }
+    ensures { IfOk result (Adds (entry_of views.old) (entry_of views.new) name.now (Some index)) }
 {
     let key = String::from_str(alloc, name)?;
-    match views.insert(key, Some(place))? {
+    match views.insert(key, Some(index))? {
         None => Ok(true),
         Some(_) => Ok(false),
     }
@@ -54,12 +54,12 @@ fn add_dictionary(
     alloc: Global,
     dictionaries: &mut IndexMap<String, u32>,
     name: &str,
-    place: u32,
+    index: u32,
 ) -> Result<bool, OutOfMemory>
-    ensures { IfOk result (Adds (entry_of dictionaries.old) (entry_of dictionaries.new) name.now place) }
+    ensures { IfOk result (Adds (entry_of dictionaries.old) (entry_of dictionaries.new) name.now index) }
 {
     let key = String::from_str(alloc, name)?;
-    match dictionaries.insert(key, place)? {
+    match dictionaries.insert(key, index)? {
         None => Ok(true),
         Some(_) => Ok(false),
     }
@@ -96,32 +96,32 @@ impl Names {
         })
     }
 
-    /// Adds what the statement at this place defines, or refuses a name that is there.
+    /// Adds what the statement at this index defines, or refuses a name that is there.
     fn define(
         &mut self,
         alloc: Global,
-        place: u32,
+        index: u32,
         statement: &Statement,
     ) -> Result<(), Failure<NameFault>>
-        requires { place + 1 < 2 ^ 32 }
-        ensures ok { (before : List tree.Statement) → length before ≡ place → IndexesNames before (entry_of self.old.views) (entry_of self.old.dictionaries) → OnOk result (IndexesNames (before ++ statement_of statement.now ∷ []) (entry_of self.new.views) (entry_of self.new.dictionaries)) }
-        ensures fault { (before after : List tree.Statement) → length before ≡ place → IndexesNames before (entry_of self.old.views) (entry_of self.old.dictionaries) → IfErr result (OfFault (IsNameFault (before ++ statement_of statement.now ∷ after))) }
+        requires { index + 1 < 2 ^ 32 }
+        ensures ok { (before : List tree.Statement) → length before ≡ index → IndexesNames before (entry_of self.old.views) (entry_of self.old.dictionaries) → OnOk result (IndexesNames (before ++ statement_of statement.now ∷ []) (entry_of self.new.views) (entry_of self.new.dictionaries)) }
+        ensures fault { (before after : List tree.Statement) → length before ≡ index → IndexesNames before (entry_of self.old.views) (entry_of self.old.dictionaries) → IfErr result (OfFault (IsNameFault (before ++ statement_of statement.now ∷ after))) }
     {
         match statement {
             Statement::View { name, .. } => {
                 let text = name.text.as_str();
-                if add_view(alloc, &mut self.views, text, place)? {
+                if add_view(alloc, &mut self.views, text, index)? {
                     Ok(())
                 } else {
-                    Err(Failure::Fault(defined_again(alloc, place + 1, text)?))
+                    Err(Failure::Fault(defined_again(alloc, index + 1, text)?))
                 }
             }
             Statement::Dictionary { name, .. } => {
                 let text = name.text.as_str();
-                if add_dictionary(alloc, &mut self.dictionaries, text, place)? {
+                if add_dictionary(alloc, &mut self.dictionaries, text, index)? {
                     Ok(())
                 } else {
-                    Err(Failure::Fault(defined_again(alloc, place + 1, text)?))
+                    Err(Failure::Fault(defined_again(alloc, index + 1, text)?))
                 }
             }
             _ => Ok(()),
@@ -136,8 +136,8 @@ pub(crate) fn define(alloc: Global, statements: &[Statement]) -> Result<Names, F
     ensures fault { IfErr result (OfFault (IsNameFault (map statement_of statements.now))) }
 {
     let mut names = Names::at_first(alloc)?;
-    for (place, statement) in statements.iter().enumerate() {
-        names.define(alloc, place as u32, statement)?;
+    for (index, statement) in statements.iter().enumerate() {
+        names.define(alloc, index as u32, statement)?;
     }
     Ok(names)
 }

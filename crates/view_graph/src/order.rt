@@ -4,7 +4,7 @@ ghost use Rattle.std.specs.Prelude.{◌≡◌, ℕ, ◌<◌, ◌≤◌, ◌^◌,
 ghost use Rattle.aql_syntax.specs.Views.{statement_of};
 ghost use Rattle.view_graph.specs.Kept.{IsIndexed};
 ghost use Rattle.view_graph.specs.Names.{AllDiffer};
-ghost use Rattle.view_graph.specs.Orders.{IsNumbering, Placed};
+ghost use Rattle.view_graph.specs.Orders.{IsNumbering, HaveRanks};
 
 use crate::search::Mark;
 use aql_syntax::Statement;
@@ -21,20 +21,20 @@ fn rank_of(mark: Mark) -> u32
     }
 }
 
-/// The views with their ranks: rank and place, by place.
-fn placed(
+/// The views with their ranks: rank and index, by index.
+fn with_ranks(
     alloc: Global,
     statements: &[Statement],
     marks: &[Mark],
 ) -> Result<Vec<(u32, u32)>, OutOfMemory>
     requires short { length statements.now < 2 ^ 32 }
     requires marked { length marks.now ≡ length statements.now }
-    ensures { IfOk result (λ views. Placed (map statement_of statements.now) marks.now views.items) }
+    ensures { IfOk result (λ views. HaveRanks (map statement_of statements.now) marks.now views.items) }
 {
     let mut views = Vec::new(alloc);
-    for (place, statement) in statements.iter().enumerate() {
+    for (index, statement) in statements.iter().enumerate() {
         if let Statement::View { .. } = statement {
-            views.push((rank_of(marks[place]), place as u32))?;
+            views.push((rank_of(marks[index]), index as u32))?;
         }
     }
     Ok(views)
@@ -50,16 +50,16 @@ pub(crate) fn in_order(
     requires marked { length marks.now ≡ length statements.now }
     ensures { IfOk result (λ order. IsNumbering (map statement_of statements.now) marks.now order.items) }
 {
-    let mut views = placed(alloc, statements, marks)?;
+    let mut views = with_ranks(alloc, statements, marks)?;
     views.sort()?;
     let mut order = Vec::new(alloc);
-    for (_, place) in &views {
-        order.push(*place + 1)?;
+    for (_, view) in &views {
+        order.push(*view + 1)?;
     }
     Ok(order)
 }
 
-/// For the place of each view its index in the order; 0 for a statement that creates no view.
+/// For each statement the index of its view in the order; 0 where it creates no view.
 pub(crate) fn indexes_of(
     alloc: Global,
     order: &[u32],
@@ -77,10 +77,10 @@ pub(crate) fn indexes_of(
     Ok(indexes)
 }
 
-/// What is kept for the place of a view.
-pub(crate) fn index_at(indexes: &[u32], place: u32) -> u32
-    requires { place < length indexes.now }
-    ensures { result ≡ slice_index indexes.now place }
+/// The index of a view in the order, as it is kept.
+pub(crate) fn index_at(indexes: &[u32], view: u32) -> u32
+    requires { view < length indexes.now }
+    ensures { result ≡ slice_index indexes.now view }
 {
-    indexes[place as usize]
+    indexes[view as usize]
 }

@@ -25,8 +25,8 @@ pub(crate) fn distinct_outputs(
     ensures fault { IfErr result (OfFault (IsOutputAgain (map statement_of statements.now))) }
 {
     let mut seen = IndexSet::new(alloc);
-    for (place, statement) in statements.iter().enumerate() {
-        note(alloc, &mut seen, place as u32 + 1, statement)?;
+    for (index, statement) in statements.iter().enumerate() {
+        note(alloc, &mut seen, index as u32 + 1, statement)?;
     }
     Ok(())
 }

@@ -8,7 +8,7 @@ ghost use Rattle.view_graph.specs.Names.{looked_up_by};
 ghost use Rattle.span_token.specs.Refusals.{OfFault};
 ghost use Rattle.view_graph.specs.Answers.{IsNameFault};
 ghost use Rattle.view_graph.specs.Indexes.{entry_of, IndexesNames};
-ghost use Rattle.view_graph.specs.Lookups.{LooksUp, PlacesOf, PlacesUsed, MentionsUndefined, Unknown, IsUseGraph};
+ghost use Rattle.view_graph.specs.Lookups.{LooksUp, AreViewsNamed, AreViewsUsed, MentionsUndefined, Unknown, IsUseGraph};
 
 use crate::NameFault;
 use crate::index::Names;
@@ -21,14 +21,14 @@ use std::alloc::Global;
 /// What the names that are defined say of a name that is looked up.
 #[derive(Clone, Copy, Debug)]
 enum Found {
-    /// A view that the statement at this place creates.
+    /// A view: the index of the statement that creates it.
     View(u32),
     /// A dictionary, or `Document`.
     Other,
     Nothing,
 }
 
-/// For each statement the places of the views that it uses, or the program's first unknown name.
+/// For each statement the views that it uses, by the indexes of their statements, or the program's first unknown name.
 pub(crate) fn uses(
     alloc: Global,
     statements: &[Statement],
@@ -40,14 +40,14 @@ pub(crate) fn uses(
     ensures fault { IfErr result (OfFault (IsNameFault (map statement_of statements.now))) }
 {
     let mut uses = Vec::new(alloc);
-    for (place, statement) in statements.iter().enumerate() {
-        let used = used_by(alloc, names, place as u32 + 1, statement)?;
+    for (index, statement) in statements.iter().enumerate() {
+        let used = used_by(alloc, names, index as u32 + 1, statement)?;
         uses.push(used)?;
     }
     Ok(uses)
 }
 
-/// The places of the views that the statement's query uses, or the first unknown name of the
+/// The views that the statement's query uses, by their indexes, or the first unknown name of the
 /// statement, whose number is given. An output uses no view, and the one that it names has to be there.
 fn used_by(
     alloc: Global,
@@ -55,37 +55,37 @@ fn used_by(
     number: u32,
     statement: &Statement,
 ) -> Result<OwnedList<u32>, Failure<NameFault>>
-    ensures ok { (program : List tree.Statement) → IndexesNames program (entry_of names.now.views) (entry_of names.now.dictionaries) → IfOk result (PlacesUsed program (statement_of statement.now)) }
+    ensures ok { (program : List tree.Statement) → IndexesNames program (entry_of names.now.views) (entry_of names.now.dictionaries) → IfOk result (AreViewsUsed program (statement_of statement.now)) }
     ensures fault { (program : List tree.Statement) → IndexesNames program (entry_of names.now.views) (entry_of names.now.dictionaries) → IfErr result (OfFault (MentionsUndefined program number (looked_up_by (statement_of statement.now)))) }
 {
     match statement {
         Statement::View { query, .. } => {
             let mut mentions = Mentions::new(alloc);
             names_in(&mut mentions, query)?;
-            places(alloc, names, number, mentions.as_slice())
+            views_mentioned(alloc, names, number, mentions.as_slice())
         }
         Statement::Output { name, .. } => {
-            places(alloc, names, number, &[Mention::View(name.text.as_str())])?;
+            views_mentioned(alloc, names, number, &[Mention::View(name.text.as_str())])?;
             Ok(OwnedList::new(alloc))
         }
         _ => Ok(OwnedList::new(alloc)),
     }
 }
 
-/// The places of the views among the names that a statement mentions, or its first unknown name.
-fn places(
+/// The views among the names that a statement mentions, by their indexes, or its first unknown name.
+fn views_mentioned(
     alloc: Global,
     names: &Names,
     number: u32,
     mentions: &[Mention<'_>],
 ) -> Result<OwnedList<u32>, Failure<NameFault>>
-    ensures ok { (program : List tree.Statement) → IndexesNames program (entry_of names.now.views) (entry_of names.now.dictionaries) → IfOk result (PlacesOf program (map named_of mentions.now)) }
+    ensures ok { (program : List tree.Statement) → IndexesNames program (entry_of names.now.views) (entry_of names.now.dictionaries) → IfOk result (AreViewsNamed program (map named_of mentions.now)) }
     ensures fault { (program : List tree.Statement) → IndexesNames program (entry_of names.now.views) (entry_of names.now.dictionaries) → IfErr result (OfFault (MentionsUndefined program number (map named_of mentions.now))) }
 {
     let mut used = OwnedList::new(alloc);
     for mention in mentions {
         match find(names, *mention) {
-            Found::View(place) => used.push(place)?,
+            Found::View(view) => used.push(view)?,
             Found::Other => {}
             Found::Nothing => {
                 return Err(Failure::Fault(unknown(alloc, number, *mention)?));
@@ -116,7 +116,7 @@ fn find(names: &Names, mention: Mention<'_>) -> Found
 {
     match mention {
         Mention::View(name) => match view_entry(&names.views, name) {
-            Some(Some(place)) => Found::View(place),
+            Some(Some(view)) => Found::View(view),
             Some(None) => Found::Other,
             None => Found::Nothing,
         },

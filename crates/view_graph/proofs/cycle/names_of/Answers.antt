@@ -11,26 +11,26 @@ use Rattle.view_graph.proofs.Splits.{get_or-map_within}
 use Rattle.view_graph.proofs.Relations.{AllZip-push_named}
 use Rattle.view_graph.proofs.cycle.names_of.Goals as goal
 
-pub bounds-statements-place : goal.bounds-statements-place
-bounds-statements-place c =
+pub bounds-statements-view : goal.bounds-statements-view
+bounds-statements-view c =
     let program = map statement_of c.args.statements.now in
-    let place = get_or c.args.places.now c.loop-place.place-index 0 in
-    let h = c.requires c.loop-place.place-index 0 c.loop-place-test.true in
-    let within = creates_within program require place h.0 h.1 (cases_lt place (length program)) in
+    let view = get_or c.args.cycle.now c.loop-view.view-index 0 in
+    let h = c.requires c.loop-view.view-index 0 c.loop-view-test.true in
+    let within = creates_within program require view h.0 h.1 (cases_lt view (length program)) in
     omega (arith, within, length-map c.args.statements.now statement_of)
 
-pub loop-place-preserved : goal.loop-place-preserved
-loop-place-preserved c =
+pub loop-view-preserved : goal.loop-view-preserved
+loop-view-preserved c =
     let program = map statement_of c.args.statements.now in
-    let i = c.loop-place.place-index in
-    let place = get_or c.args.places.now i 0 in
-    let h = c.requires i 0 c.loop-place-test.true in
-    let within = creates_within program require place h.0 h.1 (cases_lt place (length program)) in
-    let x = c.index-statements-place in
-    let inside : place < length c.args.statements.now = omega (arith, within, length-map c.args.statements.now statement_of) in
-    let there : statement_at program place ≡ statement_of x.result = get_or-map_within statement_of c.args.statements.now place x.result require inside ∙ sym (ap statement_of x.is) in
+    let i = c.loop-view.view-index in
+    let view = get_or c.args.cycle.now i 0 in
+    let h = c.requires i 0 c.loop-view-test.true in
+    let within = creates_within program require view h.0 h.1 (cases_lt view (length program)) in
+    let x = c.index-statements-view in
+    let inside : view < length c.args.statements.now = omega (arith, within, length-map c.args.statements.now statement_of) in
+    let there : statement_at program view ≡ statement_of x.result = get_or-map_within statement_of c.args.statements.now view x.result require inside ∙ sym (ap statement_of x.is) in
     let text : c.view_name.result.now ≡ h.0 = c.view_name.ensures h.0 (sym (ap defined_by there) ∙ h.1) in
-    let named : CreatesView program place c.in_ok-name.name = h.1 ∙ ap (λ (n : List ℕ). view_named n ∷ []) (sym (c.in_ok-name.ensures ∙ text)) in
-    subst (λ (ps : List ℕ). AllZip (CreatesView program) ps c.push.new.self) (sym (take_more c.args.places.now i 0 c.loop-place-test.true))
-    (subst (λ (vs : List (List ℕ)). AllZip (CreatesView program) (take i c.args.places.now ++ place ∷ []) vs) (sym c.in_ok-push.ensures.ok)
-    (AllZip-push_named (CreatesView program) (take i c.args.places.now) c.loop-place.views place c.in_ok-name.name c.loop-place.invariant named))
+    let named : CreatesView program view c.in_ok-name.name = h.1 ∙ ap (λ (n : List ℕ). view_named n ∷ []) (sym (c.in_ok-name.ensures ∙ text)) in
+    subst (λ (ps : List ℕ). AllZip (CreatesView program) ps c.push.new.self) (sym (take_more c.args.cycle.now i 0 c.loop-view-test.true))
+    (subst (λ (vs : List (List ℕ)). AllZip (CreatesView program) (take i c.args.cycle.now ++ view ∷ []) vs) (sym c.in_ok-push.ensures.ok)
+    (AllZip-push_named (CreatesView program) (take i c.args.cycle.now) c.loop-view.views view c.in_ok-name.name c.loop-view.invariant named))

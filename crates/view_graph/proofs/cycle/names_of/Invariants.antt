@@ -4,5 +4,5 @@ use Rattle.aql_syntax.specs.Views.{statement_of}
 use Rattle.view_graph.specs.Uses.{CreatesView}
 use Rattle.view_graph.proofs.cycle.names_of.Given as goal
 
-abbrev pub invariant-loop-place : goal.invariant-loop-place
-invariant-loop-place l = AllZip (CreatesView (map statement_of l.statements)) (take l.place-index l.places) l.views
+abbrev pub invariant-loop-view : goal.invariant-loop-view
+invariant-loop-view l = AllZip (CreatesView (map statement_of l.statements)) (take l.view-index l.cycle) l.views

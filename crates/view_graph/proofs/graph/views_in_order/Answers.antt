@@ -25,11 +25,11 @@ pub names_of-requires : goal.names_of-requires
 names_of-requires c =
     let program = map statement_of c.args.statements.now in
     let graph : IsUseGraph program (length program) c.args.uses.now = subst (λ (n : ℕ). IsUseGraph program n c.args.uses.now) (sym (length-map c.args.statements.now statement_of)) c.requires.graph in
-    let walk : IsClosed (Edge c.args.uses.now) c.in-Circle.places.items × AllDiffer c.in-Circle.places.items = subst (λ (w : Walk). IsWalk c.args.uses.now w) c.in-Circle.is c.in_ok-marks.ensures in
-    let begun : IsBegunAtLeast c.in-Circle.places.items c.in_ok-cycle-in-Circle.cycle.items =
+    let walk : IsClosed (Edge c.args.uses.now) c.in-Circle.circle.items × AllDiffer c.in-Circle.circle.items = subst (λ (w : Walk). IsWalk c.args.uses.now w) c.in-Circle.is c.in_ok-marks.ensures in
+    let begun : IsBegunAtLeast c.in-Circle.circle.items c.in_ok-cycle-in-Circle.cycle.items =
     subst (λ (ps : List ℕ). IsBegunAtLeast ps c.in_ok-cycle-in-Circle.cycle.items) c.deref-in-Circle.ensures.value c.in_ok-cycle-in-Circle.ensures in
     subst (λ (ps : List ℕ). AreViews program ps) (sym c.deref-in-Circle-2.ensures.value)
-    (are_views program c.args.uses.now graph c.requires.outputs c.in-Circle.places.items c.in_ok-cycle-in-Circle.cycle.items walk.0 walk.1 begun)
+    (are_views program c.args.uses.now graph c.requires.outputs c.in-Circle.circle.items c.in_ok-cycle-in-Circle.cycle.items walk.0 walk.1 begun)
 
 pub returns-in_ok-order-in-Ranked-clause-ok : goal.returns-in_ok-order-in-Ranked-clause-ok
 returns-in_ok-order-in-Ranked-clause-ok c =
@@ -43,8 +43,8 @@ pub returns-in_ok-views-in-Circle-clause-fault : goal.returns-in_ok-views-in-Cir
 returns-in_ok-views-in-Circle-clause-fault c =
     let program = map statement_of c.args.statements.now in
     let graph : IsUseGraph program (length program) c.args.uses.now = subst (λ (n : ℕ). IsUseGraph program n c.args.uses.now) (sym (length-map c.args.statements.now statement_of)) c.requires.graph in
-    let walk : IsClosed (Edge c.args.uses.now) c.in-Circle.places.items × AllDiffer c.in-Circle.places.items = subst (λ (w : Walk). IsWalk c.args.uses.now w) c.in-Circle.is c.in_ok-marks.ensures in
-    let begun : IsBegunAtLeast c.in-Circle.places.items c.in_ok-cycle-in-Circle.cycle.items =
+    let walk : IsClosed (Edge c.args.uses.now) c.in-Circle.circle.items × AllDiffer c.in-Circle.circle.items = subst (λ (w : Walk). IsWalk c.args.uses.now w) c.in-Circle.is c.in_ok-marks.ensures in
+    let begun : IsBegunAtLeast c.in-Circle.circle.items c.in_ok-cycle-in-Circle.cycle.items =
     subst (λ (ps : List ℕ). IsBegunAtLeast ps c.in_ok-cycle-in-Circle.cycle.items) c.deref-in-Circle.ensures.value c.in_ok-cycle-in-Circle.ensures in
-    cycle_fault program c.args.uses.now graph c.requires.outputs c.in-Circle.places.items c.in_ok-cycle-in-Circle.cycle.items walk.0 walk.1 begun c.in_ok-views-in-Circle.views
+    cycle_fault program c.args.uses.now graph c.requires.outputs c.in-Circle.circle.items c.in_ok-cycle-in-Circle.cycle.items walk.0 walk.1 begun c.in_ok-views-in-Circle.views
     (subst (λ (ps : List ℕ). AllZip (CreatesView program) ps c.in_ok-views-in-Circle.views) c.deref-in-Circle-2.ensures.value c.in_ok-views-in-Circle.ensures)

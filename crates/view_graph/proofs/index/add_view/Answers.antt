@@ -7,5 +7,5 @@ use Rattle.view_graph.proofs.index.add_view.Goals as goal
 
 pub returns-in-None : goal.returns-in-None
 returns-in-None c =
-    subst (λ (text : List ℕ). Adds (entry_of c.args.views.now) (entry_of c.insert.new.self) text (Some c.args.place) true) c.in_ok-key.ensures.ok
+    subst (λ (text : List ℕ). Adds (entry_of c.args.views.now) (entry_of c.insert.new.self) text (Some c.args.index) true) c.in_ok-key.ensures.ok
     (sym c.in_ok-insert.ensures.old ∙ c.in-None.is, hash_map_updates_text (string_bytes c.in_ok-key.key) c.args.views.now c.insert.new.self _ c.in_ok-insert.ensures.updates)

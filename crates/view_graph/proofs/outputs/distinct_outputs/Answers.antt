@@ -9,21 +9,21 @@ use Rattle.view_graph.specs.Outputs.{HasSeen, IsOutputAgain}
 use Rattle.view_graph.proofs.Splits.{map-take_more, map_split, length-map_take}
 use Rattle.view_graph.proofs.outputs.distinct_outputs.Goals as goal
 
-pub loop-place-preserved : goal.loop-place-preserved
-loop-place-preserved c =
-    let x = c.index-statements-place in
-    let more = c.in_ok-note.ensures.ok (map statement_of (take c.loop-place.place c.args.statements.now)) c.loop-place.invariant in
+pub loop-index-preserved : goal.loop-index-preserved
+loop-index-preserved c =
+    let x = c.index-statements-index in
+    let more = c.in_ok-note.ensures.ok (map statement_of (take c.loop-index.index c.args.statements.now)) c.loop-index.invariant in
     subst (λ (before : List Statement). HasSeen before (has c.note.new.seen))
-    (ap (λ (s : declared.Statement). map statement_of (take c.loop-place.place c.args.statements.now) ++ statement_of s ∷ []) x.is
-    ∙ sym (map-take_more statement_of c.args.statements.now c.loop-place.place x.result c.loop-place-test.true)) more
+    (ap (λ (s : declared.Statement). map statement_of (take c.loop-index.index c.args.statements.now) ++ statement_of s ∷ []) x.is
+    ∙ sym (map-take_more statement_of c.args.statements.now c.loop-index.index x.result c.loop-index-test.true)) more
 
 pub returns-in_err-note-clause-fault : goal.returns-in_err-note-clause-fault
 returns-in_err-note-clause-fault c =
     let p = err_from_is_err_and c.from_residual.result c.from_residual.ensures.1 in
-    let x = c.index-statements-place in
-    let before = map statement_of (take c.loop-place.place c.args.statements.now) in
-    let after = map statement_of (drop (c.loop-place.place + 1) c.args.statements.now) in
+    let x = c.index-statements-index in
+    let before = map statement_of (take c.loop-index.index c.args.statements.now) in
+    let after = map statement_of (drop (c.loop-index.index + 1) c.args.statements.now) in
     rw (p.1, p.2) (subst (λ (program : List Statement). OfFault (IsOutputAgain program) c.in_err-note.field-0.0)
     (ap (λ (s : declared.Statement). before ++ statement_of s ∷ after) x.is
-    ∙ map_split statement_of c.args.statements.now c.loop-place.place x.result c.loop-place-test.true)
-    (c.in_err-note.ensures.fault before after (ap (λ (n : ℕ). n + 1) (sym (length-map_take statement_of c.args.statements.now c.loop-place.place c.loop-place-test.true))) c.loop-place.invariant))
+    ∙ map_split statement_of c.args.statements.now c.loop-index.index x.result c.loop-index-test.true)
+    (c.in_err-note.ensures.fault before after (ap (λ (n : ℕ). n + 1) (sym (length-map_take statement_of c.args.statements.now c.loop-index.index c.loop-index-test.true))) c.loop-index.invariant))

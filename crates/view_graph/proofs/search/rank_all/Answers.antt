@@ -4,5 +4,5 @@ use Rattle.view_graph.proofs.search.rank_all.Goals as goal
 
 pub returns : goal.returns
 returns c =
-    walked c.args.uses.now c.loop-place.marks.items c.loop-place.invariant.0
-    (λ place below. c.loop-place.invariant.1 place (omega (arith, below, c.loop-place-test.false)))
+    walked c.args.uses.now c.loop-view.marks.items c.loop-view.invariant.0
+    (λ view below. c.loop-view.invariant.1 view (omega (arith, below, c.loop-view-test.false)))

@@ -13,21 +13,21 @@ scan-frame-requires-clause-low c = last_low c.args.uses.now c.args.marks.now c.a
 
 pub bounds-uses-frame : goal.bounds-uses-frame
 bounds-uses-frame c =
-    subst (λ (p : ℕ). p < length c.args.uses.now) (sym c.scan-frame.ensures.place) (last_within c.args.uses.now c.args.marks.now c.args.stack.now.items c.args.frame c.requires.search)
+    subst (λ (p : ℕ). p < length c.args.uses.now) (sym c.scan-frame.ensures.view) (last_within c.args.uses.now c.args.marks.now c.args.stack.now.items c.args.frame c.requires.search)
 
 pub bounds-marks-frame : goal.bounds-marks-frame
 bounds-marks-frame c =
     let within = last_within c.args.uses.now c.args.marks.now c.args.stack.now.items c.args.frame c.requires.search in
-    omega (arith, within, c.scan-frame.ensures.place, c.requires.search.marked)
+    omega (arith, within, c.scan-frame.ensures.view, c.requires.search.marked)
 
 pub returns-then-frame-used : goal.returns-then-frame-used
 returns-then-frame-used c =
     let within = last_within c.args.uses.now c.args.marks.now c.args.stack.now.items c.args.frame c.requires.search in
     let g = c.scan-frame.result in
-    let same : c.as_slice-used.result.now ≡ used_in c.args.uses.now g.place =
-    used_is c.args.uses.now g.place c.index-uses-frame.result c.as_slice-used.result.now c.as_slice-used.ensures c.index-uses-frame.is (subst (λ (p : ℕ). p < length c.args.uses.now) (sym c.scan-frame.ensures.place) within) in
+    let same : c.as_slice-used.result.now ≡ used_in c.args.uses.now g.view =
+    used_is c.args.uses.now g.view c.index-uses-frame.result c.as_slice-used.result.now c.as_slice-used.ensures c.index-uses-frame.is (subst (λ (p : ℕ). p < length c.args.uses.now) (sym c.scan-frame.ensures.view) within) in
     goes_on_ranked c.args.uses.now c.args.marks.now c.args.stack.now.items g
-    (replaced c.args.uses.now c.args.marks.now c.args.stack.now.items c.args.frame c.requires.search g c.scan-frame.ensures.place c.scan-frame.ensures.scanned c.scan-frame.ensures.low)
+    (replaced c.args.uses.now c.args.marks.now c.args.stack.now.items c.args.frame c.requires.search g c.scan-frame.ensures.view c.scan-frame.ensures.scanned c.scan-frame.ensures.low)
     (omega (arith, ap (λ (u : List ℕ). length u) same, c.if-frame-used.true, c.scan-frame.ensures.scanned.within))
 
 pub bounds : goal.bounds
@@ -35,9 +35,9 @@ bounds c =
     let within = last_within c.args.uses.now c.args.marks.now c.args.stack.now.items c.args.frame c.requires.search in
     let g = c.scan-frame.result in
     let used = c.as_slice-used.result.now in
-    let same : used ≡ used_in c.args.uses.now g.place =
-    used_is c.args.uses.now g.place c.index-uses-frame.result used c.as_slice-used.ensures c.index-uses-frame.is (subst (λ (p : ℕ). p < length c.args.uses.now) (sym c.scan-frame.ensures.place) within) in
-    let below : get_or used g.next 0 < length c.args.uses.now = c.requires.graph g.place (get_or used g.next 0) (edge_at c.args.uses.now g.place used same g.next c.if-frame-used.false) in
+    let same : used ≡ used_in c.args.uses.now g.view =
+    used_is c.args.uses.now g.view c.index-uses-frame.result used c.as_slice-used.ensures c.index-uses-frame.is (subst (λ (p : ℕ). p < length c.args.uses.now) (sym c.scan-frame.ensures.view) within) in
+    let below : get_or used g.next 0 < length c.args.uses.now = c.requires.graph g.view (get_or used g.next 0) (edge_at c.args.uses.now g.view used same g.next c.if-frame-used.false) in
     omega (arith, below, c.requires.search.marked)
 
 pub returns-in-Open : goal.returns-in-Open
@@ -45,21 +45,21 @@ returns-in-Open c =
     let within = last_within c.args.uses.now c.args.marks.now c.args.stack.now.items c.args.frame c.requires.search in
     let g = c.scan-frame.result in
     let used = c.as_slice-used.result.now in
-    let same : used ≡ used_in c.args.uses.now g.place =
-    used_is c.args.uses.now g.place c.index-uses-frame.result used c.as_slice-used.ensures c.index-uses-frame.is (subst (λ (p : ℕ). p < length c.args.uses.now) (sym c.scan-frame.ensures.place) within) in
+    let same : used ≡ used_in c.args.uses.now g.view =
+    used_is c.args.uses.now g.view c.index-uses-frame.result used c.as_slice-used.ensures c.index-uses-frame.is (subst (λ (p : ℕ). p < length c.args.uses.now) (sym c.scan-frame.ensures.view) within) in
     subst (λ (way : List Frame). IsCircle c.args.uses.now c.args.marks.now way c.in-Open.depth) (sym c.in_ok-push.ensures.items)
     (circle_found c.args.uses.now c.args.marks.now c.args.stack.now.items g
-    (replaced c.args.uses.now c.args.marks.now c.args.stack.now.items c.args.frame c.requires.search g c.scan-frame.ensures.place c.scan-frame.ensures.scanned c.scan-frame.ensures.low)
-    (get_or used g.next 0) c.in-Open.depth c.in-Open.is (edge_at c.args.uses.now g.place used same g.next c.if-frame-used.false))
+    (replaced c.args.uses.now c.args.marks.now c.args.stack.now.items c.args.frame c.requires.search g c.scan-frame.ensures.view c.scan-frame.ensures.scanned c.scan-frame.ensures.low)
+    (get_or used g.next 0) c.in-Open.depth c.in-Open.is (edge_at c.args.uses.now g.view used same g.next c.if-frame-used.false))
 
 pub enter-requires : goal.enter-requires
 enter-requires c =
     let within = last_within c.args.uses.now c.args.marks.now c.args.stack.now.items c.args.frame c.requires.search in
     let g = c.scan-frame.result in
     let used = c.as_slice-used.result.now in
-    let same : used ≡ used_in c.args.uses.now g.place =
-    used_is c.args.uses.now g.place c.index-uses-frame.result used c.as_slice-used.ensures c.index-uses-frame.is (subst (λ (p : ℕ). p < length c.args.uses.now) (sym c.scan-frame.ensures.place) within) in
-    let below : get_or used g.next 0 < length c.args.uses.now = c.requires.graph g.place (get_or used g.next 0) (edge_at c.args.uses.now g.place used same g.next c.if-frame-used.false) in
+    let same : used ≡ used_in c.args.uses.now g.view =
+    used_is c.args.uses.now g.view c.index-uses-frame.result used c.as_slice-used.ensures c.index-uses-frame.is (subst (λ (p : ℕ). p < length c.args.uses.now) (sym c.scan-frame.ensures.view) within) in
+    let below : get_or used g.next 0 < length c.args.uses.now = c.requires.graph g.view (get_or used g.next 0) (edge_at c.args.uses.now g.view used same g.next c.if-frame-used.false) in
     omega (arith, below, c.requires.search.marked)
 
 pub returns : goal.returns
@@ -67,17 +67,17 @@ returns c =
     let within = last_within c.args.uses.now c.args.marks.now c.args.stack.now.items c.args.frame c.requires.search in
     let g = c.scan-frame.result in
     let used = c.as_slice-used.result.now in
-    let place = get_or used g.next 0 in
-    let same : used ≡ used_in c.args.uses.now g.place =
-    used_is c.args.uses.now g.place c.index-uses-frame.result used c.as_slice-used.ensures c.index-uses-frame.is (subst (λ (p : ℕ). p < length c.args.uses.now) (sym c.scan-frame.ensures.place) within) in
-    let at_first : used ≡ used_in c.args.uses.now c.args.frame.place = same ∙ ap (λ (p : ℕ). used_in c.args.uses.now p) c.scan-frame.ensures.place in
-    let edge = edge_at c.args.uses.now g.place used same g.next c.if-frame-used.false in
-    let stopped : (rank : ℕ) → mark_at c.args.marks.now place ≡ Ranked rank → ⊥ = λ (rank : ℕ). λ (is : mark_at c.args.marks.now place ≡ Ranked rank).
+    let view = get_or used g.next 0 in
+    let same : used ≡ used_in c.args.uses.now g.view =
+    used_is c.args.uses.now g.view c.index-uses-frame.result used c.as_slice-used.ensures c.index-uses-frame.is (subst (λ (p : ℕ). p < length c.args.uses.now) (sym c.scan-frame.ensures.view) within) in
+    let at_first : used ≡ used_in c.args.uses.now c.args.frame.view = same ∙ ap (λ (p : ℕ). used_in c.args.uses.now p) c.scan-frame.ensures.view in
+    let edge = edge_at c.args.uses.now g.view used same g.next c.if-frame-used.false in
+    let stopped : (rank : ℕ) → mark_at c.args.marks.now view ≡ Ranked rank → ⊥ = λ (rank : ℕ). λ (is : mark_at c.args.marks.now view ≡ Ranked rank).
     c.scan-frame.ensures.stopped (subst (λ (u : List ℕ). g.next < length u) at_first c.if-frame-used.false) rank
     (subst (λ (u : List ℕ). mark_at c.args.marks.now (get_or u g.next 0) ≡ Ranked rank) at_first is) in
     goes_on_entered c.args.uses.now c.args.marks.now c.args.stack.now.items g
-    (replaced c.args.uses.now c.args.marks.now c.args.stack.now.items c.args.frame c.requires.search g c.scan-frame.ensures.place c.scan-frame.ensures.scanned c.scan-frame.ensures.low)
-    place (c.requires.graph g.place place edge) (unseen_from c.args.uses.now (mark_at c.args.marks.now place) c.in_default.not-Open stopped) edge
+    (replaced c.args.uses.now c.args.marks.now c.args.stack.now.items c.args.frame c.requires.search g c.scan-frame.ensures.view c.scan-frame.ensures.scanned c.scan-frame.ensures.low)
+    view (c.requires.graph g.view view edge) (unseen_from c.args.uses.now (mark_at c.args.marks.now view) c.in_default.not-Open stopped) edge
     c.enter.new.marks c.enter.new.stack.items
-    (c.in_ok-enter.ensures.marks ∙ ap (λ (way : List Frame). set c.args.marks.now place (Open (length way))) c.in_ok-push.ensures.items)
-    (c.in_ok-enter.ensures.stack ∙ ap (λ (way : List Frame). way ++ begun place ∷ []) c.in_ok-push.ensures.items)
+    (c.in_ok-enter.ensures.marks ∙ ap (λ (way : List Frame). set c.args.marks.now view (Open (length way))) c.in_ok-push.ensures.items)
+    (c.in_ok-enter.ensures.stack ∙ ap (λ (way : List Frame). way ++ begun view ∷ []) c.in_ok-push.ensures.items)

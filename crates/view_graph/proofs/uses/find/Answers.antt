@@ -7,7 +7,7 @@ use Rattle.view_graph.proofs.uses.find.Goals as goal
 pub returns-in-Some-Some : goal.returns-in-Some-Some
 returns-in-Some-Some c = λ program names.
     found_view program (entry_of c.args.names.now.views) (entry_of c.args.names.now.dictionaries) names (named_of c.args.mention) c.in-View.name.now
-    c.in-Some-Some.place (ap named_of c.in-View.is) (sym c.view_entry.ensures ∙ (c.in-Some-Some.is ∙ ap (λ (o : Option ℕ). Some o) c.in-Some-Some.field-0-is))
+    c.in-Some-Some.view (ap named_of c.in-View.is) (sym c.view_entry.ensures ∙ (c.in-Some-Some.is ∙ ap (λ (o : Option ℕ). Some o) c.in-Some-Some.field-0-is))
 
 pub returns-in-Some-None : goal.returns-in-Some-None
 returns-in-Some-None c = λ program names.

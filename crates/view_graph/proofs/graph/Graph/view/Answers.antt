@@ -9,14 +9,14 @@ use Rattle.view_graph.proofs.graph.Graph.view.Goals as goal
 pub overflow_add-result : goal.overflow_add-result
 overflow_add-result c =
     let program = map statement_of c.self.inside.statements.items in
-    let within = view_within program c.self.inside.order.items (entry_of c.self.inside.names.views) (entry_of c.self.inside.names.dictionaries) c.self.inside.indexes.items c.self.invariant c.in-Some-Some.place c.args.name.now (sym c.view_entry.ensures ∙ (c.in-Some-Some.is ∙ ap (λ (o : Option ℕ). Some o) c.in-Some-Some.field-0-is)) in
+    let within = view_within program c.self.inside.order.items (entry_of c.self.inside.names.views) (entry_of c.self.inside.names.dictionaries) c.self.inside.indexes.items c.self.invariant c.in-Some-Some.view c.args.name.now (sym c.view_entry.ensures ∙ (c.in-Some-Some.is ∙ ap (λ (o : Option ℕ). Some o) c.in-Some-Some.field-0-is)) in
     omega (arith, within, c.self.invariant.short)
 
 pub index_at-requires : goal.index_at-requires
 index_at-requires c =
     let program = map statement_of c.self.inside.statements.items in
-    let within = index_within program c.self.inside.order.items (entry_of c.self.inside.names.views) (entry_of c.self.inside.names.dictionaries) c.self.inside.indexes.items c.self.invariant c.in-Some-Some.place c.args.name.now (sym c.view_entry.ensures ∙ (c.in-Some-Some.is ∙ ap (λ (o : Option ℕ). Some o) c.in-Some-Some.field-0-is)) in
-    subst (λ (xs : List ℕ). c.in-Some-Some.place < length xs) (sym c.deref.ensures.value) within
+    let within = index_within program c.self.inside.order.items (entry_of c.self.inside.names.views) (entry_of c.self.inside.names.dictionaries) c.self.inside.indexes.items c.self.invariant c.in-Some-Some.view c.args.name.now (sym c.view_entry.ensures ∙ (c.in-Some-Some.is ∙ ap (λ (o : Option ℕ). Some o) c.in-Some-Some.field-0-is)) in
+    subst (λ (xs : List ℕ). c.in-Some-Some.view < length xs) (sym c.deref.ensures.value) within
 
 pub returns-in-Some-None : goal.returns-in-Some-None
 returns-in-Some-None c =
@@ -26,6 +26,6 @@ returns-in-Some-None c =
 pub returns-in-Some-Some : goal.returns-in-Some-Some
 returns-in-Some-Some c =
     let program = map statement_of c.self.inside.statements.items in
-    let at = stands program c.self.inside.order.items (entry_of c.self.inside.names.views) (entry_of c.self.inside.names.dictionaries) c.self.inside.indexes.items c.self.invariant c.in-Some-Some.place c.args.name.now (sym c.view_entry.ensures ∙ (c.in-Some-Some.is ∙ ap (λ (o : Option ℕ). Some o) c.in-Some-Some.field-0-is))
-    c.index_at.result (c.index_at.ensures ∙ ap (λ (xs : List ℕ). get_or xs c.in-Some-Some.place 0) c.deref.ensures.value) in
-    subst (λ (v : List declared.Statement × List ℕ). StandsAt (map statement_of v.0) v.1 c.args.name.now (c.in-Some-Some.place + 1) c.index_at.result) c.self.view_is at
+    let at = stands program c.self.inside.order.items (entry_of c.self.inside.names.views) (entry_of c.self.inside.names.dictionaries) c.self.inside.indexes.items c.self.invariant c.in-Some-Some.view c.args.name.now (sym c.view_entry.ensures ∙ (c.in-Some-Some.is ∙ ap (λ (o : Option ℕ). Some o) c.in-Some-Some.field-0-is))
+    c.index_at.result (c.index_at.ensures ∙ ap (λ (xs : List ℕ). get_or xs c.in-Some-Some.view 0) c.deref.ensures.value) in
+    subst (λ (v : List declared.Statement × List ℕ). StandsAt (map statement_of v.0) v.1 c.args.name.now (c.in-Some-Some.view + 1) c.index_at.result) c.self.view_is at

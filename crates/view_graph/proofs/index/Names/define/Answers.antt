@@ -9,14 +9,14 @@ use Rattle.view_graph.proofs.index.Names.define.Goals as goal
 
 pub returns-then-branch-clause-ok : goal.returns-then-branch-clause-ok
 returns-then-branch-clause-ok c = λ before at names.
-    view_added before (statement_of c.args.statement.now) c.in-View.name.text c.as_str-text.result.now c.as_str-text.ensures c.args.place at
+    view_added before (statement_of c.args.statement.now) c.in-View.name.text c.as_str-text.result.now c.as_str-text.ensures c.args.index at
     (entry_of c.args.self.now.views) (entry_of c.args.self.now.dictionaries) names
     (ap (λ (s : Statement). defined_by (statement_of s)) c.in-View.is)
     (entry_of c.add_view.new.views) c.in_ok-add_view-in-View.field-0 c.if-branch.true c.in_ok-add_view-in-View.ensures
 
 pub returns-in_ok-defined_again-in-View-clause-fault : goal.returns-in_ok-defined_again-in-View-clause-fault
 returns-in_ok-defined_again-in-View-clause-fault c = λ before after at names.
-    view_again before (statement_of c.args.statement.now) c.in-View.name.text c.as_str-text.result.now c.as_str-text.ensures c.args.place at
+    view_again before (statement_of c.args.statement.now) c.in-View.name.text c.as_str-text.result.now c.as_str-text.ensures c.args.index at
     (entry_of c.args.self.now.views) (entry_of c.args.self.now.dictionaries) names
     (ap (λ (s : Statement). defined_by (statement_of s)) c.in-View.is)
     (entry_of c.add_view.new.views) c.in_ok-add_view-in-View.field-0 c.if-branch.false c.in_ok-add_view-in-View.ensures
@@ -24,14 +24,14 @@ returns-in_ok-defined_again-in-View-clause-fault c = λ before after at names.
 
 pub returns-then-branch-2-clause-ok : goal.returns-then-branch-2-clause-ok
 returns-then-branch-2-clause-ok c = λ before at names.
-    dictionary_added before (statement_of c.args.statement.now) c.in-Dictionary.name.text c.as_str-text-in-Dictionary.result.now c.as_str-text-in-Dictionary.ensures c.args.place at
+    dictionary_added before (statement_of c.args.statement.now) c.in-Dictionary.name.text c.as_str-text-in-Dictionary.result.now c.as_str-text-in-Dictionary.ensures c.args.index at
     (entry_of c.args.self.now.views) (entry_of c.args.self.now.dictionaries) names
     (ap (λ (s : Statement). defined_by (statement_of s)) c.in-Dictionary.is)
     (entry_of c.add_dictionary.new.dictionaries) c.in_ok-add_dictionary-in-Dictionary.field-0 c.if-branch-2.true c.in_ok-add_dictionary-in-Dictionary.ensures
 
 pub returns-in_ok-defined_again-in-Dictionary-clause-fault : goal.returns-in_ok-defined_again-in-Dictionary-clause-fault
 returns-in_ok-defined_again-in-Dictionary-clause-fault c = λ before after at names.
-    dictionary_again before (statement_of c.args.statement.now) c.in-Dictionary.name.text c.as_str-text-in-Dictionary.result.now c.as_str-text-in-Dictionary.ensures c.args.place at
+    dictionary_again before (statement_of c.args.statement.now) c.in-Dictionary.name.text c.as_str-text-in-Dictionary.result.now c.as_str-text-in-Dictionary.ensures c.args.index at
     (entry_of c.args.self.now.views) (entry_of c.args.self.now.dictionaries) names
     (ap (λ (s : Statement). defined_by (statement_of s)) c.in-Dictionary.is)
     (entry_of c.add_dictionary.new.dictionaries) c.in_ok-add_dictionary-in-Dictionary.field-0 c.if-branch-2.false c.in_ok-add_dictionary-in-Dictionary.ensures

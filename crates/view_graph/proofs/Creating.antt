@@ -1,4 +1,4 @@
--- The places of the views of a program, and the names that statements define.
+-- The views of a program, and the names that statements define.
 use Rattle.std.proofs.Common.{◌≡◌, ◌∙◌, ◌+◌, ◌<◌, ◌≤◌, ◌⊎◌, inl, inr, ⊎_elim, ℕ, zero, suc, None, Some, List, [], ◌∷◌, ◌++◌, flat_map, take, drop, length, get_or, Contains, All, AllPairs, refl, ap, sym, subst, arith, codes}
 use Rattle.std.proofs.lemmas.Bool.{cases_order, cases_lt}
 use Rattle.std.proofs.lemmas.List.{take-append-drop, drop_more, get_or-take, length-take-le, get_or_past}
@@ -27,14 +27,14 @@ few_outputs (create name query) = inl refl
 few_outputs (output name None) = inr (name.text, refl)
 few_outputs (output name (Some alias)) = inr (alias, refl)
 
--- a statement that creates a view, and what the list of places has of it
-view_or_not : (s : Statement) (place : ℕ) (ss : List Statement) → (IsView s × (views_from place (s ∷ ss) ≡ place ∷ views_from (suc place) ss)) ⊎ ((IsView s → ⊥) × (views_from place (s ∷ ss) ≡ views_from (suc place) ss))
-view_or_not (module_ name) place ss = inr ((λ h. h), refl)
-view_or_not require place ss = inr ((λ h. h), refl)
-view_or_not (export name) place ss = inr ((λ h. h), refl)
-view_or_not (dictionary name entries) place ss = inr ((λ h. h), refl)
-view_or_not (create name query) place ss = inl (tt, refl)
-view_or_not (output name alias) place ss = inr ((λ h. h), refl)
+-- a statement that creates a view, and what the list of views has of it
+view_or_not : (s : Statement) (index : ℕ) (ss : List Statement) → (IsView s × (views_from index (s ∷ ss) ≡ index ∷ views_from (suc index) ss)) ⊎ ((IsView s → ⊥) × (views_from index (s ∷ ss) ≡ views_from (suc index) ss))
+view_or_not (module_ name) index ss = inr ((λ h. h), refl)
+view_or_not require index ss = inr ((λ h. h), refl)
+view_or_not (export name) index ss = inr ((λ h. h), refl)
+view_or_not (dictionary name entries) index ss = inr ((λ h. h), refl)
+view_or_not (create name query) index ss = inl (tt, refl)
+view_or_not (output name alias) index ss = inr ((λ h. h), refl)
 
 no_named : (x : Named) → ◌≡◌ {A = List Named} [] (x ∷ []) → ⊥
 no_named x e = cc
@@ -50,53 +50,53 @@ view_from_name (dictionary other entries) name e = apart other.text name e
 view_from_name (create other query) name e = tt
 view_from_name (output other alias) name e = no_named (view_named name) e
 
--- a place of the list is that of a view
+-- an index of the list is that of a view
 unfoldable pub IsListed : ℕ → List Statement → ℕ → Type 0
-IsListed place ss p = (k : ℕ) × (p ≡ place + k) × (k < length ss) × IsView (get_or ss k require)
+IsListed index ss p = (k : ℕ) × (p ≡ index + k) × (k < length ss) × IsView (get_or ss k require)
 
-pub listed : (ss : List Statement) (place : ℕ) → All (IsListed place ss) (views_from place ss)
+pub listed : (ss : List Statement) (index : ℕ) → All (IsListed index ss) (views_from index ss)
 unfolding IsListed
-listed [] place = λ k d below. absurd (omega (arith, below))
-listed (s ∷ ss) place = by (view_or_not s place ss) (All-weaker (IsListed (suc place) ss) (IsListed place (s ∷ ss)) (λ p h. (suc h.0, omega (arith, h.1), omega (arith, h.2), h.3)) (views_from (suc place) ss) (listed ss (suc place)))
+listed [] index = λ k d below. absurd (omega (arith, below))
+listed (s ∷ ss) index = by (view_or_not s index ss) (All-weaker (IsListed (suc index) ss) (IsListed index (s ∷ ss)) (λ p h. (suc h.0, omega (arith, h.1), omega (arith, h.2), h.3)) (views_from (suc index) ss) (listed ss (suc index)))
   where
-    by : (IsView s × (views_from place (s ∷ ss) ≡ place ∷ views_from (suc place) ss)) ⊎ ((IsView s → ⊥) × (views_from place (s ∷ ss) ≡ views_from (suc place) ss))
-        → All (IsListed place (s ∷ ss)) (views_from (suc place) ss) → All (IsListed place (s ∷ ss)) (views_from place (s ∷ ss))
-    by (inl h) rest = subst (λ (ps : List ℕ). All (IsListed place (s ∷ ss)) ps) (sym h.1) (All-cons (IsListed place (s ∷ ss)) place (views_from (suc place) ss) (0, omega arith, omega arith, h.0) rest)
-    by (inr h) rest = subst (λ (ps : List ℕ). All (IsListed place (s ∷ ss)) ps) (sym h.1) rest
+    by : (IsView s × (views_from index (s ∷ ss) ≡ index ∷ views_from (suc index) ss)) ⊎ ((IsView s → ⊥) × (views_from index (s ∷ ss) ≡ views_from (suc index) ss))
+        → All (IsListed index (s ∷ ss)) (views_from (suc index) ss) → All (IsListed index (s ∷ ss)) (views_from index (s ∷ ss))
+    by (inl h) rest = subst (λ (ps : List ℕ). All (IsListed index (s ∷ ss)) ps) (sym h.1) (All-cons (IsListed index (s ∷ ss)) index (views_from (suc index) ss) (0, omega arith, omega arith, h.0) rest)
+    by (inr h) rest = subst (λ (ps : List ℕ). All (IsListed index (s ∷ ss)) ps) (sym h.1) rest
 
-rising : (ss : List Statement) (place : ℕ) → AllPairs (λ p q. p < q) (views_from place ss)
+rising : (ss : List Statement) (index : ℕ) → AllPairs (λ p q. p < q) (views_from index ss)
 unfolding IsListed
-rising [] place = λ i j d less within. absurd (omega (arith, within))
-rising (s ∷ ss) place = by (view_or_not s place ss) (rising ss (suc place))
+rising [] index = λ i j d less within. absurd (omega (arith, within))
+rising (s ∷ ss) index = by (view_or_not s index ss) (rising ss (suc index))
   where
-    by : (IsView s × (views_from place (s ∷ ss) ≡ place ∷ views_from (suc place) ss)) ⊎ ((IsView s → ⊥) × (views_from place (s ∷ ss) ≡ views_from (suc place) ss))
-        → AllPairs (λ p q. p < q) (views_from (suc place) ss) → AllPairs (λ p q. p < q) (views_from place (s ∷ ss))
+    by : (IsView s × (views_from index (s ∷ ss) ≡ index ∷ views_from (suc index) ss)) ⊎ ((IsView s → ⊥) × (views_from index (s ∷ ss) ≡ views_from (suc index) ss))
+        → AllPairs (λ p q. p < q) (views_from (suc index) ss) → AllPairs (λ p q. p < q) (views_from index (s ∷ ss))
     by (inl h) rest = subst (λ (ps : List ℕ). AllPairs (λ p q. p < q) ps) (sym h.1)
-        (AllPairs-cons (λ p q. p < q) place (views_from (suc place) ss) (All-weaker (IsListed (suc place) ss) (λ q. place < q) (λ p h. omega (arith, h.1)) (views_from (suc place) ss) (listed ss (suc place))) rest)
+        (AllPairs-cons (λ p q. p < q) index (views_from (suc index) ss) (All-weaker (IsListed (suc index) ss) (λ q. index < q) (λ p h. omega (arith, h.1)) (views_from (suc index) ss) (listed ss (suc index))) rest)
     by (inr h) rest = subst (λ (ps : List ℕ). AllPairs (λ p q. p < q) ps) (sym h.1) rest
 
--- the places of views are distinct
+-- the indexes of views are distinct
 pub views_differ : (program : List Statement) → AllDiffer (views_of program)
 views_differ program = λ i j d less within same. let h = rising program 0 i j d less within in omega (arith, h, same)
 
 -- each view is in the list
-pub view_listed : (ss : List Statement) (place k : ℕ) → k < length ss → IsView (get_or ss k require) → Contains (views_from place ss) (place + k)
-view_listed [] place k below is = absurd (omega (arith, below))
-view_listed (s ∷ ss) place zero below is = by (view_or_not s place ss)
+pub view_listed : (ss : List Statement) (index k : ℕ) → k < length ss → IsView (get_or ss k require) → Contains (views_from index ss) (index + k)
+view_listed [] index k below is = absurd (omega (arith, below))
+view_listed (s ∷ ss) index zero below is = by (view_or_not s index ss)
   where
-    by : (IsView s × (views_from place (s ∷ ss) ≡ place ∷ views_from (suc place) ss)) ⊎ ((IsView s → ⊥) × (views_from place (s ∷ ss) ≡ views_from (suc place) ss)) → Contains (views_from place (s ∷ ss)) (place + zero)
-    by (inl h) = subst (λ (ps : List ℕ). Contains ps (place + zero)) (sym h.1) (0, omega arith, omega arith)
+    by : (IsView s × (views_from index (s ∷ ss) ≡ index ∷ views_from (suc index) ss)) ⊎ ((IsView s → ⊥) × (views_from index (s ∷ ss) ≡ views_from (suc index) ss)) → Contains (views_from index (s ∷ ss)) (index + zero)
+    by (inl h) = subst (λ (ps : List ℕ). Contains ps (index + zero)) (sym h.1) (0, omega arith, omega arith)
     by (inr h) = absurd (h.0 is)
-view_listed (s ∷ ss) place (suc k) below is = by (view_or_not s place ss) (view_listed ss (suc place) k (omega (arith, below)) is)
+view_listed (s ∷ ss) index (suc k) below is = by (view_or_not s index ss) (view_listed ss (suc index) k (omega (arith, below)) is)
   where
-    by : (IsView s × (views_from place (s ∷ ss) ≡ place ∷ views_from (suc place) ss)) ⊎ ((IsView s → ⊥) × (views_from place (s ∷ ss) ≡ views_from (suc place) ss))
-        → Contains (views_from (suc place) ss) (suc place + k) → Contains (views_from place (s ∷ ss)) (place + suc k)
+    by : (IsView s × (views_from index (s ∷ ss) ≡ index ∷ views_from (suc index) ss)) ⊎ ((IsView s → ⊥) × (views_from index (s ∷ ss) ≡ views_from (suc index) ss))
+        → Contains (views_from (suc index) ss) (suc index + k) → Contains (views_from index (s ∷ ss)) (index + suc k)
     by (inl h) at =
-        let same : suc place + k ≡ place + suc k = omega arith in
-        subst (λ (ps : List ℕ). Contains ps (place + suc k)) (sym h.1) (Contains-append_right (place ∷ []) (views_from (suc place) ss) (place + suc k) (subst (λ (p : ℕ). Contains (views_from (suc place) ss) p) same at))
+        let same : suc index + k ≡ index + suc k = omega arith in
+        subst (λ (ps : List ℕ). Contains ps (index + suc k)) (sym h.1) (Contains-append_right (index ∷ []) (views_from (suc index) ss) (index + suc k) (subst (λ (p : ℕ). Contains (views_from (suc index) ss) p) same at))
     by (inr h) at =
-        let same : suc place + k ≡ place + suc k = omega arith in
-        subst (λ (ps : List ℕ). Contains ps (place + suc k)) (sym h.1) (subst (λ (p : ℕ). Contains (views_from (suc place) ss) p) same at)
+        let same : suc index + k ≡ index + suc k = omega arith in
+        subst (λ (ps : List ℕ). Contains ps (index + suc k)) (sym h.1) (subst (λ (p : ℕ). Contains (views_from (suc index) ss) p) same at)
 
 -- what one statement gives is among what all give
 pub among_all : {S X : Type 0} (f : S → List X) (ss : List S) (k : ℕ) (d : S) (x : X) → k < length ss → Contains (f (get_or ss k d)) x → Contains (flat_map f ss) x
@@ -125,7 +125,7 @@ abbrev pub document : List Named
 document = view_named (codes "Document") ∷ []
 
 module _ (program : List Statement) (distinct : AllDiffer (names_defined program)) where
-  -- a name that stands before a place isn't defined there
+  -- a name that stands before a statement isn't defined there
   not_again : (q : ℕ) (named : Named) → q < length program → defined_by (statement_at program q) ≡ named ∷ [] → ¬ (Contains (names_defined (take q program)) named)
   not_again q named within defines at =
       let split : program ≡ take q program ++ statement_at program q ∷ drop (q + 1) program = sym (ap (λ (rest : List Statement). take q program ++ rest) (sym (drop_more program q require within)) ∙ take-append-drop q program) in
@@ -151,6 +151,6 @@ module _ (program : List Statement) (distinct : AllDiffer (names_defined program
       ⊎_elim (λ same. same) (⊎_elim (λ less. absurd (before_not p q named less one other)) (λ more. absurd (before_not q p named more other one))) (cases_order p q)
 
   -- and `Document` by none
-  pub no_document : (place : ℕ) → ¬ (CreatesView program place (codes "Document"))
-  no_document place creates =
-      not_again place (view_named (codes "Document")) (defined_within place (view_named (codes "Document")) creates (cases_lt place (length program))) creates (0, omega arith, refl)
+  pub no_document : (index : ℕ) → ¬ (CreatesView program index (codes "Document"))
+  no_document index creates =
+      not_again index (view_named (codes "Document")) (defined_within index (view_named (codes "Document")) creates (cases_lt index (length program))) creates (0, omega arith, refl)
