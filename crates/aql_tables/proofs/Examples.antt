@@ -4,7 +4,7 @@ use Rattle.std.specs.Prelude.{codes}
 use Rattle.std.specs.Bool.{nat_eq}
 use Rattle.aql_syntax.specs.Trees.{Term, str, regex, bare, call, Terms, as_terms, dictionary, exact}
 use Rattle.aql_tables.specs.Mentions.{of_pattern, of_dictionary, flags_in, mentions_in_term, mentions_in_text, is_exact}
-use Rattle.aql_tables.specs.Places.{each_once, place_of}
+use Rattle.aql_tables.specs.Numbers.{each_once, number_among}
 use Rattle.aql_tables.specs.Programs.{entries_of}
 
 -- texts and a name in a tree
@@ -17,11 +17,11 @@ name = bare 0 (record { text = codes "n"; at = 0 })
 a_value_stands_where_it_stands_first : each_once nat_eq (3 ∷ 1 ∷ 3 ∷ 2 ∷ 1 ∷ []) ≡ 3 ∷ 1 ∷ 2 ∷ []
 a_value_stands_where_it_stands_first = refl
 
-the_first_equal_value_decides : place_of nat_eq 1 (3 ∷ 1 ∷ 1 ∷ []) ≡ 1
+the_first_equal_value_decides : number_among nat_eq 1 (3 ∷ 1 ∷ 1 ∷ []) ≡ 1
 the_first_equal_value_decides = refl
 
-a_value_that_is_not_there_has_the_place_behind_all : place_of nat_eq 9 (3 ∷ 1 ∷ []) ≡ 2
-a_value_that_is_not_there_has_the_place_behind_all = refl
+a_value_that_is_not_there_has_the_number_behind_all : number_among nat_eq 9 (3 ∷ 1 ∷ []) ≡ 2
+a_value_that_is_not_there_has_the_number_behind_all = refl
 
 two_arguments_have_no_flag : flags_in (as_terms (text (codes "Exact") ∷ [])) ≡ false ∷ []
 two_arguments_have_no_flag = refl

@@ -31,38 +31,38 @@ IsFilled (x ∷ xs) = Unit {0}
 no_name : {X : Type 0} (x : X) → [] ≡ x ∷ [] → ⊥
 no_name x e = subst IsFilled (sym e) tt
 
--- what the statement at a place defines is defined
-defined_there : (ss : List Statement) (place : ℕ) (x : Named) → defined_by (statement_at ss place) ≡ x ∷ [] → Contains (flat_map defined_by ss) x
-defined_there [] place x e = absurd (no_name x e)
+-- what the statement at an index defines is defined
+defined_there : (ss : List Statement) (index : ℕ) (x : Named) → defined_by (statement_at ss index) ≡ x ∷ [] → Contains (flat_map defined_by ss) x
+defined_there [] index x e = absurd (no_name x e)
 defined_there (s ∷ ss) zero x e = Contains-append_left (defined_by s) (flat_map defined_by ss) x (subst (λ (ns : List Named). Contains ns x) (sym e) (0, omega arith, refl))
-defined_there (s ∷ ss) (suc place) x e = Contains-append_right (defined_by s) (flat_map defined_by ss) x (defined_there ss place x e)
+defined_there (s ∷ ss) (suc index) x e = Contains-append_right (defined_by s) (flat_map defined_by ss) x (defined_there ss index x e)
 
 abbrev IsDictionary : Statement → Type 0
 IsDictionary (dictionary own entries) = Unit {0}
 IsDictionary statement = ⊥
 
--- the dictionary at a place is the first with its name
-first_entries : (ss : List Statement) → AllDiffer (flat_map defined_by ss) → (place : ℕ) (own : Name) (entries : List (List ℕ))
-    → statement_at ss place ≡ dictionary own entries → entries_of ss own.text ≡ Some entries
-first_entries [] differ place own entries e = absurd (subst IsDictionary (sym e) tt)
+-- the dictionary at an index is the first with its name
+first_entries : (ss : List Statement) → AllDiffer (flat_map defined_by ss) → (index : ℕ) (own : Name) (entries : List (List ℕ))
+    → statement_at ss index ≡ dictionary own entries → entries_of ss own.text ≡ Some entries
+first_entries [] differ index own entries e = absurd (subst IsDictionary (sym e) tt)
 first_entries (s ∷ ss) differ zero own entries e =
     subst (λ (s : Statement). entries_of (s ∷ ss) own.text ≡ Some entries) (sym e)
     (ap (λ b. cond b (Some entries) (entries_of ss own.text)) ((bytes_decides own.text own.text).1 refl))
-first_entries (dictionary mine others ∷ ss) differ (suc place) own entries e =
-    by (bytes_eq own.text mine.text) refl (first_entries ss (differ_tail (dictionary_named mine.text) (flat_map defined_by ss) differ) place own entries e)
+first_entries (dictionary mine others ∷ ss) differ (suc index) own entries e =
+    by (bytes_eq own.text mine.text) refl (first_entries ss (differ_tail (dictionary_named mine.text) (flat_map defined_by ss) differ) index own entries e)
   where
     by : (b : Bool) → bytes_eq own.text mine.text ≡ b → entries_of ss own.text ≡ Some entries → entries_of (dictionary mine others ∷ ss) own.text ≡ Some entries
     by true is later =
         absurd (differ_head (dictionary_named mine.text) (flat_map defined_by ss) differ
-        (defined_there ss place (dictionary_named mine.text)
+        (defined_there ss index (dictionary_named mine.text)
         (ap defined_by e ∙ ap (λ (name : List ℕ). dictionary_named name ∷ []) ((bytes_decides own.text mine.text).0 is))))
     by false isnt later = ap (λ b. cond b (Some others) (entries_of ss own.text)) isnt ∙ later
-first_entries (create name query ∷ ss) differ (suc place) own entries e =
-    first_entries ss (differ_tail (view_named name.text) (flat_map defined_by ss) differ) place own entries e
-first_entries (module_ name ∷ ss) differ (suc place) own entries e = first_entries ss differ place own entries e
-first_entries (require ∷ ss) differ (suc place) own entries e = first_entries ss differ place own entries e
-first_entries (export name ∷ ss) differ (suc place) own entries e = first_entries ss differ place own entries e
-first_entries (output name alias ∷ ss) differ (suc place) own entries e = first_entries ss differ place own entries e
+first_entries (create name query ∷ ss) differ (suc index) own entries e =
+    first_entries ss (differ_tail (view_named name.text) (flat_map defined_by ss) differ) index own entries e
+first_entries (module_ name ∷ ss) differ (suc index) own entries e = first_entries ss differ index own entries e
+first_entries (require ∷ ss) differ (suc index) own entries e = first_entries ss differ index own entries e
+first_entries (export name ∷ ss) differ (suc index) own entries e = first_entries ss differ index own entries e
+first_entries (output name alias ∷ ss) differ (suc index) own entries e = first_entries ss differ index own entries e
 
 -- a name that no dictionary has
 no_entries : (ss : List Statement) (name : List ℕ) → ¬ (Contains (flat_map defined_by ss) (dictionary_named name)) → entries_of ss name ≡ None
@@ -97,9 +97,9 @@ module _ (program : List Statement) (name : List ℕ) where
   pub found_other : (number : ℕ) → FindsDictionary program name (Some number) → ¬ (defined_by (statement_at program (number - 1)) ≡ [])
   found_other number found none = no_name (dictionary_named name) (sym none ∙ found.1)
 
--- the statement of the code at a place
-pub statement_found : (ss : List declared.Statement) (place : ℕ) (s : declared.Statement) → place < length ss → get_or ss place s ≡ s
-    → statement_at (map statement_of ss) place ≡ statement_of s
-statement_found [] place s within is = absurd (omega (arith, within))
+-- the statement of the code at an index
+pub statement_found : (ss : List declared.Statement) (index : ℕ) (s : declared.Statement) → index < length ss → get_or ss index s ≡ s
+    → statement_at (map statement_of ss) index ≡ statement_of s
+statement_found [] index s within is = absurd (omega (arith, within))
 statement_found (first ∷ ss) zero s within is = ap statement_of is
-statement_found (first ∷ ss) (suc place) s within is = statement_found ss place s (omega (arith, within)) is
+statement_found (first ∷ ss) (suc index) s within is = statement_found ss index s (omega (arith, within)) is

@@ -7,7 +7,7 @@ use Rattle.std.proofs.lemmas.Option.{slice_get-map}
 use Rattle.std.proofs.lemmas.List.Elements.{All-nil, All-cons, All-head, All-tail, All-append, All-weaker, All-contains_itself, Contains-append_left, Contains-append_right}
 use Rattle.aql_syntax.specs.Trees.{Statement}
 use Rattle.aql_tables.specs.Mentions.{Mention, of_pattern, of_dictionary, mentions_of}
-use Rattle.aql_tables.specs.Places.{place_of}
+use Rattle.aql_tables.specs.Numbers.{number_among}
 use Rattle.aql_tables.specs.Verdicts.{is_pattern}
 use Rattle.aql_tables.specs.Programs.{DictKey, same_dict, is_dictionary, use_of, pattern_in, dict_in, dicts_of, collected, IsListed, ListsMentions}
 use Rattle.aql_tables.proofs.Once.{found_each, all_each, differ_each}
@@ -33,7 +33,7 @@ module _ (program : List Statement) where
       (among pattern_in (mentions_of program) at.0 (of_pattern text) text at.1 at.2 (ap (λ b. cond b (text ∷ []) []) good))
   listed (of_dictionary name exact) at = λ good.
       let key : DictKey = (name, exact) in
-      slice_get-map (use_of program) (dicts_of program) (place_of same_dict key (dicts_of program))
+      slice_get-map (use_of program) (dicts_of program) (number_among same_dict key (dicts_of program))
       ∙ ap (λ (o : Option DictKey). option_map (use_of program) o)
       (found_each same_dict dict.same_is dict.itself (flat_map (dict_in program) (mentions_of program)) key
       (among (dict_in program) (mentions_of program) at.0 (of_dictionary name exact) key at.1 at.2 (ap (λ b. cond b (key ∷ []) []) good)))

@@ -8,7 +8,7 @@ use Rattle.std.proofs.lemmas.List.{append-nil}
 use Rattle.std.proofs.lemmas.List.Elements.{filter-append, filter_passes, All-cons, All-head, All-tail, All-filter, All-weaker}
 use Rattle.view_graph.specs.Names.{AllDiffer}
 use Rattle.std.proofs.lemmas.List.{length-append}
-use Rattle.aql_tables.specs.Places.{each_once, place_of}
+use Rattle.aql_tables.specs.Numbers.{each_once, number_among}
 use Rattle.aql_tables.specs.Kept.{IsAt}
 
 module _ {X : Type 0} (same : X → X → Bool) (is : (x y : X) → same x y ≡ true → x ≡ y) (itself : (x : X) → same x x ≡ true) where
@@ -69,79 +69,79 @@ module _ {X : Type 0} (same : X → X → Bool) (is : (x y : X) → same x y ≡
           push_behind true = refl
           push_behind false = refl
 
-  -- ---- places
+  -- ---- numbers
 
-  -- what has a place is there
-  pub there : (x : X) (ks : List X) → place_of same x ks < length ks → list_any (same x) ks ≡ true
+  -- what has a number is there
+  pub there : (x : X) (ks : List X) → number_among same x ks < length ks → list_any (same x) ks ≡ true
   there x [] within = absurd (omega (arith, within))
   there x (k ∷ ks) within = by (same x k) refl (there x ks)
     where
-      by : (b : Bool) → same x k ≡ b → (place_of same x ks < length ks → list_any (same x) ks ≡ true) → list_any (same x) (k ∷ ks) ≡ true
+      by : (b : Bool) → same x k ≡ b → (number_among same x ks < length ks → list_any (same x) ks ≡ true) → list_any (same x) (k ∷ ks) ≡ true
       by true told more = ap (λ b. b || list_any (same x) ks) told
       by false told more = ap (λ b. b || list_any (same x) ks) told ∙ more (grind (arith, told, within))
 
   -- what has none isn't
-  pub not_there : (x : X) (ks : List X) → place_of same x ks ≡ length ks → list_any (same x) ks ≡ false
+  pub not_there : (x : X) (ks : List X) → number_among same x ks ≡ length ks → list_any (same x) ks ≡ false
   not_there x [] past = refl
   not_there x (k ∷ ks) past = by (same x k) refl (not_there x ks)
     where
-      by : (b : Bool) → same x k ≡ b → (place_of same x ks ≡ length ks → list_any (same x) ks ≡ false) → list_any (same x) (k ∷ ks) ≡ false
+      by : (b : Bool) → same x k ≡ b → (number_among same x ks ≡ length ks → list_any (same x) ks ≡ false) → list_any (same x) (k ∷ ks) ≡ false
       by true told more = absurd (grind (arith, told, past))
       by false told more = ap (λ b. b || list_any (same x) ks) told ∙ more (grind (arith, told, past))
 
-  -- a value that has a place keeps it
-  pub place_kept : (x : X) (ks more : List X) → place_of same x ks < length ks → place_of same x (ks ++ more) ≡ place_of same x ks
-  place_kept x [] more within = absurd (omega (arith, within))
-  place_kept x (k ∷ ks) more within = by (same x k) refl (place_kept x ks more)
+  -- a value that has a number keeps it
+  pub number_kept : (x : X) (ks more : List X) → number_among same x ks < length ks → number_among same x (ks ++ more) ≡ number_among same x ks
+  number_kept x [] more within = absurd (omega (arith, within))
+  number_kept x (k ∷ ks) more within = by (same x k) refl (number_kept x ks more)
     where
-      by : (b : Bool) → same x k ≡ b → (place_of same x ks < length ks → place_of same x (ks ++ more) ≡ place_of same x ks)
-          → place_of same x (k ∷ ks ++ more) ≡ place_of same x (k ∷ ks)
+      by : (b : Bool) → same x k ≡ b → (number_among same x ks < length ks → number_among same x (ks ++ more) ≡ number_among same x ks)
+          → number_among same x (k ∷ ks ++ more) ≡ number_among same x (k ∷ ks)
       by true told kept = rw told refl
       by false told kept = rw told (ap (λ (n : ℕ). 1 + n) (kept (grind (arith, told, within))))
 
   -- a value that has none comes to stand after all
-  pub place_new : (x : X) (ks more : List X) → place_of same x ks ≡ length ks → place_of same x (ks ++ more) ≡ length ks + place_of same x more
-  place_new x [] more past = omega arith
-  place_new x (k ∷ ks) more past = by (same x k) refl (place_new x ks more)
+  pub number_new : (x : X) (ks more : List X) → number_among same x ks ≡ length ks → number_among same x (ks ++ more) ≡ length ks + number_among same x more
+  number_new x [] more past = omega arith
+  number_new x (k ∷ ks) more past = by (same x k) refl (number_new x ks more)
     where
-      by : (b : Bool) → same x k ≡ b → (place_of same x ks ≡ length ks → place_of same x (ks ++ more) ≡ length ks + place_of same x more)
-          → place_of same x (k ∷ ks ++ more) ≡ length (k ∷ ks) + place_of same x more
+      by : (b : Bool) → same x k ≡ b → (number_among same x ks ≡ length ks → number_among same x (ks ++ more) ≡ length ks + number_among same x more)
+          → number_among same x (k ∷ ks ++ more) ≡ length (k ∷ ks) + number_among same x more
       by true told after = absurd (grind (arith, told, past))
       by false told after = grind (arith, told, after (grind (arith, told, past)))
 
-  -- at its place stands the value
-  pub at_place : (x : X) (ks : List X) (d : X) → place_of same x ks < length ks → get_or ks (place_of same x ks) d ≡ x
-  at_place x [] d within = absurd (omega (arith, within))
-  at_place x (k ∷ ks) d within = by (same x k) refl (at_place x ks d)
+  -- at its number stands the value
+  pub at_number : (x : X) (ks : List X) (d : X) → number_among same x ks < length ks → get_or ks (number_among same x ks) d ≡ x
+  at_number x [] d within = absurd (omega (arith, within))
+  at_number x (k ∷ ks) d within = by (same x k) refl (at_number x ks d)
     where
-      by : (b : Bool) → same x k ≡ b → (place_of same x ks < length ks → get_or ks (place_of same x ks) d ≡ x)
-          → get_or (k ∷ ks) (place_of same x (k ∷ ks)) d ≡ x
+      by : (b : Bool) → same x k ≡ b → (number_among same x ks < length ks → get_or ks (number_among same x ks) d ≡ x)
+          → get_or (k ∷ ks) (number_among same x (k ∷ ks)) d ≡ x
       by true told later = rw told (sym (is x k told))
       by false told later = grind (arith, told, later (grind (arith, told, within)))
 
   -- a value that is added stands last
-  pub at_last : (x : X) (ks : List X) → place_of same x ks ≡ length ks → IsAt same (ks ++ x ∷ []) x (length ks)
+  pub at_last : (x : X) (ks : List X) → number_among same x ks ≡ length ks → IsAt same (ks ++ x ∷ []) x (length ks)
   at_last x ks past = record {
-    place_is = place_new x ks (x ∷ []) past ∙ grind (arith, itself x);
+    number_is = number_new x ks (x ∷ []) past ∙ grind (arith, itself x);
     within = rw (length-append ks (x ∷ [])) (omega arith);
   }
 
   -- one that was there stays where it is
   pub at_more : (x : X) (ks more : List X) (n : ℕ) → IsAt same ks x n → IsAt same (ks ++ more) x n
   at_more x ks more n at = record {
-    place_is = place_kept x ks more (subst (λ (i : ℕ). i < length ks) (sym at.place_is) at.within) ∙ at.place_is;
+    number_is = number_kept x ks more (subst (λ (i : ℕ). i < length ks) (sym at.number_is) at.within) ∙ at.number_is;
     within = rw (length-append ks more) (omega (arith, at.within));
   }
 
   -- one that wasn't there isn't, where another is added
-  pub past_more : (x k : X) (ks : List X) → place_of same x ks ≡ length ks → same x k ≡ false → place_of same x (ks ++ k ∷ []) ≡ length (ks ++ k ∷ [])
-  past_more x k ks past other = place_new x ks (k ∷ []) past ∙ (grind (arith, other) ∙ sym (length-append ks (k ∷ [])))
+  pub past_more : (x k : X) (ks : List X) → number_among same x ks ≡ length ks → same x k ≡ false → number_among same x (ks ++ k ∷ []) ≡ length (ks ++ k ∷ [])
+  past_more x k ks past other = number_new x ks (k ∷ []) past ∙ (grind (arith, other) ∙ sym (length-append ks (k ∷ [])))
 
   -- one that is there is added to no avail
   pub pushed_known : (x : X) (ks : List X) (n : ℕ) → IsAt same ks x n → pushed ks x ≡ ks
-  pushed_known x ks n at = ap (λ b. cond b ks (ks ++ x ∷ [])) (there x ks (subst (λ (i : ℕ). i < length ks) (sym at.place_is) at.within))
+  pushed_known x ks n at = ap (λ b. cond b ks (ks ++ x ∷ [])) (there x ks (subst (λ (i : ℕ). i < length ks) (sym at.number_is) at.within))
 
-  pub pushed_new : (x : X) (ks : List X) → place_of same x ks ≡ length ks → pushed ks x ≡ ks ++ x ∷ []
+  pub pushed_new : (x : X) (ks : List X) → number_among same x ks ≡ length ks → pushed ks x ≡ ks ++ x ∷ []
   pushed_new x ks past = ap (λ b. cond b ks (ks ++ x ∷ [])) (not_there x ks past)
 
   -- ---- what each stands for
@@ -156,19 +156,19 @@ module _ {X : Type 0} (same : X → X → Bool) (is : (x y : X) → same x y ≡
       by true told more = rw told refl
       by false told more = rw told (any_kept (λ y. not (same k y)) x (each_once same xs) (ap not (apart x k told)) ∙ more)
 
-  within : (x : X) (ks : List X) → list_any (same x) ks ≡ true → place_of same x ks < length ks
+  within : (x : X) (ks : List X) → list_any (same x) ks ≡ true → number_among same x ks < length ks
   within x [] any = absurd (true≢false (sym any))
   within x (k ∷ ks) any = by (same x k) refl (within x ks)
     where
-      by : (b : Bool) → same x k ≡ b → (list_any (same x) ks ≡ true → place_of same x ks < length ks) → place_of same x (k ∷ ks) < length (k ∷ ks)
+      by : (b : Bool) → same x k ≡ b → (list_any (same x) ks ≡ true → number_among same x ks < length ks) → number_among same x (k ∷ ks) < length (k ∷ ks)
       by true told later = rw told (omega arith)
       by false told later = rw told (omega (arith, later (ap (λ b. b || list_any (same x) ks) (sym told) ∙ any)))
 
-  -- what stands in the list has its place among those that stand once
-  pub found_each : (xs : List X) (x : X) → Contains xs x → slice_get (each_once same xs) (place_of same x (each_once same xs)) ≡ Some x
+  -- what stands in the list has its number among those that stand once
+  pub found_each : (xs : List X) (x : X) → Contains xs x → slice_get (each_once same xs) (number_among same x (each_once same xs)) ≡ Some x
   found_each xs x at =
       let there = within x (each_once same xs) (any_each x xs ∙ list_any_at (same x) xs at.0 x at.1 (ap (same x) at.2 ∙ itself x)) in
-      slice_get-get_or (each_once same xs) (place_of same x (each_once same xs)) x there ∙ ap (λ (y : X). Some y) (at_place x (each_once same xs) x there)
+      slice_get-get_or (each_once same xs) (number_among same x (each_once same xs)) x there ∙ ap (λ (y : X). Some y) (at_number x (each_once same xs) x there)
 
   -- what is true of all is true of those that stand once
   pub all_each : (P : X → Type 0) (xs : List X) → All P xs → All P (each_once same xs)

@@ -1,4 +1,4 @@
--- The elements of a list up to a place, mapped.
+-- The elements of a list up to an index, mapped.
 use Rattle.std.proofs.Common.{◌≡◌, ◌∙◌, ℕ, ◌+◌, ◌<◌, List, [], ◌∷◌, ◌++◌, map, take, length, get_or, ap}
 use Rattle.std.proofs.lemmas.List.{take_more, map-append}
 

@@ -8,15 +8,15 @@ use Rattle.std.proofs.lemmas.List.Concat.{flat_map-append}
 use Rattle.aql_regex_extract.specs.declared.pattern.PatternFault.{PatternFault}
 use Rattle.aql_regex_extract.specs.Faults.{IsPattern, HasFault}
 use Rattle.aql_tables.specs.declared.patterns.Verdict.{Verdict}
-use Rattle.aql_tables.specs.declared.patterns.Verdict.TheVariants.{Place, Fault}
+use Rattle.aql_tables.specs.declared.patterns.Verdict.TheVariants.{Number, Fault}
 use Rattle.aql_tables.specs.Mentions.{Mention, of_pattern}
-use Rattle.aql_tables.specs.Places.{each_once, place_of}
+use Rattle.aql_tables.specs.Numbers.{each_once, number_among}
 use Rattle.aql_regex_extract.specs.Patterns.{group_count_of}
 use Rattle.aql_tables.specs.Verdicts.{pattern_fault, groups_of}
 use Rattle.aql_tables.specs.VerdictLaws.{fault_told, pattern_told}
 use Rattle.aql_tables.specs.Programs.{pattern_in, patterns_among}
 use Rattle.aql_tables.specs.Kept.{IsTold, HasPatterns, IsSet}
-use Rattle.aql_tables.proofs.Once.{pushed, each_once-push, apart, at_last, at_more, past_more, at_place, pushed_known, pushed_new}
+use Rattle.aql_tables.proofs.Once.{pushed, each_once-push, apart, at_last, at_more, past_more, at_number, pushed_known, pushed_new}
 
 pub same_is : (xs ys : List ℕ) → bytes_eq xs ys ≡ true → xs ≡ ys
 same_is xs ys = (bytes_decides xs ys).0
@@ -46,14 +46,14 @@ module _ (seen : List Mention) (ks : List (List ℕ)) (verdict_at : List ℕ →
   tell_known v known = record { patterns_are = by v (subst (IsTold ks text) known (has.keeps.told text)); keeps = has.keeps }
     where
       by : (v : Verdict) → IsTold ks text (Some v) → patterns_among (seen ++ of_pattern text ∷ []) ≡ ks
-      by (Place n) told =
+      by (Number n) told =
           one_more seen text told.1
           ∙ (ap (λ (ts : List (List ℕ)). pushed bytes_eq same_is itself ts text) has.patterns_are ∙ pushed_known bytes_eq same_is itself text ks n told.0)
       by (Fault fault) told = none_more seen (of_pattern text) (ap (λ o. cond (is_none o) (text ∷ []) []) told.1) ∙ has.patterns_are
 
   -- a text that isn't known so far
   module _ (new_at : List ℕ → Option Verdict) (unknown : verdict_at text ≡ None) where
-    past : place_of bytes_eq text ks ≡ length ks
+    past : number_among bytes_eq text ks ≡ length ks
     past = subst (IsTold ks text) unknown (has.keeps.told text)
 
     -- what is known of a text after this one's verdict is set, from what is known of this one and of the others
@@ -76,20 +76,20 @@ module _ (seen : List Mention) (ks : List (List ℕ)) (verdict_at : List ℕ →
     }
 
     -- it is a pattern
-    pub tell_new : IsPattern text → length ks + 1 < 2 ^ 32 → IsSet bytes_eq verdict_at new_at text (Place (length ks)) → HasPatterns (seen ++ of_pattern text ∷ []) (ks ++ text ∷ []) new_at
+    pub tell_new : IsPattern text → length ks + 1 < 2 ^ 32 → IsSet bytes_eq verdict_at new_at text (Number (length ks)) → HasPatterns (seen ++ of_pattern text ∷ []) (ks ++ text ∷ []) new_at
     tell_new is room set = record {
       patterns_are = one_more seen text (pattern_told text is)
           ∙ (ap (λ (ts : List (List ℕ)). pushed bytes_eq same_is itself ts text) has.patterns_are ∙ pushed_new bytes_eq same_is itself text ks past);
       keeps = record {
         short = rw (length-append ks (text ∷ [])) room;
-        told = set_told (ks ++ text ∷ []) (Place (length ks)) set (at_last bytes_eq same_is itself text ks past, pattern_told text is)
+        told = set_told (ks ++ text ∷ []) (Number (length ks)) set (at_last bytes_eq same_is itself text ks past, pattern_told text is)
             (λ q e. later q e (verdict_at q) (has.keeps.told q));
       };
     }
       where
         later : (q : List ℕ) → bytes_eq q text ≡ false → (o : Option Verdict) → IsTold ks q o → IsTold (ks ++ text ∷ []) q o
         later q e None told = past_more bytes_eq same_is itself q text ks told e
-        later q e (Some (Place n)) told = (at_more bytes_eq same_is itself q ks (text ∷ []) n told.0, told.1)
+        later q e (Some (Number n)) told = (at_more bytes_eq same_is itself q ks (text ∷ []) n told.0, told.1)
         later q e (Some (Fault fault)) told = (past_more bytes_eq same_is itself q text ks told.0 e, told.1)
 
 -- ---- groups
@@ -100,10 +100,10 @@ groups_good text good = ap (λ o. cond (is_none o) (group_count_of text) 0) good
 pub groups_bad : (text : List ℕ) (fault : PatternFault) → pattern_fault text ≡ Some fault → groups_of text ≡ 0
 groups_bad text fault bad = ap (λ o. cond (is_none o) (group_count_of text) 0) bad
 
--- the pattern at the place of a text has its groups
-pub groups_at : (ks : List (List ℕ)) (text : List ℕ) (n : ℕ) → IsTold ks text (Some (Place n)) → (there : List ℕ) → there ≡ get_or ks n there
+-- the pattern with the number of a text has its groups
+pub groups_at : (ks : List (List ℕ)) (text : List ℕ) (n : ℕ) → IsTold ks text (Some (Number n)) → (there : List ℕ) → there ≡ get_or ks n there
     → group_count_of there ≡ groups_of text
 groups_at ks text n told there is =
-    ap group_count_of (is ∙ (ap (λ (i : ℕ). get_or ks i there) (sym told.0.place_is)
-    ∙ at_place bytes_eq same_is itself text ks there (subst (λ (i : ℕ). i < length ks) (sym told.0.place_is) told.0.within)))
+    ap group_count_of (is ∙ (ap (λ (i : ℕ). get_or ks i there) (sym told.0.number_is)
+    ∙ at_number bytes_eq same_is itself text ks there (subst (λ (i : ℕ). i < length ks) (sym told.0.number_is) told.0.within)))
     ∙ sym (groups_good text told.1)

@@ -11,9 +11,9 @@ use Rattle.std.proofs.lemmas.List.Concat.{flat_map-append}
 use Rattle.aql_syntax.specs.Trees.{Statement}
 use Rattle.dict_match.specs.declared.dict_use.DictUse.{DictUse}
 use Rattle.aql_tables.specs.Mentions.{Mention, of_dictionary}
-use Rattle.aql_tables.specs.Places.{each_once, place_of}
+use Rattle.aql_tables.specs.Numbers.{each_once, number_among}
 use Rattle.aql_tables.specs.Programs.{DictKey, same_dict, entries_of, use_of, dict_in, dicts_among}
-use Rattle.aql_tables.specs.Kept.{IsPlaced, HasDicts, IsSet}
+use Rattle.aql_tables.specs.Kept.{HasNumber, HasDicts, IsSet}
 use Rattle.aql_tables.proofs.Once.{pushed, each_once-push, apart, at_last, at_more, past_more, pushed_known, pushed_new}
 
 pub same_is : (a b : DictKey) → same_dict a b ≡ true → a ≡ b
@@ -41,33 +41,33 @@ module _ (program : List Statement) where
       ∙ ap (λ b. flat_map (dict_in program) seen ++ (cond b ((name, exact) ∷ []) [] ++ [])) good)
       ∙ each_once-push same_dict same_is itself (flat_map (dict_in program) seen) (name, exact)
 
-  module _ (seen : List Mention) (keys : List DictKey) (uses : List DictUse) (place_at : DictKey → Option ℕ) (has : HasDicts program seen keys uses place_at) where
+  module _ (seen : List Mention) (keys : List DictKey) (uses : List DictUse) (number_at : DictKey → Option ℕ) (has : HasDicts program seen keys uses number_at) where
     -- what is no dictionary
-    pub use_none : (m : Mention) → dict_in program m ≡ [] → HasDicts program (seen ++ m ∷ []) keys uses place_at
+    pub use_none : (m : Mention) → dict_in program m ≡ [] → HasDicts program (seen ++ m ∷ []) keys uses number_at
     use_none m none = record { dicts_are = none_more seen m none ∙ has.dicts_are; uses_are = has.uses_are; keeps = has.keeps }
 
     module _ (name : List ℕ) (exact : Bool) where
       -- a name that no dictionary has
-      pub use_no_entries : entries_of program name ≡ None → HasDicts program (seen ++ of_dictionary name exact ∷ []) keys uses place_at
+      pub use_no_entries : entries_of program name ≡ None → HasDicts program (seen ++ of_dictionary name exact ∷ []) keys uses number_at
       use_no_entries none = use_none (of_dictionary name exact) (ap (λ o. cond (is_some o) ((name, exact) ∷ []) []) none)
 
       -- a dictionary that is known
-      pub use_known : (n : ℕ) → place_at (name, exact) ≡ Some n → HasDicts program (seen ++ of_dictionary name exact ∷ []) keys uses place_at
+      pub use_known : (n : ℕ) → number_at (name, exact) ≡ Some n → HasDicts program (seen ++ of_dictionary name exact ∷ []) keys uses number_at
       use_known n known = by (is_some (entries_of program name)) refl
         where
-          by : (b : Bool) → is_some (entries_of program name) ≡ b → HasDicts program (seen ++ of_dictionary name exact ∷ []) keys uses place_at
+          by : (b : Bool) → is_some (entries_of program name) ≡ b → HasDicts program (seen ++ of_dictionary name exact ∷ []) keys uses number_at
           by true good = record {
             dicts_are = one_more seen name exact good
                 ∙ (ap (λ (ks : List DictKey). pushed same_dict same_is itself ks (name, exact)) has.dicts_are
-                ∙ pushed_known same_dict same_is itself (name, exact) keys n (subst (IsPlaced same_dict keys (name, exact)) known (has.keeps.placed (name, exact))));
+                ∙ pushed_known same_dict same_is itself (name, exact) keys n (subst (HasNumber same_dict keys (name, exact)) known (has.keeps.numbered (name, exact))));
             uses_are = has.uses_are;
             keeps = has.keeps;
           }
           by false none = use_none (of_dictionary name exact) (ap (λ b. cond b ((name, exact) ∷ []) []) none)
 
       -- one that isn't known so far
-      pub use_new : (new_at : DictKey → Option ℕ) → place_at (name, exact) ≡ None → (entries : List (List ℕ)) → entries_of program name ≡ Some entries
-          → length keys + 1 < 2 ^ 32 → IsSet same_dict place_at new_at (name, exact) (length keys)
+      pub use_new : (new_at : DictKey → Option ℕ) → number_at (name, exact) ≡ None → (entries : List (List ℕ)) → entries_of program name ≡ Some entries
+          → length keys + 1 < 2 ^ 32 → IsSet same_dict number_at new_at (name, exact) (length keys)
           → HasDicts program (seen ++ of_dictionary name exact ∷ []) (keys ++ (name, exact) ∷ []) (uses ++ record { entries = entries; exact = exact } ∷ []) new_at
       use_new new_at unknown entries good room set = record {
         dicts_are = one_more seen name exact (ap is_some good)
@@ -77,18 +77,18 @@ module _ (program : List Statement) where
             ∙ ap₂ (λ (us : List DictUse) (es : List (List ℕ)). us ++ record { entries = es; exact = exact } ∷ []) has.uses_are (ap (λ o. unwrap_or o []) good);
         keeps = record {
           short = rw (length-append keys ((name, exact) ∷ [])) room;
-          placed = λ key. subst (IsPlaced same_dict (keys ++ (name, exact) ∷ []) key) (sym (set key)) (by key (past unknown) (same_dict (name, exact) key) refl);
+          numbered = λ key. subst (HasNumber same_dict (keys ++ (name, exact) ∷ []) key) (sym (set key)) (by key (past unknown) (same_dict (name, exact) key) refl);
         };
       }
         where
-          past : place_at (name, exact) ≡ None → place_of same_dict (name, exact) keys ≡ length keys
-          past unknown = subst (IsPlaced same_dict keys (name, exact)) unknown (has.keeps.placed (name, exact))
+          past : number_at (name, exact) ≡ None → number_among same_dict (name, exact) keys ≡ length keys
+          past unknown = subst (HasNumber same_dict keys (name, exact)) unknown (has.keeps.numbered (name, exact))
 
-          later : (key : DictKey) → same_dict key (name, exact) ≡ false → (o : Option ℕ) → IsPlaced same_dict keys key o → IsPlaced same_dict (keys ++ (name, exact) ∷ []) key o
+          later : (key : DictKey) → same_dict key (name, exact) ≡ false → (o : Option ℕ) → HasNumber same_dict keys key o → HasNumber same_dict (keys ++ (name, exact) ∷ []) key o
           later key e None told = past_more same_dict same_is itself key (name, exact) keys told e
           later key e (Some n) told = at_more same_dict same_is itself key keys ((name, exact) ∷ []) n told
 
-          by : (key : DictKey) → place_of same_dict (name, exact) keys ≡ length keys → (b : Bool) → same_dict (name, exact) key ≡ b
-              → IsPlaced same_dict (keys ++ (name, exact) ∷ []) key (cond (same_dict (name, exact) key) (Some (length keys)) (place_at key))
-          by key past true e = rw e (subst (λ (k : DictKey). IsPlaced same_dict (keys ++ (name, exact) ∷ []) k (Some (length keys))) (same_is (name, exact) key e) (at_last same_dict same_is itself (name, exact) keys past))
-          by key past false e = rw e (later key (apart same_dict same_is itself (name, exact) key e) (place_at key) (has.keeps.placed key))
+          by : (key : DictKey) → number_among same_dict (name, exact) keys ≡ length keys → (b : Bool) → same_dict (name, exact) key ≡ b
+              → HasNumber same_dict (keys ++ (name, exact) ∷ []) key (cond (same_dict (name, exact) key) (Some (length keys)) (number_at key))
+          by key past true e = rw e (subst (λ (k : DictKey). HasNumber same_dict (keys ++ (name, exact) ∷ []) k (Some (length keys))) (same_is (name, exact) key e) (at_last same_dict same_is itself (name, exact) keys past))
+          by key past false e = rw e (later key (apart same_dict same_is itself (name, exact) key e) (number_at key) (has.keeps.numbered key))

@@ -1,8 +1,8 @@
 -- ---- words of public clauses
 -- what a program mentions, in the order of the text
 pub mod Mentions
--- lists with each value once, and places in them
-pub mod Places
+-- lists with each value once, and numbers in them
+pub mod Numbers
 -- what a text is as a pattern
 pub mod Verdicts
 -- the patterns and dictionaries of a program

@@ -7,7 +7,7 @@ use Rattle.dict_match.specs.declared.dict_use.DictUse.{DictUse}
 use Rattle.scalar_ops.specs.Tables.{Lists}
 use Rattle.aql_tables.specs.Mentions.{Mention, of_pattern, of_dictionary, mentions_of}
 use Rattle.view_graph.specs.Names.{AllDiffer}
-use Rattle.aql_tables.specs.Places.{each_once, place_of}
+use Rattle.aql_tables.specs.Numbers.{each_once, number_among}
 use Rattle.aql_tables.specs.Verdicts.{is_pattern}
 
 -- a dictionary's name, and whether case counts
@@ -70,12 +70,12 @@ pub record Collected : Type 0 where
 abbrev pub collected : List Statement → Collected
 collected program = record { lists = lists_of program; dicts = dicts_of program }
 
--- what is mentioned stands at its place: a pattern with its text, a dictionary with its entries
+-- what is mentioned stands at its number: a pattern with its text, a dictionary with its entries
 abbrev pub IsListed : List Statement → Collected → Mention → Type 0
 IsListed program tables (of_pattern text) =
-    IsTrue (is_pattern text) → slice_get tables.lists.patterns (place_of bytes_eq text tables.lists.patterns) ≡ Some text
+    IsTrue (is_pattern text) → slice_get tables.lists.patterns (number_among bytes_eq text tables.lists.patterns) ≡ Some text
 IsListed program tables (of_dictionary name exact) = IsTrue (is_dictionary program name)
-    → slice_get tables.lists.dicts (place_of same_dict (name, exact) tables.dicts) ≡ Some (use_of program (name, exact))
+    → slice_get tables.lists.dicts (number_among same_dict (name, exact) tables.dicts) ≡ Some (use_of program (name, exact))
 
 -- all patterns and dictionaries that a program mentions are listed, each once, and nothing else is
 pub record ListsMentions (program : List Statement) (tables : Collected) : Type 0 where

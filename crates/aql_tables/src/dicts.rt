@@ -2,11 +2,11 @@
 
 ghost use Rattle.std.specs.Prelude.{◌≡◌, ◌++◌, ◌∷◌, [], ◌+◌, ◌<◌, ◌^◌, List, None, Some, map, length, IfOk, OnOk, MatchOption};
 ghost use Rattle.aql_syntax.specs.Views.{statement_of};
-ghost use Rattle.aql_tables.specs.Kept.{places_of, IsSet, HoldsDicts};
+ghost use Rattle.aql_tables.specs.Kept.{dict_numbers, IsSet, HoldsDicts};
 ghost use Rattle.aql_tables.specs.Mentions.{Mention, of_dictionary};
 ghost use Rattle.aql_tables.specs.Programs as spec;
 
-use crate::entries::{next_place, set_entry};
+use crate::entries::{next_number, set_entry};
 use aql_syntax::Statement;
 use dict_match::DictUse;
 use indexmap::IndexMap;
@@ -36,9 +36,9 @@ impl Dicts {
         }
     }
 
-    /// The place of the dictionary with this name that is compared so.
-    pub(crate) fn place(&self, name: &str, exact: bool) -> Option<u32>
-        ensures { result ≡ places_of self.now (name.now, exact) }
+    /// The number of the dictionary with this name that is compared so.
+    pub(crate) fn number(&self, name: &str, exact: bool) -> Option<u32>
+        ensures { result ≡ dict_numbers self.now (name.now, exact) }
     {
         if exact {
             self.exact.get(name).copied()
@@ -59,7 +59,7 @@ impl Dicts {
             → HoldsDicts (map statement_of graph.now.0) seen self.old
             → OnOk result (HoldsDicts (map statement_of graph.now.0) (seen ++ of_dictionary name.now exact ∷ []) self.new) }
     {
-        match self.place(name, exact) {
+        match self.number(name, exact) {
             Some(_) => Ok(()),
             None => match entries_of(alloc, graph, name)? {
                 Some(entries) => self.keep(alloc, name, exact, entries),
@@ -78,32 +78,32 @@ impl Dicts {
     ) -> Result<(), OutOfMemory>
         ensures keys { OnOk result (self.new.keys.items ≡ self.old.keys.items ++ (name.now, exact) ∷ []) }
         ensures uses { OnOk result (self.new.uses.items ≡ self.old.uses.items ++ record { entries = entries; exact = exact } ∷ []) }
-        ensures set { OnOk result (IsSet spec.same_dict (places_of self.old) (places_of self.new) (name.now, exact) (length self.old.keys.items)) }
+        ensures set { OnOk result (IsSet spec.same_dict (dict_numbers self.old) (dict_numbers self.new) (name.now, exact) (length self.old.keys.items)) }
         ensures short { OnOk result (length self.old.keys.items + 1 < 2 ^ 32) }
     {
-        let place = next_place(self.keys.len())?;
-        self.note(alloc, name, exact, place)?;
+        let number = next_number(self.keys.len())?;
+        self.note(alloc, name, exact, number)?;
         self.keys.push((OwnedText::copied(alloc, name)?, exact))?;
         self.uses.push(DictUse { entries, exact })?;
         Ok(())
     }
 
-    /// Keeps the place of a dictionary.
+    /// Keeps the number of a dictionary.
     fn note(
         &mut self,
         alloc: Global,
         name: &str,
         exact: bool,
-        place: u32,
+        number: u32,
     ) -> Result<(), OutOfMemory>
-        ensures set { OnOk result (IsSet spec.same_dict (places_of self.old) (places_of self.new) (name.now, exact) place) }
+        ensures set { OnOk result (IsSet spec.same_dict (dict_numbers self.old) (dict_numbers self.new) (name.now, exact) number) }
         ensures keys { self.new.keys ≡ self.old.keys }
         ensures uses { self.new.uses ≡ self.old.uses }
     {
         if exact {
-            set_entry(alloc, &mut self.exact, name, place)
+            set_entry(alloc, &mut self.exact, name, number)
         } else {
-            set_entry(alloc, &mut self.other, name, place)
+            set_entry(alloc, &mut self.other, name, number)
         }
     }
 }

@@ -1,4 +1,4 @@
-//! Maps from texts, and the places that they keep.
+//! Maps from texts, and the numbers that they keep.
 
 ghost use Rattle.std.specs.Prelude.{◌≡◌, ◌+◌, ◌<◌, ◌^◌, IfOk, OnOk};
 ghost use Rattle.std.specs.Str.{bytes_eq};
@@ -22,9 +22,9 @@ pub(crate) fn set_entry<V: Copy>(
     Ok(())
 }
 
-/// The place behind so many others. More than a `u32` counts are want of memory.
-pub(crate) fn next_place(others: usize) -> Result<u32, OutOfMemory>
-    ensures place { IfOk result (λ place. place ≡ others) }
+/// The number behind so many others, from 0. More than a `u32` counts are want of memory.
+pub(crate) fn next_number(others: usize) -> Result<u32, OutOfMemory>
+    ensures number { IfOk result (λ number. number ≡ others) }
     ensures room { OnOk result (others + 1 < 2 ^ 32) }
 {
     if others < u32::MAX as usize {

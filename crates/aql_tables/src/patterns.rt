@@ -1,14 +1,14 @@
 //! The patterns of a program, each compiled once.
 
 ghost use Rattle.std.specs.Prelude.{◌≡◌, ◌++◌, ◌∷◌, [], ◌+◌, ◌<◌, ◌^◌, List, IfOk, OnOk, length};
-ghost use Rattle.aql_tables.specs.declared.patterns.Verdict.TheVariants.{Place};
+ghost use Rattle.aql_tables.specs.declared.patterns.Verdict.TheVariants.{Number};
 ghost use Rattle.std.specs.Str.{bytes_eq};
 ghost use Rattle.aql_tables.specs.Kept.{entry_of, IsSet, HoldsPatterns};
 ghost use Rattle.aql_tables.specs.Mentions.{Mention, of_pattern};
 ghost use Rattle.aql_tables.specs.Verdicts.{pattern_fault};
 ghost use Rattle.aql_tables.specs.Verdicts as spec;
 
-use crate::entries::{next_place, set_entry};
+use crate::entries::{next_number, set_entry};
 use aql_regex_extract::{Pattern, PatternFault, compile_pattern};
 use indexmap::IndexMap;
 use span_token::{Failure, OutOfMemory};
@@ -17,8 +17,8 @@ use std::alloc::Global;
 /// What is known of a text that stands as a pattern.
 #[derive(Clone, Copy, Debug)]
 pub(crate) enum Verdict {
-    /// It is a pattern, with this place among the patterns, from 0.
-    Place(u32),
+    /// It is a pattern, with this number among the patterns, from 0.
+    Number(u32),
     Fault(PatternFault),
 }
 
@@ -67,11 +67,11 @@ impl Patterns {
     /// Puts a pattern after the others.
     fn keep(&mut self, alloc: Global, text: &str, pattern: Pattern) -> Result<(), OutOfMemory>
         ensures compiled { OnOk result (self.new.compiled.items ≡ self.old.compiled.items ++ pattern ∷ []) }
-        ensures set { OnOk result (IsSet bytes_eq (entry_of self.old.verdicts) (entry_of self.new.verdicts) text.now (Place (length self.old.compiled.items))) }
+        ensures set { OnOk result (IsSet bytes_eq (entry_of self.old.verdicts) (entry_of self.new.verdicts) text.now (Number (length self.old.compiled.items))) }
         ensures short { OnOk result (length self.old.compiled.items + 1 < 2 ^ 32) }
     {
-        let place = next_place(self.compiled.len())?;
-        set_entry(alloc, &mut self.verdicts, text, Verdict::Place(place))?;
+        let number = next_number(self.compiled.len())?;
+        set_entry(alloc, &mut self.verdicts, text, Verdict::Number(number))?;
         self.compiled.push(pattern)?;
         Ok(())
     }

@@ -5,7 +5,7 @@ ghost use Rattle.std.specs.Str.{bytes_eq};
 ghost use Rattle.aql_syntax.specs.Views.{statement_of};
 ghost use Rattle.aql_tables.specs.Kept.{mention_of, HoldsDicts, HoldsPatterns};
 ghost use Rattle.aql_tables.specs.Mentions as spec;
-ghost use Rattle.aql_tables.specs.Places.{place_of};
+ghost use Rattle.aql_tables.specs.Numbers.{number_among};
 ghost use Rattle.aql_tables.specs.Programs.{collected, same_dict, ListsMentions};
 ghost use Rattle.aql_tables.specs.Verdicts as verdict;
 
@@ -32,34 +32,34 @@ pub struct ProgramTables {
 
 impl Model for ProgramTables {
     ghost use Rattle.aql_tables.specs.Programs.{Collected};
-    ghost use Rattle.aql_tables.specs.Kept.{entry_of, places_of, tables_of, KeepsTables};
+    ghost use Rattle.aql_tables.specs.Kept.{entry_of, dict_numbers, tables_of, KeepsTables};
 
     ghost Value = { Collected };
 
     ghost view = { λ tables. tables_of tables.patterns.compiled.items tables.dicts.uses.items tables.dicts.keys.items };
 
     ghost invariant = { λ tables. KeepsTables (tables_of tables.patterns.compiled.items tables.dicts.uses.items tables.dicts.keys.items)
-        (entry_of tables.patterns.verdicts) (places_of tables.dicts) };
+        (entry_of tables.patterns.verdicts) (dict_numbers tables.dicts) };
 }
 
 impl ProgramTables {
-    /// The place of a pattern among the program's, from 0; their number, where it is none of them.
-    pub fn pattern_place(&self, text: &str) -> u32
-        ensures { result ≡ place_of bytes_eq text.now self.now.lists.patterns }
+    /// The number of a pattern among the program's, from 0; how many they are, where it is none of them.
+    pub fn pattern_number(&self, text: &str) -> u32
+        ensures { result ≡ number_among bytes_eq text.now self.now.lists.patterns }
     {
         match self.patterns.verdict(text) {
-            Some(Verdict::Place(place)) => place,
+            Some(Verdict::Number(number)) => number,
             Some(Verdict::Fault(_)) | None => self.patterns.compiled.len() as u32,
         }
     }
 
-    /// The place of the dictionary with this name that is compared so, among the program's, from 0;
-    /// their number, where it is none of them.
-    pub fn dict_place(&self, name: &str, exact: bool) -> u32
-        ensures { result ≡ place_of same_dict (name.now, exact) self.now.dicts }
+    /// The number of the dictionary with this name that is compared so, among the program's, from 0;
+    /// how many they are, where it is none of them.
+    pub fn dict_number(&self, name: &str, exact: bool) -> u32
+        ensures { result ≡ number_among same_dict (name.now, exact) self.now.dicts }
     {
-        match self.dicts.place(name, exact) {
-            Some(place) => place,
+        match self.dicts.number(name, exact) {
+            Some(number) => number,
             None => self.dicts.keys.len() as u32,
         }
     }
@@ -79,7 +79,7 @@ impl ProgramTables {
         ensures verdict { IfOk result (verdict.IsVerdict text.now) }
     {
         match self.patterns.verdict(text) {
-            Some(Verdict::Place(_)) => Ok(None),
+            Some(Verdict::Number(_)) => Ok(None),
             Some(Verdict::Fault(fault)) => Ok(Some(fault)),
             None => fault_of(alloc, text),
         }
@@ -94,8 +94,8 @@ impl ProgramTables {
         ensures { IfOk result (λ count. count ≡ verdict.groups_of text.now) }
     {
         match self.patterns.verdict(text) {
-            Some(Verdict::Place(place)) => {
-                Ok(self.patterns.compiled[place as usize].group_count())
+            Some(Verdict::Number(number)) => {
+                Ok(self.patterns.compiled[number as usize].group_count())
             }
             Some(Verdict::Fault(_)) => Ok(0),
             None => groups_of(alloc, text),

@@ -21,7 +21,7 @@ const PROGRAM: &str = "
     output view V;
 ";
 
-/// Texts with the places that they have as patterns, and their groups.
+/// Texts with the numbers that they have as patterns, and their groups.
 const PATTERNS: [(&str, u32, u32); 6] = [
     ("x", 0, 0),
     ("(a)(b)", 1, 2),
@@ -31,7 +31,7 @@ const PATTERNS: [(&str, u32, u32); 6] = [
     ("(w)", 3, 1),
 ];
 
-/// Names, whether case counts, and the places that they have as dictionaries.
+/// Names, whether case counts, and the numbers that they have as dictionaries.
 const DICTIONARIES: [(&str, bool, u32); 6] = [
     ("E", false, 0),
     ("E", true, 1),
@@ -71,13 +71,13 @@ fn tables_of(alloc: Global) -> Result<ProgramTables, Fail> {
 }
 
 #[test]
-fn a_pattern_has_the_place_of_its_first_mention_and_its_groups(
+fn a_pattern_has_the_number_of_its_first_mention_and_its_groups(
     rt: HostRuntime,
 ) -> Result<(), Fail> {
     let alloc = rt.alloc();
     let tables = tables_of(alloc)?;
-    for (text, place, groups) in PATTERNS {
-        assert_eq!(rt; tables.pattern_place(text), place, "{text}");
+    for (text, number, groups) in PATTERNS {
+        assert_eq!(rt; tables.pattern_number(text), number, "{text}");
         assert_eq!(rt; tables.group_count(alloc, text)?, groups, "{text}");
     }
     Ok(())
@@ -99,10 +99,10 @@ fn a_text_that_is_no_pattern_has_its_fault(rt: HostRuntime) -> Result<(), Fail> 
 }
 
 #[test]
-fn a_dictionary_has_a_place_for_each_way_it_is_compared(rt: HostRuntime) -> Result<(), Fail> {
+fn a_dictionary_has_a_number_for_each_way_it_is_compared(rt: HostRuntime) -> Result<(), Fail> {
     let tables = tables_of(rt.alloc())?;
-    for (name, exact, place) in DICTIONARIES {
-        assert_eq!(rt; tables.dict_place(name, exact), place, "{name} {exact}");
+    for (name, exact, number) in DICTIONARIES {
+        assert_eq!(rt; tables.dict_number(name, exact), number, "{name} {exact}");
     }
     Ok(())
 }

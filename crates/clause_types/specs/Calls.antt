@@ -115,10 +115,10 @@ module _ (known : Known) where
   operator function.Equals args = op.Equals
   operator function.GreaterThan args = op.GreaterThan
   operator function.NotNull args = op.NotNull
-  operator function.ContainsRegex args = op.ContainsRegex (known.pattern_place (text_meant (first_meant args)))
-  operator function.MatchesRegex args = op.MatchesRegex (known.pattern_place (text_meant (first_meant args)))
-  operator function.ContainsDict args = op.ContainsDict (known.dict_place (text_meant (first_meant args)) (is_exact args))
-  operator function.MatchesDict args = op.MatchesDict (known.dict_place (text_meant (first_meant args)) (is_exact args))
+  operator function.ContainsRegex args = op.ContainsRegex (known.pattern_number (text_meant (first_meant args)))
+  operator function.MatchesRegex args = op.MatchesRegex (known.pattern_number (text_meant (first_meant args)))
+  operator function.ContainsDict args = op.ContainsDict (known.dict_number (text_meant (first_meant args)) (is_exact args))
+  operator function.MatchesDict args = op.MatchesDict (known.dict_number (text_meant (first_meant args)) (is_exact args))
   operator function.Not args = op.Not
   operator function.And args = op.And
   operator function.Or args = op.Or

@@ -70,13 +70,13 @@ pattern_column column p groups (Some range) = refl
 module _ (known : Known) where
   column_searched : (column : ℕ) (spec : Spec) → searched_column (looked_for known column spec) ≡ column
   column_searched column (pattern text bound alias name groups) =
-      pattern_column column (known.pattern_place text.text) (group_numbers groups) bound
+      pattern_column column (known.pattern_number text.text) (group_numbers groups) bound
   column_searched column (dict table flag alias name out) = refl
   column_searched column (blocks count gap tokens alias name out) = refl
 
   found_wide : (column : ℕ) (spec : Spec) → found_width (looked_for known column spec) ≡ length (columns_found spec)
   found_wide column (pattern text bound alias name groups) =
-      pattern_wide column (known.pattern_place text.text) groups bound
+      pattern_wide column (known.pattern_number text.text) groups bound
       ∙ sym (length-map (names_found (pattern text bound alias name groups)) _ ∙ length-map groups _)
   found_wide column (dict table flag alias name out) = refl
   found_wide column (blocks count gap tokens alias name out) = refl
@@ -153,6 +153,6 @@ module _ (known : Known) where
       let column = column_meant (typing_on row.sources (pattern text bound alias name groups)).meant in
       let p = both_none (wrong_pattern text.at (known.pattern_fault text.text)) (bad_bound bound ++ bad_groups (known.group_count text.text) groups) h in
       let q = both_none (bad_bound bound) (bad_groups (known.group_count text.text) groups) p.1 in
-      pattern_fits clauses column (known.pattern_place text.text) (group_numbers groups) bound q.0
+      pattern_fits clauses column (known.pattern_number text.text) (group_numbers groups) bound q.0
   extraction_fits row items (dict table flag alias name out) tail h = tt
   extraction_fits row items (blocks count gap tokens alias name out) tail h = refl

@@ -130,8 +130,8 @@ module _ (known : Known) where
   -- what is looked for, in the column with this number
   abbrev pub looked_for : ℕ → Spec → tree.Extraction
   looked_for column (pattern text bound alias name groups) =
-      pattern_looked_for column (known.pattern_place text.text) (group_numbers groups) bound
-  looked_for column (dict table flag alias name out) = tree.dict column (known.dict_place table.text (is_exact_flag flag))
+      pattern_looked_for column (known.pattern_number text.text) (group_numbers groups) bound
+  looked_for column (dict table flag alias name out) = tree.dict column (known.dict_number table.text (is_exact_flag flag))
   looked_for column (blocks count gap tokens alias name out) = blocks_looked_for column count gap tokens
 
   -- `having`, `consolidate`, `limit`

@@ -218,13 +218,13 @@ fn operator(known: &Known<'_>, function: Function, args: &[Given]) -> Op
         Function::Equals => Op::Equals,
         Function::GreaterThan => Op::GreaterThan,
         Function::NotNull => Op::NotNull,
-        Function::ContainsRegex => Op::ContainsRegex(known.pattern_place(first_text(args))),
-        Function::MatchesRegex => Op::MatchesRegex(known.pattern_place(first_text(args))),
+        Function::ContainsRegex => Op::ContainsRegex(known.pattern_number(first_text(args))),
+        Function::MatchesRegex => Op::MatchesRegex(known.pattern_number(first_text(args))),
         Function::ContainsDict => {
-            Op::ContainsDict(known.dict_place(first_text(args), is_exact(args)))
+            Op::ContainsDict(known.dict_number(first_text(args), is_exact(args)))
         }
         Function::MatchesDict => {
-            Op::MatchesDict(known.dict_place(first_text(args), is_exact(args)))
+            Op::MatchesDict(known.dict_number(first_text(args), is_exact(args)))
         }
         Function::Not => Op::Not,
         Function::And => Op::And,

@@ -20,10 +20,10 @@ pub struct Known<'a> {
 
 impl<'a> Known<'a> {
     /// The number of a pattern.
-    pub(crate) fn pattern_place(&self, text: &str) -> u32
-        ensures { result ≡ (known_of self.now).pattern_place text.now }
+    pub(crate) fn pattern_number(&self, text: &str) -> u32
+        ensures { result ≡ (known_of self.now).pattern_number text.now }
     {
-        self.tables.pattern_place(text)
+        self.tables.pattern_number(text)
     }
 
     /// Why a text is no pattern, where it is none.
@@ -52,9 +52,9 @@ impl<'a> Known<'a> {
     }
 
     /// The number of a dictionary that is compared so.
-    pub(crate) fn dict_place(&self, name: &str, exact: bool) -> u32
-        ensures { result ≡ (known_of self.now).dict_place name.now exact }
+    pub(crate) fn dict_number(&self, name: &str, exact: bool) -> u32
+        ensures { result ≡ (known_of self.now).dict_number name.now exact }
     {
-        self.tables.dict_place(name, exact)
+        self.tables.dict_number(name, exact)
     }
 }

@@ -179,7 +179,7 @@ fn regex(
     bound: &Option<Range>,
     groups: &[(Option<Number>, Ident)],
 ) -> Result<Extraction, Failure<Breach>>
-    ensures ok { IfOk result (λ e. typed.extraction_of e ≡ spec.pattern_looked_for column ((known_of known.now).pattern_place pattern.now.text) (spec.group_numbers (map group_of groups.now)) (option_map range_of bound.now)) }
+    ensures ok { IfOk result (λ e. typed.extraction_of e ≡ spec.pattern_looked_for column ((known_of known.now).pattern_number pattern.now.text) (spec.group_numbers (map group_of groups.now)) (option_map range_of bound.now)) }
     ensures none { OnOk result (spec.pattern_faults (known_of known.now) (name_of pattern.now) (option_map range_of bound.now) (map group_of groups.now) ≡ []) }
     ensures fault { IfErr result (IsFirst (spec.pattern_faults (known_of known.now) (name_of pattern.now) (option_map range_of bound.now) (map group_of groups.now))) }
 {
@@ -189,7 +189,7 @@ fn regex(
     refuse_bound(bound)?;
     let count = known.group_count(alloc, text)?;
     let numbers = group_numbers(alloc, count, groups)?;
-    let extraction = bounded(column, known.pattern_place(text), numbers, bound)?;
+    let extraction = bounded(column, known.pattern_number(text), numbers, bound)?;
     Ok(extraction)
 }
 
@@ -249,7 +249,7 @@ pub(crate) fn looked_for(
         } => regex(alloc, known, column, pattern, bound, groups),
         Spec::Dict { dict, flag, .. } => Ok(Extraction::Dict {
             column,
-            dict: known.dict_place(dict.text.as_str(), is_exact(flag)),
+            dict: known.dict_number(dict.text.as_str(), is_exact(flag)),
         }),
         Spec::Blocks {
             count,

@@ -4,7 +4,7 @@ use Rattle.aql_tables.specs.declared.mention.Mention.TheVariants.{Pattern}
 use Rattle.aql_tables.proofs.Seeing.{map-take_more}
 use Rattle.aql_syntax.specs.Views.{statement_of}
 use Rattle.aql_tables.specs.Mentions.{Mention}
-use Rattle.aql_tables.specs.Kept.{entry_of, mention_of, place_in, HasDicts, HasPatterns}
+use Rattle.aql_tables.specs.Kept.{entry_of, mention_of, number_by, HasDicts, HasPatterns}
 use Rattle.aql_tables.proofs.tables.tables_of.Goals as goal
 
 abbrev nothing : declared.Mention
@@ -21,6 +21,6 @@ loop-mention-preserved c =
     record {
       patterns = subst (λ (seen : List Mention). HasPatterns seen c.note.new.patterns.compiled.items (entry_of c.note.new.patterns.verdicts)) (sym one_more)
           (c.in_ok-note.ensures.patterns seen c.loop-mention.invariant.patterns);
-      dicts = subst (λ (seen : List Mention). HasDicts program seen c.note.new.dicts.keys.items c.note.new.dicts.uses.items (place_in (entry_of c.note.new.dicts.exact) (entry_of c.note.new.dicts.other))) (sym one_more)
+      dicts = subst (λ (seen : List Mention). HasDicts program seen c.note.new.dicts.keys.items c.note.new.dicts.uses.items (number_by (entry_of c.note.new.dicts.exact) (entry_of c.note.new.dicts.other))) (sym one_more)
           (c.in_ok-note.ensures.dicts seen c.loop-mention.invariant.dicts);
     }

@@ -1,4 +1,4 @@
--- Lists in which each value stands once, and the places of values in them.
+-- Lists in which each value stands once, and the numbers of values in them, from 0.
 use Rattle.std.specs.Prelude.{ℕ, Bool, not, List, [], ◌∷◌, filter}
 use Rattle.std.specs.List.{position_or_len}
 
@@ -9,5 +9,5 @@ module _ {X : Type 0} (same : X → X → Bool) where
   each_once (x ∷ xs) = x ∷ filter (λ y. not (same x y)) (each_once xs)
 
   -- how many stand before the first that is equal to `x`; all, where none is
-  abbrev pub place_of : X → List X → ℕ
-  place_of x xs = position_or_len (same x) xs
+  abbrev pub number_among : X → List X → ℕ
+  number_among x xs = position_or_len (same x) xs
