@@ -57,7 +57,7 @@ same_columns columns others = false
 abbrev pub faults_of_sides : List QueryTyping → List Breach
 faults_of_sides sides = flat_map (λ side. side.faults) sides
 
--- SchemaMismatch: a later side differs from the first in a column's name, kind or place; at its first `select` or `extract`
+-- SchemaMismatch: a later side differs from the first in a column's name or kind, or in their order; at its first `select` or `extract`
 abbrev pub mismatch : QueryTyping → QueryTyping → List Breach
 mismatch first later = broken (not (same_columns first.columns later.columns)) later.at SchemaMismatch
 

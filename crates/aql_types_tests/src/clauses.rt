@@ -3,7 +3,7 @@
 use crate::marks::{has_fault, has_faults};
 use std::test::Fail;
 
-/// Two sides differ in a column's name, kind or place, or in how many there are.
+/// Two sides differ in a column's name or kind, in their order, or in how many there are.
 static SCHEMAS: [(&str, &str); 17] = [
     (
         "(select V.s from V) union all (^select V.s as x from V)",

@@ -1,4 +1,4 @@
--- The first argument that isn't what is wanted, at the place that a loop has come to.
+-- The first argument that isn't what is wanted, at the number that a loop has come to.
 use Rattle.std.proofs.Common.{◌≡◌, ◌∙◌, ◌<◌, ◌≤◌, ◌+◌, ℕ, zero, suc, List, [], ◌∷◌, ◌++◌, Some, None, true, map, length, drop, get_or, slice_get, refl, ap, ap₂, sym, subst}
 use Rattle.std.proofs.lemmas.List.{drop_more, drop_all}
 use Rattle.std.proofs.lemmas.Option.{none-some, slice_get_within, get_or_from_slice_get}

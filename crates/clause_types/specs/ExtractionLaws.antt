@@ -19,7 +19,7 @@ use Rattle.clause_types.specs.Expressions.{wrong_pattern}
 use Rattle.clause_types.specs.Extractions.{low_of, high_of, are_count_bounds, bad_range, bad_bound, bad_groups, group_numbers, items_beside, alias_on, name_on, names_found, columns_found, pattern_looked_for, typing_on, column_scope, spec_faults, looked_for, tail_faults, items_extracted, columns_given, found_faults, extract_clauses}
 use Rattle.clause_types.specs.Items.{duplicate_columns, faults_of_items, columns_of_items, names_of_items}
 use Rattle.clause_types.specs.Known.{Known}
-use Rattle.clause_types.specs.Scopes.{Visible, Scope, Numbered, Placed, column_named, source_named, found_or_unknown, column_in}
+use Rattle.clause_types.specs.Scopes.{Visible, Scope, Numbered, SourceColumns, column_named, source_named, found_or_unknown, column_in}
 use Rattle.clause_types.specs.Typings.{Typing, ItemTyping, term_meant, column_meant, column_of_item}
 use Rattle.clause_types.specs.FaultlessLaws.{both_none, not_nil, unbroken}
 use Rattle.clause_types.specs.ReadingLaws.{row_width, ScopeReads, column_reads, terms_read, target_reads, extract_items_read}
@@ -48,7 +48,7 @@ found_is : (at : ℕ) (name : List ℕ) (found : Option Numbered) → (found_or_
 found_is at name None h = absurd (not_nil _ _ h)
 found_is at name (Some found) h = refl
 
-column_is : (at : ℕ) (alias name : Name) (source : Option Placed) → (column_in at alias name source).faults ≡ []
+column_is : (at : ℕ) (alias name : Name) (source : Option SourceColumns) → (column_in at alias name source).faults ≡ []
     → term_meant (column_in at alias name source).meant ≡ expressed.column (column_meant (column_in at alias name source).meant)
 column_is at alias name None h = absurd (not_nil _ _ h)
 column_is at alias name (Some source) h = found_is at name.text (column_named name.text source.start source.columns) h

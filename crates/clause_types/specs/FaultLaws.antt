@@ -28,7 +28,7 @@ raised r faults failure is h =
 pub all_faultless : (a b : List Breach) → a ≡ [] → b ≡ [] → a ++ b ≡ []
 all_faultless a b none no_more = subst (λ (xs : List Breach). xs ++ b ≡ []) (sym none) no_more
 
--- the first fault of the parts of a list, at the place that a loop has come to
+-- the first fault of the parts of a list, at the index that a loop has come to
 pub first_in_loop : {X Y : Type 0} (faults : Y → List Breach) (f : X → Y) (xs : List X) (i : ℕ) (x : X) → x ≡ get_or xs i x → i < length xs
     → flat_map faults (map f (drop i xs)) ≡ flat_map faults (map f xs) → (failure : Failure Breach) → IsFirst (faults (f x)) failure
     → IsFirst (flat_map faults (map f xs)) failure

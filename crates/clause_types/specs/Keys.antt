@@ -36,16 +36,16 @@ module _ (items : List Item) where
   abbrev pub is_item : Term → Item → Bool
   is_item key item = is_same (written_out key) item.expr
 
-  -- the place of the first key that is equal to the item, from 0; the number of keys where none is
-  abbrev pub key_place : List Term → Item → ℕ
-  key_place keys item = position_or_len (λ key. is_item key item) keys
+  -- the number of the first key that is equal to the item, from 0; how many keys there are where none is
+  abbrev pub key_number : List Term → Item → ℕ
+  key_number keys item = position_or_len (λ key. is_item key item) keys
 
   abbrev pub is_key : List Term → Item → Bool
-  is_key keys item = nat_lt (key_place keys item) (length keys)
+  is_key keys item = nat_lt (key_number keys item) (length keys)
 
-  -- the place of the first item that is equal to the key, from 0; the number of items where none is
-  abbrev pub item_place : Term → ℕ
-  item_place key = position_or_len (is_item key) items
+  -- the number of the first item that is equal to the key, from 0; how many items there are where none is
+  abbrev pub item_number : Term → ℕ
+  item_number key = position_or_len (is_item key) items
 
   abbrev pub has_item : Term → Bool
-  has_item key = nat_lt (item_place key) (length items)
+  has_item key = nat_lt (item_number key) (length items)

@@ -8,7 +8,7 @@ use Rattle.aql_typed.specs.Views as typed
 use Rattle.clause_types.specs.declared.extraction.TailParts as declared_tail
 use Rattle.clause_types.specs.declared.selection.Parts as declared
 use Rattle.clause_types.specs.Clauses.{terms_of, consolidation_of, limit_of}
-use Rattle.clause_types.specs.Keys.{item_place}
+use Rattle.clause_types.specs.Keys.{item_number}
 use Rattle.clause_types.specs.Known.{Known}
 use Rattle.clause_types.specs.Scopes.{Scope}
 use Rattle.clause_types.specs.Selections.{projection_by}
@@ -36,7 +36,7 @@ pub record SameParts (known : Known) (row scope : Scope) (items : List Item) (cl
   pub conds : terms_of known row clauses.conds ≡ map term_of parts.conds.items
   pub consolidate : consolidation_of known scope clauses.cons ≡ option_map typed.consolidation_of parts.consolidate
   pub keys : terms_of known scope clauses.group ≡ map term_of parts.keys.items
-  pub order : map (item_place items) clauses.order ≡ parts.order.items
+  pub order : map (item_number items) clauses.order ≡ parts.order.items
   pub limit : parts.limit ≡ limit_of clauses.limit
 
 -- with the columns

@@ -1,4 +1,4 @@
--- What an expression stands for reads columns that a look-up gave: places among the columns of its scope.
+-- What an expression stands for reads columns that a look-up gave: numbers of the columns of its scope.
 use Rattle.std.proofs.Common.{◌+◌, ◌-◌, ◌<◌, ◌≤◌, ℕ, suc, Bool, true, false, cond, if◌then◌else◌, Option, Some, None, List, [], ◌∷◌, map, length, All, arith}
 use Rattle.std.specs.Str.{bytes_eq}
 use Rattle.std.proofs.lemmas.List.Elements.{All-nil, All-cons, All-head, All-tail, All-append, All-map, All-take, All-drop}

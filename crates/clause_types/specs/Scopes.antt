@@ -53,12 +53,12 @@ column_named name start (c ∷ columns) =
     if bytes_eq c.name name then Some (record { number = start; kind = c.kind }) else column_named name (suc start) columns
 
 -- a source's columns, and the number of the first of them
-pub record Placed : Type 0 where
+pub record SourceColumns : Type 0 where
   pub start : ℕ
   pub columns : List Column
 
 -- the first source with an alias, where the columns of all sources count from `start`, from the left
-abbrev pub source_named : List ℕ → ℕ → List Visible → Option Placed
+abbrev pub source_named : List ℕ → ℕ → List Visible → Option SourceColumns
 source_named alias start [] = None
 source_named alias start (s ∷ sources) =
     if bytes_eq s.alias alias then Some (record { start = start; columns = s.columns })
@@ -73,7 +73,7 @@ found_or_unknown at name None = faulty at (broken true at (UnknownColumn name))
 found_or_unknown at name (Some found) = typing_of_numbered at found
 
 -- UnknownAlias: a column's alias is no source's; at the alias
-abbrev pub column_in : ℕ → Name → Name → Option Placed → Typing
+abbrev pub column_in : ℕ → Name → Name → Option SourceColumns → Typing
 column_in at alias name None = faulty at (broken true alias.at (UnknownAlias alias.text))
 column_in at alias name (Some source) = found_or_unknown at name.text (column_named name.text source.start source.columns)
 

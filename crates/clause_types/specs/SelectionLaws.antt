@@ -17,7 +17,7 @@ use Rattle.clause_types.specs.declared.function.Aggregate.{Aggregate}
 use Rattle.clause_types.specs.declared.function.Aggregate.TheVariants as aggregate
 use Rattle.clause_types.specs.Clauses.{is_aggregate, not_grouped, ungrouped, name_kept, no_item, key_faults, order_faults, orders_faults, each_faults, consolidation_faults, bad_limit, terms_of}
 use Rattle.clause_types.specs.Items.{at_of, faults_of_items, duplicate_columns, names_of_items, columns_of_items}
-use Rattle.clause_types.specs.Keys.{key_place, is_key, item_place, has_item}
+use Rattle.clause_types.specs.Keys.{key_number, is_key, item_number, has_item}
 use Rattle.clause_types.specs.Known.{Known}
 use Rattle.clause_types.specs.Scopes.{Scope}
 use Rattle.clause_types.specs.Selections.{groups, arguments_in, arguments_of, agg_of, agg_in, aggs_of, plain_term, plain_terms, grouped_faults, projection_by, clause_faults, rows_faults, rows_clauses, items_typed, item_scope}
@@ -41,8 +41,8 @@ aggregate_column width aggregate.Max column h = h
 module _ (items : List Item) (keys : List Term) where
   -- an item that is no aggregate equals a key
   one_key : (column : ℕ) (item : Item) (at : ℕ) (content : Content)
-      → (is_aggregate content || is_key items keys item) ≡ true → HasKey (length keys) (agg_in (key_place items keys item) column content)
-  one_key column item at (expression meant) h = ltb-true (key_place items keys item) (length keys) h
+      → (is_aggregate content || is_key items keys item) ≡ true → HasKey (length keys) (agg_in (key_number items keys item) column content)
+  one_key column item at (expression meant) h = ltb-true (key_number items keys item) (length keys) h
   one_key column item at row_count h = tt
   one_key column item at (aggregated a meant) h = aggregate_key (length keys) a column
 
@@ -54,15 +54,15 @@ module _ (items : List Item) (keys : List Term) where
   has_keys column (item ∷ more) (t ∷ typed) h =
       let p = both_none (ungrouped items keys item t) (not_grouped items keys more typed) h in
       let next = column + length (arguments_in t.content) in
-      All-cons (HasKey (length keys)) (agg_in (key_place items keys item) column t.content) (aggs_of items keys next more typed)
+      All-cons (HasKey (length keys)) (agg_in (key_number items keys item) column t.content) (aggs_of items keys next more typed)
       (one_key column item t.at t.content (unbroken (is_aggregate t.content || is_key items keys item) t.at NotGrouped p.0))
       (has_keys next more typed p.1)
 
   -- each aggregate's argument stands behind those before it
-  one_column : (width column place : ℕ) (content : Content) → column + length (arguments_in content) ≤ width → HasColumn width (agg_in place column content)
-  one_column width column place (expression meant) h = tt
-  one_column width column place row_count h = tt
-  one_column width column place (aggregated a meant) h = aggregate_column width a column (omega (arith, h))
+  one_column : (width column key : ℕ) (content : Content) → column + length (arguments_in content) ≤ width → HasColumn width (agg_in key column content)
+  one_column width column key (expression meant) h = tt
+  one_column width column key row_count h = tt
+  one_column width column key (aggregated a meant) h = aggregate_column width a column (omega (arith, h))
 
   has_columns : (width column : ℕ) (more : List Item) (typed : List ItemTyping) → column + length (arguments_of typed) ≤ width
       → All (HasColumn width) (aggs_of items keys column more typed)
@@ -73,8 +73,8 @@ module _ (items : List Item) (keys : List Term) where
       let next = column + length (arguments_in t.content) in
       let long : length (arguments_in t.content ++ arguments_of typed) ≡ length (arguments_in t.content) + length (arguments_of typed) =
       length-append (arguments_in t.content) (arguments_of typed) in
-      All-cons (HasColumn width) (agg_in (key_place items keys item) column t.content) (aggs_of items keys next more typed)
-      (one_column width column (key_place items keys item) t.content (omega (arith, h, long)))
+      All-cons (HasColumn width) (agg_in (key_number items keys item) column t.content) (aggs_of items keys next more typed)
+      (one_column width column (key_number items keys item) t.content (omega (arith, h, long)))
       (has_columns width next more typed (omega (arith, h, long)))
 
   -- one aggregate an item
@@ -112,13 +112,13 @@ module _ (items : List Item) (keys : List Term) where
 
   -- an `order by` key is an item
   order_within : (known : Known) (scope : Scope) (order : List Term) → orders_faults known scope items order ≡ []
-      → All (λ column. column < length items) (map (item_place items) order)
+      → All (λ column. column < length items) (map (item_number items) order)
   order_within known scope [] h = All-nil (λ column. column < length items)
   order_within known scope (key ∷ order) h =
       let p = both_none (order_faults known scope items key) (orders_faults known scope items order) h in
       let q = both_none (key_faults known scope key) (no_item items key) p.0 in
-      All-cons (λ column. column < length items) (item_place items key) (map (item_place items) order)
-      (ltb-true (item_place items key) (length items) (unbroken (has_item items key) (at_of key) (UnknownColumn (name_kept key)) q.1))
+      All-cons (λ column. column < length items) (item_number items key) (map (item_number items) order)
+      (ltb-true (item_number items key) (length items) (unbroken (has_item items key) (at_of key) (UnknownColumn (name_kept key)) q.1))
       (order_within known scope order p.1)
 
 module _ (known : Known) (row : Scope) (items : List Item) (clauses : Clauses) where
@@ -162,7 +162,7 @@ module _ (known : Known) (row : Scope) (items : List Item) (clauses : Clauses) w
         let q = both_none (orders_faults known scope items clauses.order) (bad_limit clauses.limit) p.1 in
         let wide : projection_width (projection_by terms items typed clauses.group) ≡ length items = projection_wide items clauses.group terms typed long_typed in (
           projection_fits items clauses.group terms typed (length-map clauses.group _) p.0,
-          subst (λ (n : ℕ). All (λ column. column < n) (map (item_place items) clauses.order)) (sym wide) (order_within items clauses.group known scope clauses.order q.0),
+          subst (λ (n : ℕ). All (λ column. column < n) (map (item_number items) clauses.order)) (sym wide) (order_within items clauses.group known scope clauses.order q.0),
         )
 
 -- ---- what it reads

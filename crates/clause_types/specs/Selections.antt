@@ -14,7 +14,7 @@ use Rattle.clause_types.specs.Known.{Known}
 use Rattle.clause_types.specs.Typings.{term_meant, Content, expression, row_count, aggregated, ItemTyping}
 use Rattle.clause_types.specs.Scopes.{names_of_items as stand_for_items, Scope}
 use Rattle.clause_types.specs.Items.{duplicate_columns, faults_of_items, names_of_items, select_item}
-use Rattle.clause_types.specs.Keys.{key_place, item_place}
+use Rattle.clause_types.specs.Keys.{key_number, item_number}
 use Rattle.clause_types.specs.Clauses.{is_aggregate, not_grouped, bad_limit, limit_of, each_faults, consolidation_faults, orders_faults, terms_of, consolidation_of}
 
 -- a selection groups where it has keys or an aggregate
@@ -40,7 +40,7 @@ agg_of aggregate.Sum column = agg.Sum column
 agg_of aggregate.Min column = agg.Min column
 agg_of aggregate.Max column = agg.Max column
 
--- an item of a selection that groups: the key at a place, or an aggregate, whose argument has this column
+-- an item of a selection that groups: the key with a number, or an aggregate, whose argument has this column
 abbrev pub agg_in : ℕ → ℕ → Content → Agg
 agg_in key column (expression meant) = agg.Key key
 agg_in key column row_count = agg.Count
@@ -50,7 +50,7 @@ module _ (items : List Item) (keys : List Term) where
   -- the columns of arguments count on from those before them
   abbrev pub aggs_of : ℕ → List Item → List ItemTyping → List Agg
   aggs_of column (item ∷ more) (typed ∷ more_typed) =
-      agg_in (key_place items keys item) column typed.content
+      agg_in (key_number items keys item) column typed.content
       ∷ aggs_of (column + length (arguments_in typed.content)) more more_typed
   aggs_of column more typed = []
 
@@ -96,7 +96,7 @@ module _ (known : Known) (row scope : Scope) (items : List Item) (typed : List I
     conds = terms_of known row clauses.conds;
     consolidate = consolidation_of known scope clauses.cons;
     projection = projection;
-    order = map (item_place items) clauses.order;
+    order = map (item_number items) clauses.order;
     limit = limit_of clauses.limit;
   }
 

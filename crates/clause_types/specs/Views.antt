@@ -5,7 +5,7 @@ use Rattle.clause_types.specs.declared.given.Given.{Given}
 use Rattle.clause_types.specs.declared.given.Meant as declared_meant
 use Rattle.clause_types.specs.declared.given.Meant.TheVariants as meant
 use Rattle.clause_types.specs.declared.scope.Visible as declared_visible
-use Rattle.clause_types.specs.declared.scope.Placed as declared_placed
+use Rattle.clause_types.specs.declared.scope.SourceColumns as declared_source_columns
 use Rattle.clause_types.specs.declared.scope.Numbered as declared_numbered
 use Rattle.clause_types.specs.declared.scope.Names as declared_names
 use Rattle.clause_types.specs.declared.scope.Names.TheVariants as stands
@@ -17,7 +17,7 @@ use Rattle.aql_syntax.specs.Trees.{Name}
 use Rattle.clause_types.specs.declared.item.Content as declared_content
 use Rattle.clause_types.specs.declared.item.Content.TheVariants as content
 use Rattle.clause_types.specs.Typings.{Meant, value, pattern, Typing, Content, expression, row_count, aggregated, ItemTyping}
-use Rattle.clause_types.specs.Scopes.{Visible, Placed, Numbered, Names, no_names, names_of_items, names_of_columns, Scope}
+use Rattle.clause_types.specs.Scopes.{Visible, SourceColumns, Numbered, Names, no_names, names_of_items, names_of_columns, Scope}
 
 abbrev pub meant_of : declared_meant.Meant → Meant
 meant_of (meant.Value expr) = value (term_of expr)
@@ -29,8 +29,8 @@ seen given = record { at = given.at; faults = []; kind = given.kind; meant = mea
 abbrev pub visible_of : declared_visible.Visible → Visible
 visible_of source = record { alias = source.alias.now; columns = source.columns.now }
 
-abbrev pub placed_of : declared_placed.Placed → Placed
-placed_of placed = record { start = placed.start; columns = placed.columns.now }
+abbrev pub source_columns_of : declared_source_columns.SourceColumns → SourceColumns
+source_columns_of source = record { start = source.start; columns = source.columns.now }
 
 abbrev pub numbered_of : declared_numbered.Numbered → Numbered
 numbered_of found = record { number = found.number; kind = found.kind }

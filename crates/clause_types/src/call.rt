@@ -102,8 +102,8 @@ pub(crate) fn refuse_unfit(
     ensures ok { OnOk result (spec.wrong_arguments (known_of known.now) at (wanted_of callee (typing.kinds_of (map seen args.now))) (map seen args.now) ≡ []) }
     ensures fault { IfErr result (IsFirst (spec.wrong_arguments (known_of known.now) at (wanted_of callee (typing.kinds_of (map seen args.now))) (map seen args.now))) }
 {
-    for (place, arg) in args.iter().enumerate() {
-        match callee.wanted(args, place) {
+    for (number, arg) in args.iter().enumerate() {
+        match callee.wanted(args, number) {
             Some(wanted) => refuse_wrong(known, wanted, arg)?,
             None => {
                 return Err(refusal(

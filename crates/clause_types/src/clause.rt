@@ -7,7 +7,7 @@ ghost use Rattle.aql_typed.specs.Views as typed;
 ghost use Rattle.clause_types.specs.Clauses as spec;
 ghost use Rattle.clause_types.specs.Expressions.{typing};
 ghost use Rattle.clause_types.specs.Functions.{entry_named};
-ghost use Rattle.clause_types.specs.Keys.{item_place as item_place_of};
+ghost use Rattle.clause_types.specs.Keys.{item_number as item_number_of};
 ghost use Rattle.clause_types.specs.Knowns.{known_of};
 ghost use Rattle.clause_types.specs.Refusals.{IsFirst};
 ghost use Rattle.clause_types.specs.Views.{seen, scope_of};
@@ -16,7 +16,7 @@ use crate::call::refuse_wrong;
 use crate::expression::term;
 use crate::fault::{Breach, TypeRule};
 use crate::given::Given;
-use crate::key::item_place;
+use crate::key::item_number;
 use crate::known::Known;
 use crate::refusals::{refusal, unknown_column, unknown_policy};
 use crate::scope::Scope;
@@ -171,16 +171,16 @@ fn name_kept(key: &Ast) -> &str
 
 /// The number of the item that a key is.
 #[tactic(auto, using(crate::proofs::Labels::same_at))]
-fn item_number(alloc: Global, items: &[Item], key: &Ast) -> Result<u32, Failure<Breach>>
-    ensures ok { IfOk result (λ n. n ≡ item_place_of (map item_of items.now) (term_of key.now)) }
+fn item_of_key(alloc: Global, items: &[Item], key: &Ast) -> Result<u32, Failure<Breach>>
+    ensures ok { IfOk result (λ n. n ≡ item_number_of (map item_of items.now) (term_of key.now)) }
     ensures none { OnOk result (spec.no_item (map item_of items.now) (term_of key.now) ≡ []) }
     ensures fault { IfErr result (IsFirst (spec.no_item (map item_of items.now) (term_of key.now))) }
 {
-    let place = item_place(items, key);
-    if place >= items.len() {
+    let found = item_number(items, key);
+    if found >= items.len() {
         return Err(unknown_column(alloc, key.at, name_kept(key)));
     }
-    match u32::try_from(place) {
+    match u32::try_from(found) {
         Ok(number) => Ok(number),
         Err(_) => Err(Failure::OutOfMemory),
     }
@@ -237,12 +237,12 @@ fn order_key(
     items: &[Item],
     key: &Ast,
 ) -> Result<u32, Failure<Breach>>
-    ensures ok { IfOk result (λ n. n ≡ item_place_of (map item_of items.now) (term_of key.now)) }
+    ensures ok { IfOk result (λ n. n ≡ item_number_of (map item_of items.now) (term_of key.now)) }
     ensures none { OnOk result (spec.order_faults (known_of known.now) (scope_of scope.now) (map item_of items.now) (term_of key.now) ≡ []) }
     ensures fault { IfErr result (IsFirst (spec.order_faults (known_of known.now) (scope_of scope.now) (map item_of items.now) (term_of key.now))) }
 {
     refuse_key(alloc, known, scope, key)?;
-    let number = item_number(alloc, items, key)?;
+    let number = item_of_key(alloc, items, key)?;
     Ok(number)
 }
 
@@ -255,7 +255,7 @@ pub(crate) fn order(
     items: &[Item],
     keys: &[Ast],
 ) -> Result<Vec<u32>, Failure<Breach>>
-    ensures ok { IfOk result (λ numbers. map (item_place_of (map item_of items.now)) (map term_of keys.now) ≡ numbers.items) }
+    ensures ok { IfOk result (λ numbers. map (item_number_of (map item_of items.now)) (map term_of keys.now) ≡ numbers.items) }
     ensures none { OnOk result (spec.orders_faults (known_of known.now) (scope_of scope.now) (map item_of items.now) (map term_of keys.now) ≡ []) }
     ensures fault { IfErr result (IsFirst (spec.orders_faults (known_of known.now) (scope_of scope.now) (map item_of items.now) (map term_of keys.now))) }
 {

@@ -13,7 +13,7 @@ ghost use Rattle.clause_types.specs.Views.{scope_of, item_seen, content_of, labe
 use crate::fault::{Breach, TypeRule};
 use crate::function::Aggregate;
 use crate::item::{CheckedItem, Content, extract_item, select_item};
-use crate::key::key_place;
+use crate::key::key_number;
 use crate::known::Known;
 use crate::label::{Label, refuse_columns};
 use crate::refusals::refusal;
@@ -147,7 +147,7 @@ fn refuse_ungrouped(
     ensures ok { OnOk result (clauses.ungrouped (map item_of items.now) (map term_of keys.now) (item_of item.now) (item_seen checked.now) ≡ []) }
     ensures fault { IfErr result (IsFirst (clauses.ungrouped (map item_of items.now) (map term_of keys.now) (item_of item.now) (item_seen checked.now))) }
 {
-    if is_aggregate(&checked.content) || key_place(items, keys, item) < keys.len() {
+    if is_aggregate(&checked.content) || key_number(items, keys, item) < keys.len() {
         Ok(())
     } else {
         Err(refusal(checked.at, TypeRule::NotGrouped))
@@ -164,8 +164,8 @@ pub(crate) fn refuse_not_grouped(
     ensures ok { OnOk result (clauses.not_grouped (map item_of items.now) (map term_of keys.now) (map item_of items.now) (map item_seen checked.now) ≡ []) }
     ensures fault { IfErr result (IsFirst (clauses.not_grouped (map item_of items.now) (map term_of keys.now) (map item_of items.now) (map item_seen checked.now))) }
 {
-    for (place, item) in items.iter().enumerate() {
-        refuse_ungrouped(items, keys, item, &checked[place])?;
+    for (number, item) in items.iter().enumerate() {
+        refuse_ungrouped(items, keys, item, &checked[number])?;
     }
     Ok(())
 }
@@ -224,9 +224,9 @@ pub(crate) fn aggregates(
 {
     let mut aggs = Vec::new(alloc);
     let mut column = keys.len();
-    for (place, item) in items.iter().enumerate() {
-        let content = &checked[place].content;
-        let key = narrow(key_place(items, keys, item))?;
+    for (number, item) in items.iter().enumerate() {
+        let content = &checked[number].content;
+        let key = narrow(key_number(items, keys, item))?;
         aggs.push(agg_in(key, narrow(column)?, content))?;
         column = narrow(column)? as usize + argument_count(content);
     }

@@ -22,7 +22,7 @@ pub enum TypeRule {
     UnknownFunction(OwnedText),
     /// An argument or a clause is of another kind than is wanted.
     WrongArgument { wanted: Kind, found: Kind },
-    /// Two sides of a union or of a difference differ in a column's name, kind or place.
+    /// Two sides of a union or of a difference differ in a column's name or kind, or in their order.
     SchemaMismatch,
     /// A selection groups, and an item is neither an aggregate nor a key.
     NotGrouped,

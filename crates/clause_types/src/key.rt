@@ -77,25 +77,25 @@ fn args_same(items: &[Item], args: &[Ast], others: &[Ast]) -> bool
     true
 }
 
-/// The place of the first key that is the item; their number where none is.
-pub(crate) fn key_place(items: &[Item], keys: &[Ast], item: &Item) -> usize
-    ensures { result ≡ spec.key_place (map item_of items.now) (map term_of keys.now) (item_of item.now) }
+/// The number of the first key that is the item, from 0; how many they are where none is.
+pub(crate) fn key_number(items: &[Item], keys: &[Ast], item: &Item) -> usize
+    ensures { result ≡ spec.key_number (map item_of items.now) (map term_of keys.now) (item_of item.now) }
 {
-    for (place, key) in keys.iter().enumerate() {
+    for (number, key) in keys.iter().enumerate() {
         if key_same(items, key, &item.expr) {
-            return place;
+            return number;
         }
     }
     keys.len()
 }
 
-/// The place of the first item that is the key; their number where none is.
-pub(crate) fn item_place(items: &[Item], key: &Ast) -> usize
-    ensures { result ≡ spec.item_place (map item_of items.now) (term_of key.now) }
+/// The number of the first item that is the key, from 0; how many they are where none is.
+pub(crate) fn item_number(items: &[Item], key: &Ast) -> usize
+    ensures { result ≡ spec.item_number (map item_of items.now) (term_of key.now) }
 {
-    for (place, item) in items.iter().enumerate() {
+    for (number, item) in items.iter().enumerate() {
         if key_same(items, key, &item.expr) {
-            return place;
+            return number;
         }
     }
     items.len()

@@ -4,7 +4,7 @@ ghost use Rattle.std.specs.Prelude.{◌≡◌, ◌+◌, map, option_map, MatchOp
 ghost use Rattle.aql_syntax.specs.Views.{name_of};
 ghost use Rattle.clause_types.specs.Refusals.{IsFirst};
 ghost use Rattle.clause_types.specs.Scopes as spec;
-ghost use Rattle.clause_types.specs.Views.{seen, visible_of, placed_of, numbered_of, item_seen, names_seen};
+ghost use Rattle.clause_types.specs.Views.{seen, visible_of, source_columns_of, numbered_of, item_seen, names_seen};
 
 use crate::fault::Breach;
 use crate::given::{Given, Meant};
@@ -40,7 +40,7 @@ pub(crate) struct Scope<'a> {
 
 /// A source's columns, and the number of the first of them.
 #[derive(Clone, Copy, Debug)]
-pub(crate) struct Placed<'a> {
+pub(crate) struct SourceColumns<'a> {
     start: u32,
     columns: &'a [Column],
 }
@@ -73,9 +73,9 @@ pub(crate) fn column_named(
 ) -> Result<Option<Numbered>, OutOfMemory>
     ensures { IfOk result (λ found. option_map numbered_of found ≡ spec.column_named name.now start columns.now) }
 {
-    for (place, column) in columns.iter().enumerate() {
+    for (index, column) in columns.iter().enumerate() {
         if column.name.as_str() == name {
-            let number = sum(start, place)?;
+            let number = sum(start, index)?;
             return Ok(Some(Numbered {
                 number,
                 kind: column.kind,
@@ -86,13 +86,16 @@ pub(crate) fn column_named(
 }
 
 /// The first source with an alias; columns count from 0 through all sources.
-fn source_named<'a>(alias: &str, sources: &[Visible<'a>]) -> Result<Option<Placed<'a>>, OutOfMemory>
-    ensures { IfOk result (λ found. option_map placed_of found ≡ spec.source_named alias.now 0 (map visible_of sources.now)) }
+fn source_named<'a>(
+    alias: &str,
+    sources: &[Visible<'a>],
+) -> Result<Option<SourceColumns<'a>>, OutOfMemory>
+    ensures { IfOk result (λ found. option_map source_columns_of found ≡ spec.source_named alias.now 0 (map visible_of sources.now)) }
 {
     let mut start = 0;
     for source in sources {
         if source.alias == alias {
-            return Ok(Some(Placed {
+            return Ok(Some(SourceColumns {
                 start,
                 columns: source.columns,
             }));

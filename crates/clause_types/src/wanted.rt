@@ -38,10 +38,10 @@ pub(crate) enum Callee {
     Aggregate(Aggregate),
 }
 
-fn at(kinds: &[Kind], place: usize) -> Option<Wanted>
-    ensures { result ≡ slice_get (map Wanted.OfKind kinds.now) place }
+fn at(kinds: &[Kind], number: usize) -> Option<Wanted>
+    ensures { result ≡ slice_get (map Wanted.OfKind kinds.now) number }
 {
-    match kinds.get(place) {
+    match kinds.get(number) {
         Some(kind) => Some(Wanted::OfKind(*kind)),
         None => None,
     }
@@ -61,11 +61,11 @@ fn compared(found: &[Given]) -> Kind
     }
 }
 
-fn dictionary_wanted(found: &[Given], place: usize) -> Option<Wanted>
-    ensures { result ≡ slice_get (spec.dictionary_wanted (kinds_of (map seen found.now))) place }
+fn dictionary_wanted(found: &[Given], number: usize) -> Option<Wanted>
+    ensures { result ≡ slice_get (spec.dictionary_wanted (kinds_of (map seen found.now))) number }
 {
     let flag = found.len() >= 3;
-    match place {
+    match number {
         0 => Some(Wanted::OfKind(Kind::Dictionary)),
         1 if flag => Some(Wanted::Flag),
         1 => Some(Wanted::OfKind(Kind::Span)),
@@ -74,10 +74,10 @@ fn dictionary_wanted(found: &[Given], place: usize) -> Option<Wanted>
     }
 }
 
-fn conditions_wanted(found: &[Given], place: usize) -> Option<Wanted>
-    ensures { result ≡ slice_get (spec.conditions_wanted (kinds_of (map seen found.now))) place }
+fn conditions_wanted(found: &[Given], number: usize) -> Option<Wanted>
+    ensures { result ≡ slice_get (spec.conditions_wanted (kinds_of (map seen found.now))) number }
 {
-    if place < found.len().max(1) {
+    if number < found.len().max(1) {
         Some(Wanted::OfKind(Kind::Boolean))
     } else {
         None
@@ -85,58 +85,58 @@ fn conditions_wanted(found: &[Given], place: usize) -> Option<Wanted>
 }
 
 impl Function {
-    /// What the argument at a place, from 0, is wanted to be, where these arguments stand; None past the last.
-    fn wanted(self, found: &[Given], place: usize) -> Option<Wanted>
-        ensures { result ≡ slice_get (spec.wanted_by self (kinds_of (map seen found.now))) place }
+    /// What the argument with a number, from 0, is wanted to be, where these arguments stand; None past the last.
+    fn wanted(self, found: &[Given], number: usize) -> Option<Wanted>
+        ensures { result ≡ slice_get (spec.wanted_by self (kinds_of (map seen found.now))) number }
     {
         match self {
             Function::GetBegin | Function::GetEnd | Function::GetLength | Function::GetText => {
-                at(&[Kind::Span], place)
+                at(&[Kind::Span], number)
             }
             Function::CombineSpans
             | Function::SpanBetween
             | Function::Overlaps
-            | Function::Contains => at(&[Kind::Span, Kind::Span], place),
+            | Function::Contains => at(&[Kind::Span, Kind::Span], number),
             Function::LeftContext
             | Function::RightContext
             | Function::LeftContextTok
-            | Function::RightContextTok => at(&[Kind::Span, Kind::Integer], place),
+            | Function::RightContextTok => at(&[Kind::Span, Kind::Integer], number),
             Function::Follows | Function::FollowsTok => at(
                 &[Kind::Span, Kind::Span, Kind::Number, Kind::Number],
-                place,
+                number,
             ),
-            Function::Equals => at(&[Kind::Any, compared(found)], place),
-            Function::GreaterThan => at(&[Kind::Integer, Kind::Integer], place),
-            Function::NotNull => at(&[Kind::Any], place),
+            Function::Equals => at(&[Kind::Any, compared(found)], number),
+            Function::GreaterThan => at(&[Kind::Integer, Kind::Integer], number),
+            Function::NotNull => at(&[Kind::Any], number),
             Function::ContainsRegex | Function::MatchesRegex => {
-                at(&[Kind::Pattern, Kind::SpanOrText], place)
+                at(&[Kind::Pattern, Kind::SpanOrText], number)
             }
-            Function::ContainsDict | Function::MatchesDict => dictionary_wanted(found, place),
-            Function::Not => at(&[Kind::Boolean], place),
-            Function::And | Function::Or => conditions_wanted(found, place),
+            Function::ContainsDict | Function::MatchesDict => dictionary_wanted(found, number),
+            Function::Not => at(&[Kind::Boolean], number),
+            Function::And | Function::Or => conditions_wanted(found, number),
         }
     }
 }
 
 impl Aggregate {
-    fn wanted(self, place: usize) -> Option<Wanted>
-        ensures { result ≡ slice_get (spec.wanted_by_aggregate self) place }
+    fn wanted(self, number: usize) -> Option<Wanted>
+        ensures { result ≡ slice_get (spec.wanted_by_aggregate self) number }
     {
         match self {
-            Aggregate::Sum => at(&[Kind::Integer], place),
-            Aggregate::Count | Aggregate::Min | Aggregate::Max => at(&[Kind::Any], place),
+            Aggregate::Sum => at(&[Kind::Integer], number),
+            Aggregate::Count | Aggregate::Min | Aggregate::Max => at(&[Kind::Any], number),
         }
     }
 }
 
 impl Callee {
-    /// What the argument at a place, from 0, is wanted to be, where these arguments stand; None past the last.
-    pub(crate) fn wanted(self, found: &[Given], place: usize) -> Option<Wanted>
-        ensures { result ≡ slice_get (wanted_of self (kinds_of (map seen found.now))) place }
+    /// What the argument with a number, from 0, is wanted to be, where these arguments stand; None past the last.
+    pub(crate) fn wanted(self, found: &[Given], number: usize) -> Option<Wanted>
+        ensures { result ≡ slice_get (wanted_of self (kinds_of (map seen found.now))) number }
     {
         match self {
-            Callee::Function(function) => function.wanted(found, place),
-            Callee::Aggregate(aggregate) => aggregate.wanted(place),
+            Callee::Function(function) => function.wanted(found, number),
+            Callee::Aggregate(aggregate) => aggregate.wanted(number),
         }
     }
 }

@@ -8,15 +8,15 @@ use Rattle.clause_types.specs.declared.fault.TypeRule.TheVariants.{UnknownColumn
 use Rattle.clause_types.specs.Clauses.{name_kept, no_item}
 use Rattle.clause_types.specs.Faults.{broken}
 use Rattle.clause_types.specs.Items.{at_of}
-use Rattle.clause_types.specs.Keys.{item_place, has_item}
+use Rattle.clause_types.specs.Keys.{item_number, has_item}
 use Rattle.clause_types.specs.Refusals.{IsFirst}
 use Rattle.clause_types.proofs.Labels.{same_at}
-use Rattle.clause_types.proofs.clause.item_number.Goals as goal
+use Rattle.clause_types.proofs.clause.item_of_key.Goals as goal
 
 not_below : (m n : ℕ) → n ≤ m → nat_lt m n ≡ false
 not_below m n h = search rules
 
-no_item_is : (items : List declared.Item) (key : Ast) (n : ℕ) (text : List ℕ) → n ≡ item_place (map item_of items) (term_of key) → length items ≤ n
+no_item_is : (items : List declared.Item) (key : Ast) (n : ℕ) (text : List ℕ) → n ≡ item_number (map item_of items) (term_of key) → length items ≤ n
     → text ≡ name_kept (term_of key) → broken true key.at (UnknownColumn text) ≡ no_item (map item_of items) (term_of key)
 no_item_is items key n text is end kept =
     let none : has_item (map item_of items) (term_of key) ≡ false =
@@ -25,8 +25,8 @@ no_item_is items key n text is end kept =
     ∙ (ap (λ (at : ℕ). broken (not (has_item (map item_of items) (term_of key))) at (UnknownColumn text)) (sym (same_at key.at key.form))
     ∙ ap (λ (t : List ℕ). broken (not (has_item (map item_of items) (term_of key))) (at_of (term_of key)) (UnknownColumn t)) kept)
 
-pub returns-then-place-items-clause-fault : goal.returns-then-place-items-clause-fault
-returns-then-place-items-clause-fault c =
+pub returns-then-found-items-clause-fault : goal.returns-then-found-items-clause-fault
+returns-then-found-items-clause-fault c =
     subst (λ (fs : List Breach). IsFirst fs c.unknown_column.result)
-    (no_item_is c.args.items.now c.args.key.now c.item_place-place.result c.name_kept.result.now c.item_place-place.ensures c.if-place-items.true c.name_kept.ensures)
+    (no_item_is c.args.items.now c.args.key.now c.item_number-found.result c.name_kept.result.now c.item_number-found.ensures c.if-found-items.true c.name_kept.ensures)
     c.unknown_column.ensures
