@@ -14,7 +14,7 @@ use Rattle.aql_syntax.specs.Trees.{Name, Statement, output}
 use Rattle.view_graph.specs.Names.{output_of, outputs_of, AllDiffer}
 use Rattle.aql_typed.specs.Programs.{NamesView, AreTypedOutputs}
 use Rattle.aql_typed.specs.declared.tree.Output.{Output}
-use Rattle.aql_types.specs.Programs.{view_place, output_with, output_in, by_name, outputs_of_program}
+use Rattle.aql_types.specs.Programs.{view_number, output_with, output_in, by_name, outputs_of_program}
 use Rattle.aql_types.specs.Queries.{View}
 
 pairs_tail : {X : Type 0} (R : X → X → Type 0) (x : X) (xs : List X) → AllPairs R (x ∷ xs) → AllPairs R xs
@@ -70,22 +70,22 @@ sorted_each {X} cmp P xs all =
     subst (λ (ys : List X). All P ys) (map_itself (sorted_by cmp xs))
     (sorted_all cmp (λ (x : X). x) P xs (subst (λ (ys : List X). All P ys) (sym (map_itself xs)) all))
 
--- the place of a view is below their number
-place_below : (name : List ℕ) (views : List View) → IfSome (view_place name views) (λ n. n < length views)
-place_below name views = by (nat_lt place (length views)) refl
+-- the number of a view is below how many they are
+number_below : (name : List ℕ) (views : List View) → IfSome (view_number name views) (λ n. n < length views)
+number_below name views = by (nat_lt number (length views)) refl
   where
-    place : ℕ
-    place = position_or_len (λ (v : View). bytes_eq v.name name) views
+    number : ℕ
+    number = position_or_len (λ (v : View). bytes_eq v.name name) views
 
-    by : (b : Bool) → nat_lt place (length views) ≡ b → IfSome (cond b (Some place) None) (λ n. n < length views)
-    by true e = ltb-true place (length views) e
+    by : (b : Bool) → nat_lt number (length views) ≡ b → IfSome (cond b (Some number) None) (λ n. n < length views)
+    by true e = ltb-true number (length views) e
     by false e = tt
 
 module _ (views : List View) where
   output_fits : (view : Name) (name : Option (List ℕ)) → All (NamesView (length views)) (output_with views view name)
   output_fits view None = All-nil (NamesView (length views))
   output_fits view (Some text) =
-      All-cons (NamesView (length views)) (record { name = text; view = view_place view.text views }) [] (place_below view.text views) (All-nil (NamesView (length views)))
+      All-cons (NamesView (length views)) (record { name = text; view = view_number view.text views }) [] (number_below view.text views) (All-nil (NamesView (length views)))
 
   one_fits : (statement : Statement) → All (NamesView (length views)) (output_in views statement)
   one_fits (output name alias) = output_fits name (output_name (output name alias))

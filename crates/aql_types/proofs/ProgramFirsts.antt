@@ -43,7 +43,7 @@ faults_from known program below order = flat_map (λ t. t.faults) (typings_from 
 abbrev pub views_from : Known → List Statement → List View → List ℕ → List View
 views_from known program below order = map (λ t. t.view) (typings_from known program below order)
 
--- one view more, at the place that a loop has come to
+-- one view more, at the index that a loop has come to
 module _ (known : Known) (program : List Statement) (order : List ℕ) (i n : ℕ) (is : n ≡ get_or order i n) (within : i < length order) (below : List View) where
   abbrev said : ViewTyping
   said = typing_of_statement known below n (statement_numbered program n)

@@ -17,9 +17,9 @@ unfolding put_in_order
 put_is cmp x [] = refl
 put_is cmp x (y ∷ ys) = at_front (is_lt (cmp y x)) (prefix_len (λ z. is_lt (cmp z x)) ys) x y ys (put_in_order cmp x ys) (put_is cmp x ys)
 
-pub place_within : {X : Type 0} (p : X → Bool) (xs : List X) → prefix_len p xs ≤ length xs
-place_within p [] = omega arith
-place_within p (x ∷ xs) = within_more (p x) (prefix_len p xs) (length xs) (place_within p xs)
+pub prefix_within : {X : Type 0} (p : X → Bool) (xs : List X) → prefix_len p xs ≤ length xs
+prefix_within p [] = omega arith
+prefix_within p (x ∷ xs) = within_more (p x) (prefix_len p xs) (length xs) (prefix_within p xs)
   where
     within_more : (b : Bool) (n m : ℕ) → n ≤ m → cond b (1 + n) 0 ≤ suc m
     within_more true n m h = omega (arith, h)

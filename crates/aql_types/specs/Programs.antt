@@ -65,12 +65,12 @@ module _ (known : Known) where
     views_of_program order = map (λ t. t.view) (typings_of_program order)
 
 -- the number of the view with a name, from 0; `Document` has none
-abbrev pub view_place : List ℕ → List View → Option ℕ
-view_place name views = position (λ v. bytes_eq v.name name) views
+abbrev pub view_number : List ℕ → List View → Option ℕ
+view_number name views = position (λ v. bytes_eq v.name name) views
 
 abbrev pub output_with : List View → Name → Option (List ℕ) → List Output
 output_with views name None = []
-output_with views name (Some text) = record { name = text; view = view_place name.text views } ∷ []
+output_with views name (Some text) = record { name = text; view = view_number name.text views } ∷ []
 
 -- the output that a statement is, if it is one
 abbrev pub output_in : List View → Statement → List Output

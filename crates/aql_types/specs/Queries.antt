@@ -48,7 +48,7 @@ same_kind k other = false
 abbrev pub same_column : Column → Column → Bool
 same_column c d = bytes_eq c.name d.name && same_kind c.kind d.kind
 
--- equal names and kinds, place by place
+-- equal names and kinds, one by one
 abbrev pub same_columns : List Column → List Column → Bool
 same_columns [] [] = true
 same_columns (c ∷ columns) (d ∷ others) = same_column c d && same_columns columns others

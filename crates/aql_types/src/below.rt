@@ -56,10 +56,10 @@ fn document<'a>(alloc: Global) -> Result<Below<'a>, OutOfMemory>
 }
 
 /// The view with this number.
-fn numbered(place: usize, view: &TypedView) -> Result<Below<'_>, OutOfMemory>
-    ensures { IfOk result (λ b. below_seen b ≡ spec.view_below place (view_seen view.now)) }
+fn numbered(index: usize, view: &TypedView) -> Result<Below<'_>, OutOfMemory>
+    ensures { IfOk result (λ b. below_seen b ≡ spec.view_below index (view_seen view.now)) }
 {
-    let Ok(number) = u32::try_from(place) else {
+    let Ok(number) = u32::try_from(index) else {
         return Err(OutOfMemory);
     };
     Ok(Below {
@@ -76,9 +76,9 @@ fn view_named<'a>(
 ) -> Result<Below<'a>, OutOfMemory>
     ensures { IfOk result (λ b. below_seen b ≡ spec.view_named name.now 0 (map view_seen below.now)) }
 {
-    for (place, view) in below.iter().enumerate() {
+    for (index, view) in below.iter().enumerate() {
         if view.name.as_str() == name {
-            return numbered(place, view);
+            return numbered(index, view);
         }
     }
     document(alloc)

@@ -15,12 +15,12 @@ use span_token::{OutOfMemory, OwnedText};
 use std::alloc::Global;
 
 /// The number of the first view with a name.
-fn view_place(name: &str, views: &[TypedView]) -> Result<Option<u32>, OutOfMemory>
-    ensures { IfOk result (λ place. place ≡ spec.view_place name.now (map spec.view_seen views.now)) }
+fn view_number(name: &str, views: &[TypedView]) -> Result<Option<u32>, OutOfMemory>
+    ensures { IfOk result (λ number. number ≡ spec.view_number name.now (map spec.view_seen views.now)) }
 {
-    for (place, view) in views.iter().enumerate() {
+    for (index, view) in views.iter().enumerate() {
         if view.name.as_str() == name {
-            return match u32::try_from(place) {
+            return match u32::try_from(index) {
                 Ok(number) => Ok(Some(number)),
                 Err(_) => Err(OutOfMemory),
             };
@@ -48,7 +48,7 @@ fn output_with(
 ) -> Result<Output, OutOfMemory>
     ensures { IfOk result (λ out. out ∷ [] ≡ spec.output_in (map spec.view_seen views.now) (tree.output (see.name_of name.now) alias.now)) }
 {
-    let view = view_place(name.text.as_str(), views)?;
+    let view = view_number(name.text.as_str(), views)?;
     let name = OwnedText::copied(alloc, output_text(name, alias))?;
     Ok(Output { name, view })
 }
@@ -98,24 +98,24 @@ fn is_before(a: &Output, b: &Output) -> bool
 }
 
 /// How many outputs stand before one, from the front on.
-fn place_for(outputs: &[Output], output: &Output) -> usize
+fn outputs_before(outputs: &[Output], output: &Output) -> usize
     ensures { result ≡ prefix_len (λ other. is_lt (spec.by_name other output.now)) outputs.now }
 {
-    for (place, other) in outputs.iter().enumerate() {
+    for (index, other) in outputs.iter().enumerate() {
         if !is_before(other, output) {
-            return place;
+            return index;
         }
     }
     outputs.len()
 }
 
 /// Puts an output among others in order.
-#[tactic(auto, using(crate::proofs::Sorting::put_is, crate::proofs::Sorting::place_within))]
+#[tactic(auto, using(crate::proofs::Sorting::put_is, crate::proofs::Sorting::prefix_within))]
 fn put(outputs: &mut Vec<Output>, output: Output) -> Result<(), OutOfMemory>
     ensures { OnOk result (outputs.new.items ≡ put_in_order spec.by_name output outputs.old.items) }
 {
-    let place = place_for(outputs, &output);
-    outputs.insert(place, output)?;
+    let index = outputs_before(outputs, &output);
+    outputs.insert(index, output)?;
     Ok(())
 }
 

@@ -32,15 +32,15 @@ fn same_column(a: &Column, b: &Column) -> bool
     a.name.as_str() == b.name.as_str() && same_kind(a.kind, b.kind)
 }
 
-/// Whether the columns are equal in name, kind and place.
+/// Whether the columns are equal in name and kind, one by one.
 fn same_columns(columns: &[Column], others: &[Column]) -> bool
     ensures { result ≡ spec.same_columns columns.now others.now }
 {
     if columns.len() != others.len() {
         return false;
     }
-    for (place, column) in columns.iter().enumerate() {
-        if !same_column(column, &others[place]) {
+    for (index, column) in columns.iter().enumerate() {
+        if !same_column(column, &others[index]) {
             return false;
         }
     }

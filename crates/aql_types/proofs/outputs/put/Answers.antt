@@ -11,5 +11,5 @@ returns c =
     let xs = c.args.outputs.now.items in
     c.in_ok-insert.ensures.items
     ∙ (ap (λ (n : ℕ). insert xs n c.args.output)
-    (c.place_for-place.ensures ∙ ap (λ (ys : List Output). prefix_len (λ other. is_lt (by_name other c.args.output)) ys) c.deref.ensures.value)
+    (c.outputs_before-index.ensures ∙ ap (λ (ys : List Output). prefix_len (λ other. is_lt (by_name other c.args.output)) ys) c.deref.ensures.value)
     ∙ sym (put_is by_name c.args.output xs))
