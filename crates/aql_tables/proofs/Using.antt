@@ -13,7 +13,7 @@ use Rattle.dict_match.specs.declared.dict_use.DictUse.{DictUse}
 use Rattle.aql_tables.specs.Mentions.{Mention, of_dictionary}
 use Rattle.aql_tables.specs.Numbers.{each_once, number_among}
 use Rattle.aql_tables.specs.Programs.{DictKey, same_dict, entries_of, use_of, dict_in, dicts_among}
-use Rattle.aql_tables.specs.Kept.{HasNumber, HasDicts, IsSet}
+use Rattle.aql_tables.specs.Kept.{IsNumberOf, HasDicts, IsSet}
 use Rattle.aql_tables.proofs.Once.{pushed, each_once-push, apart, at_last, at_more, past_more, pushed_known, pushed_new}
 
 pub same_is : (a b : DictKey) → same_dict a b ≡ true → a ≡ b
@@ -59,7 +59,7 @@ module _ (program : List Statement) where
           by true good = record {
             dicts_are = one_more seen name exact good
                 ∙ (ap (λ (ks : List DictKey). pushed same_dict same_is itself ks (name, exact)) has.dicts_are
-                ∙ pushed_known same_dict same_is itself (name, exact) keys n (subst (HasNumber same_dict keys (name, exact)) known (has.keeps.numbered (name, exact))));
+                ∙ pushed_known same_dict same_is itself (name, exact) keys n (subst (IsNumberOf same_dict keys (name, exact)) known (has.keeps.numbered (name, exact))));
             uses_are = has.uses_are;
             keeps = has.keeps;
           }
@@ -77,18 +77,18 @@ module _ (program : List Statement) where
             ∙ ap₂ (λ (us : List DictUse) (es : List (List ℕ)). us ++ record { entries = es; exact = exact } ∷ []) has.uses_are (ap (λ o. unwrap_or o []) good);
         keeps = record {
           short = rw (length-append keys ((name, exact) ∷ [])) room;
-          numbered = λ key. subst (HasNumber same_dict (keys ++ (name, exact) ∷ []) key) (sym (set key)) (by key (past unknown) (same_dict (name, exact) key) refl);
+          numbered = λ key. subst (IsNumberOf same_dict (keys ++ (name, exact) ∷ []) key) (sym (set key)) (by key (past unknown) (same_dict (name, exact) key) refl);
         };
       }
         where
           past : number_at (name, exact) ≡ None → number_among same_dict (name, exact) keys ≡ length keys
-          past unknown = subst (HasNumber same_dict keys (name, exact)) unknown (has.keeps.numbered (name, exact))
+          past unknown = subst (IsNumberOf same_dict keys (name, exact)) unknown (has.keeps.numbered (name, exact))
 
-          later : (key : DictKey) → same_dict key (name, exact) ≡ false → (o : Option ℕ) → HasNumber same_dict keys key o → HasNumber same_dict (keys ++ (name, exact) ∷ []) key o
+          later : (key : DictKey) → same_dict key (name, exact) ≡ false → (o : Option ℕ) → IsNumberOf same_dict keys key o → IsNumberOf same_dict (keys ++ (name, exact) ∷ []) key o
           later key e None told = past_more same_dict same_is itself key (name, exact) keys told e
           later key e (Some n) told = at_more same_dict same_is itself key keys ((name, exact) ∷ []) n told
 
           by : (key : DictKey) → number_among same_dict (name, exact) keys ≡ length keys → (b : Bool) → same_dict (name, exact) key ≡ b
-              → HasNumber same_dict (keys ++ (name, exact) ∷ []) key (cond (same_dict (name, exact) key) (Some (length keys)) (number_at key))
-          by key past true e = rw e (subst (λ (k : DictKey). HasNumber same_dict (keys ++ (name, exact) ∷ []) k (Some (length keys))) (same_is (name, exact) key e) (at_last same_dict same_is itself (name, exact) keys past))
+              → IsNumberOf same_dict (keys ++ (name, exact) ∷ []) key (cond (same_dict (name, exact) key) (Some (length keys)) (number_at key))
+          by key past true e = rw e (subst (λ (k : DictKey). IsNumberOf same_dict (keys ++ (name, exact) ∷ []) k (Some (length keys))) (same_is (name, exact) key e) (at_last same_dict same_is itself (name, exact) keys past))
           by key past false e = rw e (later key (apart same_dict same_is itself (name, exact) key e) (number_at key) (has.keeps.numbered key))

@@ -31,9 +31,9 @@ pub record IsAt {X : Type 0} (same : X → X → Bool) (xs : List X) (x : X) (nu
   pub within : number < length xs
 
 -- the number of a value, or none where it isn't there
-abbrev pub HasNumber : {X : Type 0} → (X → X → Bool) → List X → X → Option ℕ → Type 0
-HasNumber same xs x None = number_among same x xs ≡ length xs
-HasNumber same xs x (Some number) = IsAt same xs x number
+abbrev pub IsNumberOf : {X : Type 0} → (X → X → Bool) → List X → X → Option ℕ → Type 0
+IsNumberOf same xs x None = number_among same x xs ≡ length xs
+IsNumberOf same xs x (Some number) = IsAt same xs x number
 
 -- what is known of a text: it is a pattern with a number, or has a fault, or isn't there
 abbrev pub IsTold : List (List ℕ) → List ℕ → Option Verdict → Type 0
@@ -58,7 +58,7 @@ number_by exact_at other_at key = if key.1 then exact_at key.0 else other_at key
 -- of each dictionary its number
 pub record KeepsDicts (dicts : List DictKey) (number_at : DictKey → Option ℕ) : Type 0 where
   pub short : length dicts < 2 ^ 32
-  pub numbered : (key : DictKey) → HasNumber same_dict dicts key (number_at key)
+  pub numbered : (key : DictKey) → IsNumberOf same_dict dicts key (number_at key)
 
 -- the dictionaries of what was seen, with their entries
 pub record HasDicts (program : List Statement) (seen : List Mention) (dicts : List DictKey) (uses : List DictUse) (number_at : DictKey → Option ℕ) : Type 0 where
