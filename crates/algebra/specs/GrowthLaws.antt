@@ -152,8 +152,8 @@ pub is-at : (nodes : List Node) (i : ℕ) (node : Node) → IsPlan nodes → i <
 is-at nodes i node plan below is =
     let split = split_at nodes i node below is in
     let at = at_split (take i nodes) node (drop (i + 1) nodes) (subst IsPlan split plan) in
-    let placed : IsAt nodes (length (take i nodes)) node = subst (λ (all : List Node). IsAt all (length (take i nodes)) node) (sym split) at in
-    subst (λ (k : ℕ). IsAt nodes k node) (length-take-le i nodes (omega (arith, below))) placed
+    let here : IsAt nodes (length (take i nodes)) node = subst (λ (all : List Node). IsAt all (length (take i nodes)) node) (sym split) at in
+    subst (λ (k : ℕ). IsAt nodes k node) (length-take-le i nodes (omega (arith, below))) here
 
 -- that equation: the value of a node is its operator's
 pub val-is : (lists : Lists) (doc : Doc) (nodes : List Node) (i : ℕ) (node : Node) → IsPlan nodes → i < length nodes → node ≡ get_or nodes i node

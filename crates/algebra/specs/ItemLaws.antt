@@ -1,4 +1,4 @@
--- Laws of items: each number below their count has a place, and no other one; and a node is worth what its operator gives of
+-- Laws of items: each number below their count is a node on a document, and no other one is; and a node is worth what its operator gives of
 -- what it asks for.
 use Rattle.std.proofs.Common.{◌≡◌, ◌⊎◌, inl, inr, ℕ, zero, suc, ◌+◌, ◌*◌, ◌/◌, ◌%◌, ◌<◌, Bool, true, false, List, [], ◌∷◌, length, get_or, refl, sym, ap, subst, ◌∙◌, arith, Option, Some, true≢false}
 use Rattle.std.specs.Prelude.{slice_get}
@@ -17,7 +17,7 @@ use Rattle.algebra.specs.declared.shape.Shape.{Shape}
 use Rattle.algebra.specs.Folds.{of_input, had}
 use Rattle.algebra.specs.GrowthLaws.{is-at, val-is}
 use Rattle.algebra.specs.Inputs.{left_input, right_input, is_conditional}
-use Rattle.algebra.specs.Items.{Place, item_count, item_at, HasInput, AreGiven}
+use Rattle.algebra.specs.Items.{IsItem, item_count, item_at, HasInput, AreGiven}
 use Rattle.algebra.specs.JoiningLaws.{conditional-nil}
 use Rattle.algebra.specs.Nodes.{IsPlan}
 use Rattle.algebra.specs.OperatorLaws.{op-SameBag}
@@ -39,8 +39,8 @@ cons_nil x xs e = cc
 
 module _ (plan : Parts) (docs : List Document) where
   -- node n on document d has its item
-  abbrev pub place_of : (d n : ℕ) (doc : Document) → slice_get docs d ≡ Some doc → n < length plan.nodes → Place plan docs (item_at plan d n)
-  place_of d n doc doc_is below = record {
+  abbrev pub is_item_at : (d n : ℕ) (doc : Document) → slice_get docs d ≡ Some doc → n < length plan.nodes → IsItem plan docs (item_at plan d n)
+  is_item_at d n doc doc_is below = record {
     d = d;
     n = n;
     doc = doc;
@@ -56,44 +56,44 @@ module _ (plan : Parts) (docs : List Document) where
     | inr past ↦ absurd (omega (arith, below, past.0))
   ]
 
-  -- each item has a place
-  pub place-at : (i : ℕ) → i < item_count plan docs → Place plan docs i
-  place-at i below =
+  -- each item is a node on a document
+  pub item-is : (i : ℕ) → i < item_count plan docs → IsItem plan docs i
+  item-is i below =
       let some = some_factor i (length docs) (length plan.nodes) below in
       let found = document_at (i / length plan.nodes) (div_below i (length plan.nodes) (length docs) some below) in
-      subst (Place plan docs) (sym (divided i (length plan.nodes)))
-      (place_of (i / length plan.nodes) (i % length plan.nodes) found.0 found.1 (mod_below i (length plan.nodes) some))
+      subst (IsItem plan docs) (sym (divided i (length plan.nodes)))
+      (is_item_at (i / length plan.nodes) (i % length plan.nodes) found.0 found.1 (mod_below i (length plan.nodes) some))
 
-  -- an item with a place is one of the items
-  pub place-below : (i : ℕ) → Place plan docs i → i < item_count plan docs
-  place-below i place =
-      let here = mul-add-lt place.d (length plan.nodes) place.n (length docs) (slice_get_within docs place.d place.doc place.doc_is) (slice_get_within plan.nodes place.n place.node place.node_is) in
-      omega (arith, here, place.is, mul_comm (length docs) (length plan.nodes))
+  -- a node on a document is one of the items
+  pub item-below : (i : ℕ) → IsItem plan docs i → i < item_count plan docs
+  item-below i of_item =
+      let here = mul-add-lt of_item.d (length plan.nodes) of_item.n (length docs) (slice_get_within docs of_item.d of_item.doc of_item.doc_is) (slice_get_within plan.nodes of_item.n of_item.node of_item.node_is) in
+      omega (arith, here, of_item.is, mul_comm (length docs) (length plan.nodes))
 
   -- the numbers of its document and of its node
-  pub place-d : (i : ℕ) (place : Place plan docs i) → place.d ≡ i / length plan.nodes
-  place-d i place =
-      sym (div-mul-add place.d (length plan.nodes) place.n (slice_get_within plan.nodes place.n place.node place.node_is)) ∙ ap (λ (m : ℕ). m / length plan.nodes) (sym place.is)
+  pub item-d : (i : ℕ) (of_item : IsItem plan docs i) → of_item.d ≡ i / length plan.nodes
+  item-d i of_item =
+      sym (div-mul-add of_item.d (length plan.nodes) of_item.n (slice_get_within plan.nodes of_item.n of_item.node of_item.node_is)) ∙ ap (λ (m : ℕ). m / length plan.nodes) (sym of_item.is)
 
-  pub place-n : (i : ℕ) (place : Place plan docs i) → place.n ≡ i % length plan.nodes
-  place-n i place =
-      sym (mod-mul-add place.d (length plan.nodes) place.n (slice_get_within plan.nodes place.n place.node place.node_is)) ∙ ap (λ (m : ℕ). m % length plan.nodes) (sym place.is)
+  pub item-n : (i : ℕ) (of_item : IsItem plan docs i) → of_item.n ≡ i % length plan.nodes
+  item-n i of_item =
+      sym (mod-mul-add of_item.d (length plan.nodes) of_item.n (slice_get_within plan.nodes of_item.n of_item.node of_item.node_is)) ∙ ap (λ (m : ℕ). m % length plan.nodes) (sym of_item.is)
 
-  -- places of one item are on one document, and of one node
-  pub same-d : (i j : ℕ) → i ≡ j → (p : Place plan docs i) (q : Place plan docs j) → p.d ≡ q.d
-  same-d i j e p q = place-d i p ∙ (ap (λ (m : ℕ). m / length plan.nodes) e ∙ sym (place-d j q))
+  -- one item is on one document, and of one node
+  pub same-d : (i j : ℕ) → i ≡ j → (p : IsItem plan docs i) (q : IsItem plan docs j) → p.d ≡ q.d
+  same-d i j e p q = item-d i p ∙ (ap (λ (m : ℕ). m / length plan.nodes) e ∙ sym (item-d j q))
 
-  pub same-n : (i j : ℕ) → i ≡ j → (p : Place plan docs i) (q : Place plan docs j) → p.n ≡ q.n
-  same-n i j e p q = place-n i p ∙ (ap (λ (m : ℕ). m % length plan.nodes) e ∙ sym (place-n j q))
+  pub same-n : (i j : ℕ) → i ≡ j → (p : IsItem plan docs i) (q : IsItem plan docs j) → p.n ≡ q.n
+  same-n i j e p q = item-n i p ∙ (ap (λ (m : ℕ). m % length plan.nodes) e ∙ sym (item-n j q))
 
-  pub same-doc : (i j : ℕ) → i ≡ j → (p : Place plan docs i) (q : Place plan docs j) → p.doc ≡ q.doc
+  pub same-doc : (i j : ℕ) → i ≡ j → (p : IsItem plan docs i) (q : IsItem plan docs j) → p.doc ≡ q.doc
   same-doc i j e p q = same_Some p.doc q.doc (sym p.doc_is ∙ (ap (λ (d : ℕ). slice_get docs d) (same-d i j e p q) ∙ q.doc_is))
 
-  pub same-node : (i j : ℕ) → i ≡ j → (p : Place plan docs i) (q : Place plan docs j) → p.node ≡ q.node
+  pub same-node : (i j : ℕ) → i ≡ j → (p : IsItem plan docs i) (q : IsItem plan docs j) → p.node ≡ q.node
   same-node i j e p q = same_Some p.node q.node (sym p.node_is ∙ (ap (λ (n : ℕ). slice_get plan.nodes n) (same-n i j e p q) ∙ q.node_is))
 
-  -- what is said of an item by its document and node is said at each of its places
-  pub at-each : (P : Document → ℕ → Type 0) (i j : ℕ) → i ≡ j → (p : Place plan docs i) (q : Place plan docs j) → P p.doc p.n → P q.doc q.n
+  -- what is said of an item by its document and node is said of it, however it is found
+  pub at-each : (P : Document → ℕ → Type 0) (i j : ℕ) → i ≡ j → (p : IsItem plan docs i) (q : IsItem plan docs j) → P p.doc p.n → P q.doc q.n
   at-each P i j e p q holds = subst (λ (n : ℕ). P q.doc n) (same-n i j e p q) (subst (λ (doc : Document). P doc p.n) (same-doc i j e p q) holds)
 
 module _ (lists : Lists) (doc : Document) (nodes : List Node) (n : ℕ) (node : Node) (planned : IsPlan nodes) (is : slice_get nodes n ≡ Some node) where

@@ -26,7 +26,7 @@ abbrev pub item_at : Parts → ℕ → ℕ → ℕ
 item_at plan d n = d * length plan.nodes + n
 
 -- item i is node n, which is `node`, on document d, which is `doc`
-pub record Place (plan : Parts) (docs : List Doc) (i : ℕ) : Type 0 where
+pub record IsItem (plan : Parts) (docs : List Doc) (i : ℕ) : Type 0 where
   pub d : ℕ
   pub n : ℕ
   pub doc : Doc
@@ -36,8 +36,8 @@ pub record Place (plan : Parts) (docs : List Doc) (i : ℕ) : Type 0 where
   pub node_is : slice_get plan.nodes n ≡ Some node
 
 -- the item's node is needed on its document
-abbrev pub IsNeededOn : (plan : Parts) (docs : List Doc) (i : ℕ) → Place plan docs i → Type 0
-IsNeededOn plan docs i place = IsNeeded plan.lists place.doc plan.nodes (output_nodes plan) place.n
+abbrev pub IsNeededOn : (plan : Parts) (docs : List Doc) (i : ℕ) → IsItem plan docs i → Type 0
+IsNeededOn plan docs i of_item = IsNeeded plan.lists of_item.doc plan.nodes (output_nodes plan) of_item.n
 
 -- the list is what an input has: its columns, spans in the document, and its value, as a bag; no row of no column where there
 -- is no input. Of node n itself it is said as of an input `Some n`

@@ -83,7 +83,7 @@ module _ (lists : Lists) (doc : Document) where
   conditional-nil (Regex input column pattern groups) right is = absurd (true≢false (sym is))
   conditional-nil (TokenRegex input column low high pattern groups) right is = absurd (true≢false (sym is))
   conditional-nil (Dict input column dicts) right is = absurd (true≢false (sym is))
-  conditional-nil (DictPart input place) right is = absurd (true≢false (sym is))
+  conditional-nil (DictPart input number) right is = absurd (true≢false (sym is))
   conditional-nil (Blocks input column low high from to tokens) right is = absurd (true≢false (sym is))
   conditional-nil (Select input conds) right is = absurd (true≢false (sym is))
   conditional-nil (Project input items) right is = absurd (true≢false (sym is))
@@ -101,9 +101,9 @@ module _ (lists : Lists) (doc : Document) where
   restricted-runs outer source input l r join lc low high pattern conditional left rows other = refl
 
   -- and with all matches of a dictionary, whichever others its node has
-  pub restricted-entries : (outer source input above l r : ℕ) (join : JoinKind) (lc d place : ℕ) (dicts : List ℕ) (conditional : Bool) (left rows other third : Rows)
-      → place < length dicts → slice_get dicts place ≡ Some d
+  pub restricted-entries : (outer source input above l r : ℕ) (join : JoinKind) (lc d number : ℕ) (dicts : List ℕ) (conditional : Bool) (left rows other third : Rows)
+      → number < length dicts → slice_get dicts number ≡ Some d
       → op lists doc (Restricted outer source join lc (sought.Dict d)) left rows
-      ≡ op lists doc (SpanJoin l r join lc 1 conditional) left (op lists doc (DictPart above place) (op lists doc (Dict input 0 dicts) rows other) third)
-  restricted-entries outer source input above l r join lc d place dicts conditional left rows other third below is =
-      ap (λ (found : Rows). joined_where (does_join doc join) left lc found 1) (sym (dict_part lists doc input 0 dicts above place d rows other third below is))
+      ≡ op lists doc (SpanJoin l r join lc 1 conditional) left (op lists doc (DictPart above number) (op lists doc (Dict input 0 dicts) rows other) third)
+  restricted-entries outer source input above l r join lc d number dicts conditional left rows other third below is =
+      ap (λ (found : Rows). joined_where (does_join doc join) left lc found 1) (sym (dict_part lists doc input 0 dicts above number d rows other third below is))

@@ -23,7 +23,7 @@ use Rattle.algebra.specs.GrowthLaws.{HasAt, has-shape_at, has-op}
 use Rattle.algebra.specs.Inputs.{left_input, right_input, IsAmong}
 use Rattle.algebra.specs.Nodes.{IsNode}
 use Rattle.algebra.specs.Operators.{does_join, part_of, with_found, marked_in, restricted}
-use Rattle.algebra.specs.Shapes.{columns, document_shape, shape_by, no_shape, shapes_of, IsOpen, HasPlace, IsSought, IsMade}
+use Rattle.algebra.specs.Shapes.{columns, document_shape, shape_by, no_shape, shapes_of, IsOpen, HasDictNumber, IsSought, IsMade}
 
 among : (old : List Node) (o : Option ℕ) (s : Shape) (f : Lists → Document → Rows) → HasAt old o s f → IsAmong (length (shapes_of old)) o
 among old None s f has = tt
@@ -72,16 +72,16 @@ module _ (old : List Node) (i : ℕ) (s : Shape) (f : Lists → Document → Row
   pub node-dict : (column : ℕ) (dicts : List ℕ) → IsOpen s → column < s.width → IsNode (shapes_of old) (Dict i column dicts)
   node-dict column dicts h0 h1 = node-by old (Dict i column dicts) s no_shape f no_rows has (no_input old) (h0, h1)
 
-  -- the rows, followed by the places and matches of dictionaries
+  -- the rows, followed by the numbers and matches of dictionaries
   pub has-dict : (column : ℕ) (dicts : List ℕ) (new : List Node) (n : ℕ) → Stands old new n (Dict i column dicts) → Has new n (record { width = s.width + 2; form = Marked (length dicts) }) (λ lists doc. flat_map (marked_in lists doc column dicts) (f lists doc))
   has-dict column dicts new n stands = has-op old (Dict i column dicts) s no_shape f no_rows has (no_input old) new n stands
 
-  pub node-dict_part : (place : ℕ) → HasPlace s place → IsNode (shapes_of old) (DictPart i place)
-  node-dict_part place h0 = node-by old (DictPart i place) s no_shape f no_rows has (no_input old) h0
+  pub node-dict_part : (number : ℕ) → HasDictNumber s number → IsNode (shapes_of old) (DictPart i number)
+  node-dict_part number h0 = node-by old (DictPart i number) s no_shape f no_rows has (no_input old) h0
 
-  -- the rows of one place
-  pub has-dict_part : (place : ℕ) (new : List Node) (n : ℕ) → Stands old new n (DictPart i place) → Has new n (columns (s.width - 1)) (λ lists doc. part_of place (f lists doc))
-  has-dict_part place new n stands = has-op old (DictPart i place) s no_shape f no_rows has (no_input old) new n stands
+  -- the rows of one dictionary
+  pub has-dict_part : (number : ℕ) (new : List Node) (n : ℕ) → Stands old new n (DictPart i number) → Has new n (columns (s.width - 1)) (λ lists doc. part_of number (f lists doc))
+  has-dict_part number new n stands = has-op old (DictPart i number) s no_shape f no_rows has (no_input old) new n stands
 
   pub node-blocks : (column low high : ℕ) (from upto : ℤ) (tokens : Bool) → IsOpen s → column < s.width → IsNode (shapes_of old) (Blocks i column low high from upto tokens)
   node-blocks column low high from upto tokens h0 h1 = node-by old (Blocks i column low high from upto tokens) s no_shape f no_rows has (no_input old) (h0, h1)

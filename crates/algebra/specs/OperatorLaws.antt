@@ -42,7 +42,7 @@ module _ (lists : Lists) (doc : Document) where
   op-SameBag (Regex input column pattern groups) left left' right right' h k = SameBag-flat_map (followed lists doc (regex column pattern groups)) left left' h
   op-SameBag (TokenRegex input column low high pattern groups) left left' right right' h k = SameBag-flat_map (followed lists doc (token_regex column low high pattern groups)) left left' h
   op-SameBag (Dict input column dicts) left left' right right' h k = SameBag-flat_map (marked_in lists doc column dicts) left left' h
-  op-SameBag (DictPart input place) left left' right right' h k = SameBag-map unmarked _ _ (SameBag-filter (is_marked place) left left' h)
+  op-SameBag (DictPart input number) left left' right right' h k = SameBag-map unmarked _ _ (SameBag-filter (is_marked number) left left' h)
   op-SameBag (Blocks input column low high from to tokens) left left' right right' h k =
       SameBag-is _ _ (ap one_column (blocks_of-SameBag (is_neighbour doc tokens from to) (IsNeighbour doc tokens from to) (is_neighbour-decides doc tokens from to) low high
       (filter_map (span_in column) left) (filter_map (span_in column) left') (SameBag-filter_map (span_in column) left left' h)))
@@ -66,7 +66,7 @@ module _ (lists : Lists) (doc : Document) where
   op-renamed to (Regex input column pattern groups) left right = refl
   op-renamed to (TokenRegex input column low high pattern groups) left right = refl
   op-renamed to (Dict input column dicts) left right = refl
-  op-renamed to (DictPart input place) left right = refl
+  op-renamed to (DictPart input number) left right = refl
   op-renamed to (Blocks input column low high from upto tokens) left right = refl
   op-renamed to (Select input conds) left right = refl
   op-renamed to (Project input items) left right = refl
@@ -85,7 +85,7 @@ module _ (to : ℕ → ℕ) where
   left-renamed (Regex input column pattern groups) = refl
   left-renamed (TokenRegex input column low high pattern groups) = refl
   left-renamed (Dict input column dicts) = refl
-  left-renamed (DictPart input place) = refl
+  left-renamed (DictPart input number) = refl
   left-renamed (Blocks input column low high from upto tokens) = refl
   left-renamed (Select input conds) = refl
   left-renamed (Project input items) = refl
@@ -103,7 +103,7 @@ module _ (to : ℕ → ℕ) where
   right-renamed (Regex input column pattern groups) = refl
   right-renamed (TokenRegex input column low high pattern groups) = refl
   right-renamed (Dict input column dicts) = refl
-  right-renamed (DictPart input place) = refl
+  right-renamed (DictPart input number) = refl
   right-renamed (Blocks input column low high from upto tokens) = refl
   right-renamed (Select input conds) = refl
   right-renamed (Project input items) = refl
@@ -121,7 +121,7 @@ module _ (to : ℕ → ℕ) where
   shape-renamed (Regex input column pattern groups) left right = refl
   shape-renamed (TokenRegex input column low high pattern groups) left right = refl
   shape-renamed (Dict input column dicts) left right = refl
-  shape-renamed (DictPart input place) left right = refl
+  shape-renamed (DictPart input number) left right = refl
   shape-renamed (Blocks input column low high from upto tokens) left right = refl
   shape-renamed (Select input conds) left right = refl
   shape-renamed (Project input items) left right = refl
@@ -139,7 +139,7 @@ module _ (to : ℕ → ℕ) where
   made-renamed (Regex input column pattern groups) left right made = made
   made-renamed (TokenRegex input column low high pattern groups) left right made = made
   made-renamed (Dict input column dicts) left right made = made
-  made-renamed (DictPart input place) left right made = made
+  made-renamed (DictPart input number) left right made = made
   made-renamed (Blocks input column low high from upto tokens) left right made = made
   made-renamed (Select input conds) left right made = made
   made-renamed (Project input items) left right made = made

@@ -36,17 +36,17 @@ abbrev pub sought_by : Local → Extraction
 sought_by (sought.TokenRegex low high pattern) = token_regex 0 low high pattern (0 ∷ [])
 sought_by (sought.Dict d) = dict 0 d
 
--- whether the place, which stands in the last column but one, is this one
+-- whether the dictionary's number, which stands in the last column but one, is this one
 abbrev pub is_marked : ℕ → List Datum → Bool
-is_marked place row = eq_by_cmp datum_cmp (value_in row (length row - 2)) (int (pos place))
+is_marked number row = eq_by_cmp datum_cmp (value_in row (length row - 2)) (int (pos number))
 
--- the row without the place
+-- the row without the dictionary's number
 abbrev pub unmarked : List Datum → List Datum
 unmarked row = take (length row - 2) row ++ drop (length row - 1) row
 
--- the rows of a place, without it
+-- the rows with a dictionary's number, without it
 abbrev pub part_of : ℕ → Rows → Rows
-part_of place rows = map unmarked (filter (is_marked place) rows)
+part_of number rows = map unmarked (filter (is_marked number) rows)
 
 module _ (lists : Lists) (doc : Document) where
   -- the row, followed by what is found: one row for each match in it
@@ -57,12 +57,12 @@ module _ (lists : Lists) (doc : Document) where
   abbrev pub with_found : Extraction → Rows → Rows
   with_found extraction rows = flat_map (followed extraction) rows
 
-  -- the row, followed by a place and what is found: one row for each match of the dictionary at that place
+  -- the row, followed by a dictionary's number and what is found: one row for each match of that dictionary
   abbrev pub marked_at : ℕ → List ℕ → List Datum → ℕ → Rows
-  marked_at column dicts row place =
-      of_some (λ d. map (λ found. row ++ int (pos place) ∷ map group_value found) (found_in lists doc (dict column d) row)) (slice_get dicts place)
+  marked_at column dicts row number =
+      of_some (λ d. map (λ found. row ++ int (pos number) ∷ map group_value found) (found_in lists doc (dict column d) row)) (slice_get dicts number)
 
-  -- those of all places
+  -- those of all dictionaries
   abbrev pub marked_in : ℕ → List ℕ → List Datum → Rows
   marked_in column dicts row = flat_map (marked_at column dicts row) (range_with_len 0 (length dicts))
 
@@ -76,7 +76,7 @@ module _ (lists : Lists) (doc : Document) where
   op (Regex input column pattern groups) left right = with_found (regex column pattern groups) left
   op (TokenRegex input column low high pattern groups) left right = with_found (token_regex column low high pattern groups) left
   op (Dict input column dicts) left right = flat_map (marked_in column dicts) left
-  op (DictPart input place) left right = part_of place left
+  op (DictPart input number) left right = part_of number left
   op (Blocks input column low high from to tokens) left right = extracted lists doc [] (blocks column low high from to tokens) left
   op (Select input conds) left right = selected lists doc conds left
   op (Project input items) left right = projected lists doc (plain items) left

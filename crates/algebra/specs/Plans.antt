@@ -17,7 +17,7 @@ pub record Parts : Type 0 where
   pub lists : Lists
   pub outputs : List PlanOut
 
--- the output's node is among nodes of these shapes, isn't marked with places, and has a column for each name
+-- the output's node is among nodes of these shapes, isn't marked with numbers of dictionaries, and has a column for each name
 pub record IsOutput (shapes : List Shape) (out : PlanOut) : Type 0 where
   pub there : out.node < length shapes
   pub shown : IsOpen (slice_index_or shapes out.node no_shape)

@@ -25,7 +25,7 @@ shape_by Doc left right = document_shape
 shape_by (Regex input column pattern groups) left right = columns (left.width + length groups)
 shape_by (TokenRegex input column low high pattern groups) left right = columns (left.width + length groups)
 shape_by (Dict input column dicts) left right = record { width = left.width + 2; form = Marked (length dicts) }
-shape_by (DictPart input place) left right = columns (left.width - 1)
+shape_by (DictPart input number) left right = columns (left.width - 1)
 shape_by (Blocks input column low high from to tokens) left right = columns 1
 shape_by (Select input conds) left right = columns left.width
 shape_by (Project input items) left right = columns (length items)
@@ -46,23 +46,23 @@ no_shape = columns 0
 abbrev pub shapes_of : List Node → List Shape
 shapes_of nodes = all_from no_shape shape_by [] nodes
 
--- rows that have no place of a dictionary: any node may read them, and an output may show them
+-- rows that have no dictionary's number: any node may read them, and an output may show them
 abbrev pub IsOpenForm : Form → Type 0
 IsOpenForm Document = Unit {0}
-IsOpenForm (Marked places) = ⊥
+IsOpenForm (Marked count) = ⊥
 IsOpenForm Plain = Unit {0}
 
 abbrev pub IsOpen : Shape → Type 0
 IsOpen shape = IsOpenForm shape.form
 
--- rows that have places of dictionaries, this one among them
-abbrev pub HasPlaceForm : Form → ℕ → Type 0
-HasPlaceForm Document place = ⊥
-HasPlaceForm (Marked places) place = place < places
-HasPlaceForm Plain place = ⊥
+-- rows that have numbers of dictionaries, this one among them
+abbrev pub HasDictNumberForm : Form → ℕ → Type 0
+HasDictNumberForm Document number = ⊥
+HasDictNumberForm (Marked count) number = number < count
+HasDictNumberForm Plain number = ⊥
 
-pub record HasPlace (shape : Shape) (place : ℕ) : Type 0 where
-  pub listed : HasPlaceForm shape.form place
+pub record HasDictNumber (shape : Shape) (number : ℕ) : Type 0 where
+  pub listed : HasDictNumberForm shape.form number
   pub room : 2 ≤ shape.width
 
 -- a run of tokens has one token or more
@@ -77,7 +77,7 @@ IsMade Doc left right = Unit {0}
 IsMade (Regex input column pattern groups) left right = IsOpen left × (column < left.width)
 IsMade (TokenRegex input column low high pattern groups) left right = IsOpen left × (column < left.width) × (1 ≤ low)
 IsMade (Dict input column dicts) left right = IsOpen left × (column < left.width)
-IsMade (DictPart input place) left right = HasPlace left place
+IsMade (DictPart input number) left right = HasDictNumber left number
 IsMade (Blocks input column low high from to tokens) left right = IsOpen left × (column < left.width)
 IsMade (Select input conds) left right = IsOpen left × All (ReadsBelow left.width) conds
 IsMade (Project input items) left right = IsOpen left × All (ReadsBelow left.width) items

@@ -43,7 +43,7 @@ pub All-flat_map : {X Y : Type 0} (P : X → Type 0) (Q : Y → Type 0) (f : X �
 All-flat_map P Q f each [] all = All-nil Q
 All-flat_map P Q f each (x ∷ xs) all = All-append Q (f x) (flat_map f xs) (each x (All-head P x xs all)) (All-flat_map P Q f each xs (All-tail P x xs all))
 
--- a row without its place has one value less
+-- a row without its dictionary's number has one value less
 unmarked_wide : (row : List Datum) (width : ℕ) → length row ≡ width → 2 ≤ width → length (unmarked row) ≡ width - 1
 unmarked_wide row width is room =
     let n = length row in
@@ -62,16 +62,16 @@ module _ (lists : Lists) (doc : Document) where
   with_found-wide extraction width rows all =
       All-flat_map (λ row. length row ≡ width) (λ row. length row ≡ width + found_width extraction) (followed lists doc extraction) (followed_wide extraction width) rows all
 
-  marked_wide : (column : ℕ) (dicts : List ℕ) (width : ℕ) (row : List Datum) → length row ≡ width → (place : ℕ) → AreWide (width + 2) (marked_at lists doc column dicts row place)
-  marked_wide column dicts width row is place =
-      All-of_some (λ r. length r ≡ width + 2) (λ d. map (λ found. row ++ int (pos place) ∷ map group_value found) (found_in lists doc (dict column d) row)) _
-      (λ d. All-map (λ r. length r ≡ width + 2) (λ found. row ++ int (pos place) ∷ map group_value found) (found_in lists doc (dict column d) row)
-      (All-weaker (λ found. length found ≡ 1) (λ found. length (row ++ int (pos place) ∷ map group_value found) ≡ width + 2)
-      (λ found e. omega (arith, length-append row (int (pos place) ∷ map group_value found), length-map found group_value, e, is)) (found_in lists doc (dict column d) row) (found-wide lists doc (dict column d) row)))
+  marked_wide : (column : ℕ) (dicts : List ℕ) (width : ℕ) (row : List Datum) → length row ≡ width → (number : ℕ) → AreWide (width + 2) (marked_at lists doc column dicts row number)
+  marked_wide column dicts width row is number =
+      All-of_some (λ r. length r ≡ width + 2) (λ d. map (λ found. row ++ int (pos number) ∷ map group_value found) (found_in lists doc (dict column d) row)) _
+      (λ d. All-map (λ r. length r ≡ width + 2) (λ found. row ++ int (pos number) ∷ map group_value found) (found_in lists doc (dict column d) row)
+      (All-weaker (λ found. length found ≡ 1) (λ found. length (row ++ int (pos number) ∷ map group_value found) ≡ width + 2)
+      (λ found e. omega (arith, length-append row (int (pos number) ∷ map group_value found), length-map found group_value, e, is)) (found_in lists doc (dict column d) row) (found-wide lists doc (dict column d) row)))
 
   marked_in_wide : (column : ℕ) (dicts : List ℕ) (width : ℕ) (row : List Datum) → length row ≡ width → AreWide (width + 2) (marked_in lists doc column dicts row)
   marked_in_wide column dicts width row is =
-      All-flat_map (λ place. Unit {0}) (λ r. length r ≡ width + 2) (marked_at lists doc column dicts row) (λ place h. marked_wide column dicts width row is place) (range_with_len 0 (length dicts)) (λ k d below. tt)
+      All-flat_map (λ number. Unit {0}) (λ r. length r ≡ width + 2) (marked_at lists doc column dicts row) (λ number h. marked_wide column dicts width row is number) (range_with_len 0 (length dicts)) (λ k d below. tt)
 
   sought_wide : (local_part : Local) (rows : Rows) → AreWide 1 rows → AreWide 2 (with_found lists doc (sought_by local_part) rows)
   sought_wide (sought.TokenRegex low high pattern) rows all = with_found-wide (sought_by (sought.TokenRegex low high pattern)) 1 rows all
@@ -87,10 +87,10 @@ module _ (lists : Lists) (doc : Document) where
   op-wide (TokenRegex input column low high pattern groups) s t left right made h k = with_found-wide (token_regex column low high pattern groups) s.width left h
   op-wide (Dict input column dicts) s t left right made h k =
       All-flat_map (λ row. length row ≡ s.width) (λ row. length row ≡ s.width + 2) (marked_in lists doc column dicts) (marked_in_wide column dicts s.width) left h
-  op-wide (DictPart input place) s t left right made h k =
+  op-wide (DictPart input number) s t left right made h k =
       All-map (λ row. length row ≡ s.width - 1) unmarked _
       (All-weaker (λ row. length row ≡ s.width) (λ row. length (unmarked row) ≡ s.width - 1) (λ row is. unmarked_wide row s.width is made.room) _
-      (All-filter (is_marked place) (λ row. length row ≡ s.width) left h))
+      (All-filter (is_marked number) (λ row. length row ≡ s.width) left h))
   op-wide (Blocks input column low high from to tokens) s t left right made h k =
       All-map (λ row. length row ≡ 1) (λ (e : Extent). span e ∷ []) (blocks_of (is_neighbour doc tokens from to) low high (filter_map (span_in column) left)) (λ i d below. refl)
   op-wide (Select input conds) s t left right made h k = All-filter (holding lists doc conds) (λ row. length row ≡ s.width) left h

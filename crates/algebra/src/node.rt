@@ -35,14 +35,15 @@ pub enum Node {
         pattern: u32,
         groups: OwnedList<u32>,
     },
-    /// The input row, followed by the place in `dicts` of a dictionary and by a span, for each match of
+    /// The input row, followed by the number in `dicts` of a dictionary and by a span, for each match of
     /// each of the dictionaries in the column.
     Dict {
         input: u32,
         column: u32,
         dicts: OwnedList<u32>,
     },
-    /// The rows of a `Dict` node that have a place, without it.
+    /// The rows of a `Dict` node that have a number, without it: `place` is the number of a dictionary
+    /// among those of that node, from 0.
     DictPart {
         input: u32,
         place: u32,

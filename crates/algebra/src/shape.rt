@@ -11,7 +11,7 @@ use span_token::OutOfMemory;
 pub enum Form {
     /// The one row of the document.
     Document,
-    /// Matches of so many dictionaries, with the place of the dictionary in the last column but one.
+    /// Matches of so many dictionaries, with the number of the dictionary in the last column but one.
     Marked(u32),
     /// Any other rows.
     Plain,
@@ -88,7 +88,7 @@ fn wider(width: u32, more: usize) -> Result<Shape, OutOfMemory>
     }
 }
 
-/// Rows of so many columns, followed by the place of one of so many dictionaries and a span.
+/// Rows of so many columns, followed by the number of one of so many dictionaries and a span.
 fn marked(width: u32, dicts: usize) -> Result<Shape, OutOfMemory>
     ensures { IfOk result (λ shape. shape ≡ record { width = width + 2; form = Form.Marked dicts }) }
 {

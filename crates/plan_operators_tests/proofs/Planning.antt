@@ -12,7 +12,7 @@ use Rattle.algebra.specs.Folds.{of_input}
 use Rattle.algebra.specs.Inputs.{left_input, right_input, IsAmong}
 use Rattle.algebra.specs.Nodes.{IsNode}
 use Rattle.algebra.specs.Plans.{IsOutput, AreOutputs}
-use Rattle.algebra.specs.Shapes.{document_shape, shape_by, shapes_of, no_shape, HasPlace, HasPlaceForm, IsMade, IsOpen}
+use Rattle.algebra.specs.Shapes.{document_shape, shape_by, shapes_of, no_shape, HasDictNumber, HasDictNumberForm, IsMade, IsOpen}
 
 -- a node is among the shapes of all nodes
 pub among_shapes : (nodes : List Node) (n : ℕ) → n < length nodes → n < length (shapes_of nodes)
@@ -50,5 +50,5 @@ pub document_is : (shape : Shape) → shape.form ≡ Document → shape.width �
 document_is shape form wide = ap₂ (λ (w : ℕ) (f : Form). let made : Shape = record { width = w; form = f } in made) wide form
 
 -- one of the places of a shape
-pub place_is : (shape : Shape) (places place : ℕ) → shape.form ≡ Marked places → place < places → 2 ≤ shape.width → HasPlace shape place
-place_is shape places place form below room = record { listed = subst (λ (f : Form). HasPlaceForm f place) (sym form) below; room = room }
+pub place_is : (shape : Shape) (places place : ℕ) → shape.form ≡ Marked places → place < places → 2 ≤ shape.width → HasDictNumber shape place
+place_is shape places place form below room = record { listed = subst (λ (f : Form). HasDictNumberForm f place) (sym form) below; room = room }

@@ -7,7 +7,7 @@ ghost use Rattle.scalar_ops.specs.Views.{term_of};
 ghost use Rattle.algebra.specs.Folds.{of_input};
 ghost use Rattle.algebra.specs.Inputs.{IsAmong};
 ghost use Rattle.algebra.specs.Plans.{IsOutput};
-ghost use Rattle.algebra.specs.Shapes.{document_shape, no_shape, shapes_of, HasPlace, IsMade, IsOpen, IsSought};
+ghost use Rattle.algebra.specs.Shapes.{document_shape, no_shape, shapes_of, HasDictNumber, IsMade, IsOpen, IsSought};
 
 use algebra::{Form, Local, Node, Nodes, Plan, PlanOut, Shape};
 use row_values::{Output, has_distinct_names};
@@ -99,7 +99,7 @@ fn is_document(shape: Shape) -> bool
 
 #[tactic(auto, using(crate::proofs::Planning::place_is))]
 fn has_place(shape: Shape, place: u32) -> bool
-    ensures { IsTrue result → HasPlace shape place }
+    ensures { IsTrue result → HasDictNumber shape place }
 {
     match shape.form {
         Form::Marked(places) => place < places && 2 <= shape.width,

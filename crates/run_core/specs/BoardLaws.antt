@@ -7,7 +7,7 @@ use Rattle.span_token.specs.Documents.{Doc as Document}
 use Rattle.row_values.specs.Rows.{RowList}
 use Rattle.aql_typed.specs.Meaning.{Rows}
 use Rattle.algebra.specs.declared.output.PlanOut.{PlanOut}
-use Rattle.algebra.specs.Items.{Place, output_nodes, item_at}
+use Rattle.algebra.specs.Items.{IsItem, output_nodes, item_at}
 use Rattle.algebra.specs.Needed.{IsNeeded}
 use Rattle.algebra.specs.Plans.{Parts}
 use Rattle.algebra.specs.Values.{val}
@@ -42,7 +42,7 @@ module _ (board : State) (sound : IsSound board) where
   needed-published d doc doc_is done n needed = all-published board.plan doc sound.planned (published_on board d) (agrees-on d doc doc_is) done n needed
 
   -- a wanted, ready and unpublished item may be published with its value
-  pub may-publish : (item : ℕ) (place : Place board.plan board.docs item) → IsWanted board.plan (published_on board place.d) place.n
+  pub may-publish : (item : ℕ) (place : IsItem board.plan board.docs item) → IsWanted board.plan (published_on board place.d) place.n
       → IsReady board.plan (published_on board place.d) place.node → (standing board item).rows ≡ None
       → (list : RowList) → IsValueAt board.plan board.docs item list → MayPublish board item list
   may-publish item place wanted ready none list value = publish-holding board item place sound.planned sound.holds wanted ready none list value
@@ -61,7 +61,7 @@ module _ (board : State) (sound : IsSound board) where
       publish-holding next item place sound.planned (holds-after board sound.planned sound.holds (Claim worker item) None may) wanted ready (same item ∙ none) list value
 
   -- the wanted, unpublished item of the lowest number on its document may be claimed where nobody did
-  pub lowest-claim : (item : ℕ) (place : Place board.plan board.docs item) → IsWanted board.plan (published_on board place.d) place.n
+  pub lowest-claim : (item : ℕ) (place : IsItem board.plan board.docs item) → IsWanted board.plan (published_on board place.d) place.n
       → ((m : ℕ) → m < place.n → IsWanted board.plan (published_on board place.d) m → IsSome (published_on board place.d m))
       → (standing board item).claim ≡ None → MayClaim board item
   lowest-claim item place wanted lower none = record {
@@ -72,7 +72,7 @@ module _ (board : State) (sound : IsSound board) where
   }
 
   -- and published with its value
-  pub lowest-publish : (item : ℕ) (place : Place board.plan board.docs item) → IsWanted board.plan (published_on board place.d) place.n
+  pub lowest-publish : (item : ℕ) (place : IsItem board.plan board.docs item) → IsWanted board.plan (published_on board place.d) place.n
       → ((m : ℕ) → m < place.n → IsWanted board.plan (published_on board place.d) m → IsSome (published_on board place.d m))
       → (standing board item).rows ≡ None → (list : RowList) → IsValueAt board.plan board.docs item list → MayPublish board item list
   lowest-publish item place wanted lower none list value =

@@ -3,7 +3,7 @@ use Rattle.std.specs.Prelude.{ℕ, ◌≡◌, List, Option, Some, None, IsSome, 
 use Rattle.aql_base.specs.Bags.{SameBag}
 use Rattle.row_values.specs.Rows.{RowList}
 use Rattle.algebra.specs.Inputs.{left_input, right_input}
-use Rattle.algebra.specs.Items.{Place}
+use Rattle.algebra.specs.Items.{IsItem}
 use Rattle.algebra.specs.Operators.{op}
 use Rattle.run_core.specs.declared.event.Event.{Event}
 use Rattle.run_core.specs.declared.event.Event.TheVariants.{Claim, Publish, Late}
@@ -12,7 +12,7 @@ use Rattle.run_core.specs.Wanted.{given, IsWanted, IsReady}
 
 -- an item may be claimed where it is wanted, ready and unclaimed
 pub record MayClaim (board : State) (i : ℕ) : Type 0 where
-  pub place : Place board.plan board.docs i
+  pub place : IsItem board.plan board.docs i
   pub wanted : IsWanted board.plan (published_on board place.d) place.n
   pub ready : IsReady board.plan (published_on board place.d) place.node
   pub unclaimed : (standing board i).claim ≡ None
@@ -20,7 +20,7 @@ pub record MayClaim (board : State) (i : ℕ) : Type 0 where
 -- and published where it is wanted, ready and unpublished, with rows that are as a bag what its node gives of the published
 -- inputs; a worker may help, so no claim is asked for
 pub record MayPublish (board : State) (i : ℕ) (list : RowList) : Type 0 where
-  pub place : Place board.plan board.docs i
+  pub place : IsItem board.plan board.docs i
   pub wanted : IsWanted board.plan (published_on board place.d) place.n
   pub ready : IsReady board.plan (published_on board place.d) place.node
   pub unpublished : (standing board i).rows ≡ None

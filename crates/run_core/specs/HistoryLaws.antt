@@ -12,7 +12,7 @@ use Rattle.row_values.specs.Rows.{RowList}
 use Rattle.aql_typed.specs.Meaning.{Rows}
 use Rattle.algebra.specs.declared.output.PlanOut.{PlanOut}
 use Rattle.algebra.specs.FoldLaws.{length-each}
-use Rattle.algebra.specs.Items.{Place, item_at}
+use Rattle.algebra.specs.Items.{IsItem, item_at}
 use Rattle.algebra.specs.Nodes.{IsPlan}
 use Rattle.algebra.specs.Plans.{Parts, AreOutputs}
 use Rattle.algebra.specs.Shapes.{shape_by, no_shape}
@@ -202,7 +202,7 @@ has-once board events by =
     }
 
 -- a wanted, ready and unpublished item may be published with its value
-pub publish-holding : (board : State) (item : ℕ) (place : Place board.plan board.docs item) → IsPlan board.plan.nodes → HoldsValues board
+pub publish-holding : (board : State) (item : ℕ) (place : IsItem board.plan board.docs item) → IsPlan board.plan.nodes → HoldsValues board
     → IsWanted board.plan (published_on board place.d) place.n → IsReady board.plan (published_on board place.d) place.node → (standing board item).rows ≡ None
     → (list : RowList) → IsValueAt board.plan board.docs item list → MayPublish board item list
 publish-holding board item place planned holds wanted ready none list value = record {
@@ -215,10 +215,10 @@ publish-holding board item place planned holds wanted ready none list value = re
 }
 
 -- so may the ready item of a document
-goes_by : (board : State) (i : ℕ) (place : Place board.plan board.docs i) → IsPlan board.plan.nodes → HoldsValues board → Ready board.plan (published_on board place.d) → MayGoOn board
+goes_by : (board : State) (i : ℕ) (place : IsItem board.plan board.docs i) → IsPlan board.plan.nodes → HoldsValues board → Ready board.plan (published_on board place.d) → MayGoOn board
 goes_by board i place planned holds ready =
     let item = item_at board.plan place.d ready.n in
-    let here : Place board.plan board.docs item = record {
+    let here : IsItem board.plan board.docs item = record {
       d = place.d;
       n = ready.n;
       doc = place.doc;

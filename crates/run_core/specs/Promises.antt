@@ -5,7 +5,7 @@ use Rattle.aql_base.specs.Bags.{SameBag}
 use Rattle.span_token.specs.Documents.{Doc}
 use Rattle.row_values.specs.Rows.{RowList}
 use Rattle.aql_typed.specs.Meaning.{Rows}
-use Rattle.algebra.specs.Items.{Place, IsNeededOn}
+use Rattle.algebra.specs.Items.{IsItem, IsNeededOn}
 use Rattle.algebra.specs.Nodes.{IsPlan}
 use Rattle.algebra.specs.Plans.{Parts, AreOutputs}
 use Rattle.algebra.specs.Values.{val}
@@ -15,18 +15,18 @@ use Rattle.run_core.specs.Histories.{Happening, AreLegal, after_all, IsReachedBy
 
 -- item i is one, and needed
 pub record IsNeededAt (plan : Parts) (docs : List Doc) (i : ℕ) : Type 0 where
-  pub place : Place plan docs i
+  pub place : IsItem plan docs i
   pub needed : IsNeededOn plan docs i place
 
 -- item i is one, and these rows are its value, as a bag
 pub record IsValueAt (plan : Parts) (docs : List Doc) (i : ℕ) (list : RowList) : Type 0 where
-  pub place : Place plan docs i
+  pub place : IsItem plan docs i
   pub same : SameBag list.rows (val plan.lists place.doc plan.nodes place.n)
 
 -- some item may be published: with any rows that are its value
 pub record MayGoOn (board : State) : Type 0 where
   pub item : ℕ
-  pub place : Place board.plan board.docs item
+  pub place : IsItem board.plan board.docs item
   pub legal : (list : RowList) → IsValueAt board.plan board.docs item list → MayPublish board item list
 
 -- on document d each output is published

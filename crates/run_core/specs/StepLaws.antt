@@ -9,8 +9,8 @@ use Rattle.aql_base.specs.Bags.{SameBag}
 use Rattle.aql_base.specs.BagLaws.{SameBag-trans}
 use Rattle.span_token.specs.Documents.{Doc as Document}
 use Rattle.row_values.specs.Rows.{RowList}
-use Rattle.algebra.specs.ItemLaws.{place_of, place-below, at-each}
-use Rattle.algebra.specs.Items.{Place, item_count, item_at}
+use Rattle.algebra.specs.ItemLaws.{is_item_at, item-below, at-each}
+use Rattle.algebra.specs.Items.{IsItem, item_count, item_at}
 use Rattle.algebra.specs.Nodes.{IsPlan}
 use Rattle.algebra.specs.Plans.{Parts}
 use Rattle.algebra.specs.Values.{val}
@@ -86,10 +86,10 @@ claimed-after board event rows i other = ap (λ (s : Standing). s.claim) (standi
 
 -- the item of a legal event is one of the items
 pub claimed-below : (board : State) (item : ℕ) → IsSized board → MayClaim board item → item < length board.items
-claimed-below board item sized may = omega (arith, sized, place-below board.plan board.docs item may.place)
+claimed-below board item sized may = omega (arith, sized, item-below board.plan board.docs item may.place)
 
 pub published-below : (board : State) (item : ℕ) (list : RowList) → IsSized board → MayPublish board item list → item < length board.items
-published-below board item list sized may = omega (arith, sized, place-below board.plan board.docs item may.place)
+published-below board item list sized may = omega (arith, sized, item-below board.plan board.docs item may.place)
 
 pub there-below : (board : State) (item : ℕ) → IsSome (standing board item).rows → item < length board.items
 there-below board item there = elim (cases_lt item (length board.items)) [
@@ -134,7 +134,7 @@ holds-fresh plan docs = record {
 }
 
 -- the value of an item, at its place
-pub value-at : (plan : Parts) (docs : List Document) (i : ℕ) (list : RowList) → IsValueAt plan docs i list → (place : Place plan docs i)
+pub value-at : (plan : Parts) (docs : List Document) (i : ℕ) (list : RowList) → IsValueAt plan docs i list → (place : IsItem plan docs i)
     → SameBag list.rows (val plan.lists place.doc plan.nodes place.n)
 value-at plan docs i list value place = at-each plan docs (λ doc n. SameBag list.rows (val plan.lists doc plan.nodes n)) i i refl value.place place value.same
 
@@ -142,12 +142,12 @@ value-at plan docs i list value place = at-each plan docs (λ doc n. SameBag lis
 pub agrees-holding : (board : State) → HoldsValues board → (d : ℕ) (doc : Document) → slice_get board.docs d ≡ Some doc → Agrees board.plan doc (published_on board d)
 agrees-holding board holds d doc doc_is = record {
   same = λ n list below is.
-      value-at board.plan board.docs (item_at board.plan d n) list (holds.values (item_at board.plan d n) list is) (place_of board.plan board.docs d n doc doc_is below);
+      value-at board.plan board.docs (item_at board.plan d n) list (holds.values (item_at board.plan d n) list is) (is_item_at board.plan board.docs d n doc doc_is below);
 }
 
 module _ (board : State) (planned : IsPlan board.plan.nodes) (holds : HoldsValues board) where
   -- a wanted item is needed
-  needed_at : (item : ℕ) (place : Place board.plan board.docs item) → IsWanted board.plan (published_on board place.d) place.n → IsNeededAt board.plan board.docs item
+  needed_at : (item : ℕ) (place : IsItem board.plan board.docs item) → IsWanted board.plan (published_on board place.d) place.n → IsNeededAt board.plan board.docs item
   needed_at item place wanted = record {
     place = place;
     needed = wanted-needed board.plan place.doc planned (published_on board place.d) (agrees-holding board holds place.d place.doc place.doc_is) place.n wanted;

@@ -15,8 +15,8 @@ use Rattle.algebra.specs.Folds.{of_input}
 use Rattle.algebra.specs.Growth.{IsAt}
 use Rattle.algebra.specs.GrowthLaws.{is-at}
 use Rattle.algebra.specs.Inputs.{left_input, right_input, is_conditional, IsAmong}
-use Rattle.algebra.specs.Items.{Place, item_at, HasInput}
-use Rattle.algebra.specs.ItemLaws.{place_of, place-d, place-n, at-each, has-given}
+use Rattle.algebra.specs.Items.{IsItem, item_at, HasInput}
+use Rattle.algebra.specs.ItemLaws.{is_item_at, item-d, item-n, at-each, has-given}
 use Rattle.algebra.specs.NodeLaws.{among-more}
 use Rattle.algebra.specs.Nodes.{IsPlan}
 use Rattle.algebra.specs.Operators.{op}
@@ -40,15 +40,15 @@ record IsKnownRight (plan : Parts) (doc : Doc) (node : Node) (left right : RowLi
   lies : RowsLieIn doc right.rows
   same : (is_conditional node ≡ true → left.rows ≢ []) → SameBag right.rows (of_input [] (all_values plan.lists doc plan.nodes) (right_input node))
 
-module _ (plan : Parts) (docs : List Doc) (i : ℕ) (place : Place plan docs i) where
+module _ (plan : Parts) (docs : List Doc) (i : ℕ) (place : IsItem plan docs i) where
   -- the node and the document of an item's place, as they are looked up
   pub node-placed : (node : Node) → node ≡ slice_index_or plan.nodes (i % length plan.nodes) node → node ≡ place.node
   node-placed node is =
-      is ∙ (ap (λ (n : ℕ). get_or plan.nodes n node) (sym (place-n plan docs i place)) ∙ get_or_from_slice_get plan.nodes place.n place.node node place.node_is)
+      is ∙ (ap (λ (n : ℕ). get_or plan.nodes n node) (sym (item-n plan docs i place)) ∙ get_or_from_slice_get plan.nodes place.n place.node node place.node_is)
 
   pub doc-placed : (doc : Doc) → doc ≡ slice_index_or docs (i / length plan.nodes) doc → doc ≡ place.doc
   doc-placed doc is =
-      is ∙ (ap (λ (d : ℕ). get_or docs d doc) (sym (place-d plan docs i place)) ∙ get_or_from_slice_get docs place.d place.doc doc place.doc_is)
+      is ∙ (ap (λ (d : ℕ). get_or docs d doc) (sym (item-d plan docs i place)) ∙ get_or_from_slice_get docs place.d place.doc doc place.doc_is)
 
   module _ (planned : IsPlan plan.nodes) where
     at : IsAt plan.nodes place.n place.node
@@ -65,7 +65,7 @@ module _ (plan : Parts) (docs : List Doc) (i : ℕ) (place : Place plan docs i) 
         → HasInput plan.lists place.doc plan.nodes (Some input) found.rows
     result_has input below found is result =
         at-each plan docs (λ (doc : Doc) (n : ℕ). HasInput plan.lists doc plan.nodes (Some n) found.rows) found.item (item_at plan place.d input) is result.place
-        (place_of plan docs place.d input place.doc place.doc_is below) result.has
+        (is_item_at plan docs place.d input place.doc place.doc_is below) result.has
 
     abbrev IsKnown : Option ItemRows → Type 0
     IsKnown found = IfSome found (λ (result : ItemRows). IsResult plan docs result.item result.rows)
@@ -155,7 +155,7 @@ given-for plan docs i left right may planned left_known right_known doc node l r
 
 -- the same, of what is known where the item is computed
 pub given-by : (plan plan' : Parts) (docs : List Doc) (i : ℕ) (left right : Option ItemRows) (may : MayCompute plan docs i left right) (doc : Doc) (node : Node) (l r : RowList) (nodes nodes' : List Node) (input input' : Option ℕ)
-    → IsAt plan.nodes (i % length plan.nodes) node → ((place : Place plan docs i) → node ≡ place.node) → ((place : Place plan docs i) → doc ≡ place.doc)
+    → IsAt plan.nodes (i % length plan.nodes) node → ((place : IsItem plan docs i) → node ≡ place.node) → ((place : IsItem plan docs i) → doc ≡ place.doc)
     → IfSome left (λ (result : ItemRows). IsResult plan docs result.item result.rows) → IfSome right (λ (result : ItemRows). IsResult plan docs result.item result.rows)
     → plan' ≡ plan → nodes ≡ plan'.nodes → nodes' ≡ plan'.nodes → input ≡ left_input node → input' ≡ right_input node → l ≡ rows_given nodes input left → r ≡ rows_given nodes' input' right
     → IsGivenFor plan docs i doc node l r

@@ -4,7 +4,7 @@ use Rattle.span_token.specs.Documents.{Doc}
 use Rattle.row_values.specs.Rows.{RowList}
 use Rattle.algebra.specs.declared.node.Node.{Node}
 use Rattle.algebra.specs.Inputs.{left_input, right_input, is_conditional}
-use Rattle.algebra.specs.Items.{Place, IsNeededOn, HasInput, item_at}
+use Rattle.algebra.specs.Items.{IsItem, IsNeededOn, HasInput, item_at}
 use Rattle.algebra.specs.Plans.{Parts}
 
 -- a plan without a node
@@ -19,7 +19,7 @@ pub record ItemRows : Type 0 where
 -- the rows are what item i is worth, as a bag, with the columns of its node, and their spans lie in its document; and the
 -- item is needed
 pub record IsResult (plan : Parts) (docs : List Doc) (i : ℕ) (list : RowList) : Type 0 where
-  pub place : Place plan docs i
+  pub place : IsItem plan docs i
   pub needed : IsNeededOn plan docs i place
   pub has : HasInput plan.lists place.doc plan.nodes (Some place.n) list
 
@@ -35,7 +35,7 @@ pub record GoesWithout (node : Node) (left right : Option ItemRows) : Type 0 whe
 
 -- item i is needed, and the results are those of its node's inputs on the same document
 pub record MayCompute (plan : Parts) (docs : List Doc) (i : ℕ) (left right : Option ItemRows) : Type 0 where
-  pub place : Place plan docs i
+  pub place : IsItem plan docs i
   pub needed : IsNeededOn plan docs i place
   pub of_left : IsOfInput plan place.d (left_input place.node) left
   pub of_right : IsOfInput plan place.d (right_input place.node) right ⊎ GoesWithout place.node left right

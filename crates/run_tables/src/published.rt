@@ -3,7 +3,7 @@ ghost use Rattle.std.specs.Arc.{arc_value};
 ghost use Rattle.algebra.specs.Folds.{of_input};
 ghost use Rattle.algebra.specs.Growth.{IsAt};
 ghost use Rattle.algebra.specs.Inputs.{IsAmong};
-ghost use Rattle.algebra.specs.Items.{Place, item_count};
+ghost use Rattle.algebra.specs.Items.{IsItem, item_count};
 ghost use Rattle.algebra.specs.Shapes.{no_shape, shapes_of};
 ghost use Rattle.plan_operators.specs.Given.{input_rows};
 ghost use Rattle.run_tables.specs.Inputs.{rows_given};
@@ -139,9 +139,9 @@ fn placed<'r, 'd, W: Work>(
 ) -> (&'d Node, &'r Document<'d>)
     requires work { (plan.now ≡ W.plan) × (docs.now ≡ W.docs) }
     requires there { item < item_count W.plan W.docs }
-    ensures node { (place : Place W.plan W.docs item) → result.0.now ≡ place.node }
+    ensures node { (place : IsItem W.plan W.docs item) → result.0.now ≡ place.node }
     ensures at { IsAt W.plan.nodes (item % length W.plan.nodes) result.0.now }
-    ensures doc { (place : Place W.plan W.docs item) → result.1.now ≡ place.doc }
+    ensures doc { (place : IsItem W.plan W.docs item) → result.1.now ≡ place.doc }
 {
     let nodes = plan.nodes();
     let node = nodes.get(item % nodes.len());

@@ -10,7 +10,7 @@ use Rattle.aql_typed.specs.Meaning.{Rows}
 use Rattle.row_values.specs.Rows.{RowList}
 use Rattle.algebra.specs.declared.node.Node.{Node}
 use Rattle.algebra.specs.declared.node.Node.TheVariants.{Doc, Regex, Project, Cross}
-use Rattle.algebra.specs.Items.{Place, HasInput, item_at, output_nodes}
+use Rattle.algebra.specs.Items.{IsItem, HasInput, item_at, output_nodes}
 use Rattle.algebra.specs.ItemLaws.{at-each}
 use Rattle.algebra.specs.Needed.{IsNeeded}
 use Rattle.algebra.specs.Needed as needs
@@ -33,7 +33,7 @@ module _ (plan : Parts) (docs : List Document) (d first : ℕ) (doc : Document) 
   node_at n node at = ap (λ (nodes : List Node). slice_get nodes n) is.nodes ∙ at
 
   -- item n of the document
-  abbrev place : (i n : ℕ) (node : Node) → i ≡ first + n → slice_get joined_nodes n ≡ Some node → Place plan docs i
+  abbrev place : (i n : ℕ) (node : Node) → i ≡ first + n → slice_get joined_nodes n ≡ Some node → IsItem plan docs i
   place i n node e at = record { d = d; n = n; doc = doc; node = node; is = omega (arith, e, begin); doc_is = there; node_is = node_at n node at }
 
   of_input : (i n : ℕ) → i ≡ first + n → Some i ≡ Some (item_at plan d n)

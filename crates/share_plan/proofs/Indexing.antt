@@ -13,7 +13,7 @@ use Rattle.algebra.specs.Growth.{Stands}
 use Rattle.algebra.specs.GrowthLaws.{is-at}
 use Rattle.algebra.specs.Nodes.{IsNode, IsPlan}
 use Rattle.algebra.specs.NodeLaws.{plan-push, split_at}
-use Rattle.algebra.specs.Shapes.{shapes_of, HasPlaceForm}
+use Rattle.algebra.specs.Shapes.{shapes_of, HasDictNumberForm}
 use Rattle.share_plan.specs.declared.kind.Kind.{Kind}
 use Rattle.share_plan.specs.declared.kind.Kind.TheVariants.{Source, Part, Plain}
 use Rattle.share_plan.specs.Indexes.{dict_at, found_as, found_by, keys_of, Key, IsInserted, IsIndex}
@@ -118,7 +118,7 @@ module _ (nodes : List Node) (x : Node) where
 pub place_listed : (nodes : List Node) (m n i c place : ℕ) (dicts : List ℕ) → IsPlan nodes → slice_get nodes m ≡ Some (Dict i c dicts) → slice_get nodes n ≡ Some (DictPart m place) → place < length dicts
 place_listed nodes m n i c place dicts plan is at =
     let valid : IsNode (shapes_of nodes) (DictPart m place) = (is-at nodes n (DictPart m place) plan (slice_get_within nodes n (DictPart m place) at) (is_node nodes n (DictPart m place) at)).valid in
-    subst (λ (s : Shape). HasPlaceForm s.form place) (dict_shape nodes plan m i c dicts is) valid.made.listed
+    subst (λ (s : Shape). HasDictNumberForm s.form place) (dict_shape nodes plan m i c dicts is) valid.made.listed
 
 module _ (nodes : List Node) (keys later : List Key) (key : Key) (n : ℕ) (is_new : Bool) (index : IsIndex nodes keys) (put : IsInserted keys later key n is_new) (old : is_new ≡ false) where
   abbrev x : Node

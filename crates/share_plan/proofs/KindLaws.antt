@@ -6,7 +6,7 @@ use Rattle.algebra.specs.declared.shape.Shape.{Shape}
 use Rattle.algebra.specs.Inputs.{with_inputs}
 use Rattle.algebra.specs.Mapping.{KeepsInputs}
 use Rattle.algebra.specs.Nodes.{IsNode}
-use Rattle.algebra.specs.Shapes.{shape_by, no_shape, IsOpen, HasPlaceForm}
+use Rattle.algebra.specs.Shapes.{shape_by, no_shape, IsOpen, HasDictNumberForm}
 use Rattle.share_plan.specs.declared.kind.Kind.{Kind}
 use Rattle.share_plan.specs.declared.kind.Kind.TheVariants.{Source, Part, Plain}
 use Rattle.share_plan.specs.Kinds.{kind_of}
@@ -66,7 +66,7 @@ module _ (s t : Shape) (place : ℕ) where
   abbrev IsListed : Node → Type 0
   IsListed node = (input column : ℕ) × (dicts : List ℕ) × (node ≡ Dict input column dicts) × (place < length dicts)
 
-  pub has_places : (node : Node) → HasPlaceForm (shape_by node s t).form place → IsListed node
+  pub has_places : (node : Node) → HasDictNumberForm (shape_by node s t).form place → IsListed node
   has_places Doc listed = absurd listed
   has_places (Regex i c p groups) listed = absurd listed
   has_places (TokenRegex i c l h p groups) listed = absurd listed

@@ -9,7 +9,7 @@ use Rattle.algebra.specs.FoldLaws.{length-each}
 use Rattle.algebra.specs.Growth.{Grows, Stands}
 use Rattle.algebra.specs.GrowthLaws.{is-at, stands-added}
 use Rattle.algebra.specs.Nodes.{IsNode, IsPlan}
-use Rattle.algebra.specs.Shapes.{shape_by, no_shape, shapes_of, HasPlace}
+use Rattle.algebra.specs.Shapes.{shape_by, no_shape, shapes_of, HasDictNumber}
 use Rattle.share_plan.specs.declared.kind.Kind.{Kind}
 use Rattle.share_plan.specs.declared.kind.Kind.TheVariants.{Source, Plain}
 use Rattle.share_plan.specs.Indexes.{dict_at, found_as, found_by, Key, IsInserted, IsIndex}
@@ -107,7 +107,7 @@ module _ (nodes : List Node) (keys later : List Key) (key : Key) (n m d place : 
   part_fits = record {
     left_below = omega (arith, m_below, length-each no_shape shape_by wider);
     right_below = tt;
-    made = subst (λ (s : Shape). HasPlace s (length dicts)) (sym (dict_shape wider wider_index.plan m i c (dicts ++ d ∷ []) wider_there))
+    made = subst (λ (s : Shape). HasDictNumber s (length dicts)) (sym (dict_shape wider wider_index.plan m i c (dicts ++ d ∷ []) wider_there))
         (record { listed = omega (arith, length-append dicts (d ∷ [])); room = omega arith });
   }
 

@@ -18,7 +18,7 @@ use Rattle.algebra.specs.MappingLaws.{node-renamed, mapped-push, mapped-skip}
 use Rattle.algebra.specs.Nodes.{IsNode, IsPlan}
 use Rattle.algebra.specs.NodeLaws.{plan-at, plan-front, split_at, valid-kept}
 use Rattle.algebra.specs.Operators.{followed, with_found}
-use Rattle.algebra.specs.Shapes.{columns, shape_by, no_shape, shapes_of, IsOpen, HasPlaceForm}
+use Rattle.algebra.specs.Shapes.{columns, shape_by, no_shape, shapes_of, IsOpen, HasDictNumberForm}
 use Rattle.algebra.specs.Values.{val, value_after}
 use Rattle.share_plan.specs.declared.kind.Kind.{Kind}
 use Rattle.share_plan.specs.declared.kind.Kind.TheVariants.{Source, Part, Plain}
@@ -110,7 +110,7 @@ module _ (all yielded nodes sources : List Node) (to : List ℕ) (keys : List Ke
       let x = get_or yielded k Doc in
       let at_x : slice_get yielded k ≡ Some x = slice_get-get_or yielded k Doc below in
       let here = is-at yielded k x plan_so_far below (is_node yielded k x at_x) in
-      let listed : HasPlaceForm (had no_shape shape_by (shapes_of yielded) x).form p = subst (λ (s : Shape). HasPlaceForm s.form p) here.stands.has.shaped part.made.listed in
+      let listed : HasDictNumberForm (had no_shape shape_by (shapes_of yielded) x).form p = subst (λ (s : Shape). HasDictNumberForm s.form p) here.stands.has.shaped part.made.listed in
       let d = has_places (of_input no_shape (shapes_of yielded) (left_input x)) (of_input no_shape (shapes_of yielded) (right_input x)) p x listed in
       record {
         input = d.0;

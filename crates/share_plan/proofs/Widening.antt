@@ -21,7 +21,7 @@ use Rattle.algebra.specs.Mapping.{KeepsInputs}
 use Rattle.algebra.specs.Nodes.{IsNode, ArePlanned, IsPlan}
 use Rattle.algebra.specs.NodeLaws.{plan-at}
 use Rattle.algebra.specs.Operators.{op, with_found}
-use Rattle.algebra.specs.Shapes.{columns, shape_by, no_shape, shapes_of, IsOpen, IsOpenForm, HasPlace, HasPlaceForm, IsMade}
+use Rattle.algebra.specs.Shapes.{columns, shape_by, no_shape, shapes_of, IsOpen, IsOpenForm, HasDictNumber, HasDictNumberForm, IsMade}
 use Rattle.scalar_ops.specs.Extractions.{of_some}
 use Rattle.share_plan.specs.declared.kind.Kind.{Kind}
 use Rattle.share_plan.specs.declared.kind.Kind.TheVariants.{Source, Part, Plain}
@@ -90,8 +90,8 @@ module _ {A : Type 0} (nothing : A) (rule : Node → A → A → A) (m : ℕ) (v
     same_part : (k p : ℕ) → IsNode shapes (DictPart k p) → had nothing rule each (DictPart k p) ≡ had nothing rule all (DictPart k p)
     same_part k p valid = elim (either k m) [
       | inl e ↦
-          let listed : HasPlaceForm (get_or shapes m no_shape).form p = subst (λ (i : ℕ). HasPlaceForm (get_or shapes i no_shape).form p) e valid.made.listed in
-          let below : p < places = subst (λ (form : Form). HasPlaceForm form p) marked listed in
+          let listed : HasDictNumberForm (get_or shapes m no_shape).form p = subst (λ (i : ℕ). HasDictNumberForm (get_or shapes i no_shape).form p) e valid.made.listed in
+          let below : p < places = subst (λ (form : Form). HasDictNumberForm form p) marked listed in
           ap (λ (i : ℕ). rule (DictPart k p) (get_or each i nothing) nothing) e
           ∙ (ap (λ (x : A). rule (DictPart k p) x nothing) alike.second
           ∙ (sym (parts k p nothing below)
@@ -148,16 +148,16 @@ module _ (m : ℕ) (v w : Shape) (places more : ℕ) (most : places ≤ more) (v
           same_input no_shape shape_by m v w places parts_wide all all each alike refl marked_first (right_input node) valid.right_below opens.right,
         ) valid.made
 
-    made_part : (k p : ℕ) → IsNode all (DictPart k p) → HasPlace (get_or each k no_shape) p
+    made_part : (k p : ℕ) → IsNode all (DictPart k p) → HasDictNumber (get_or each k no_shape) p
     made_part k p valid = elim (either k m) [
       | inl e ↦
-          let made : HasPlace (get_or all m no_shape) p = subst (λ (i : ℕ). HasPlace (get_or all i no_shape) p) e valid.made in
-          let first : HasPlace v p = subst (λ (s : Shape). HasPlace s p) alike.first made in
-          let below : p < places = subst (λ (form : Form). HasPlaceForm form p) v_marked first.listed in
-          let listed : HasPlaceForm w.form p = subst (λ (form : Form). HasPlaceForm form p) (sym w_marked) (omega (arith, below, most)) in
-          let here : HasPlace w p = record { listed = listed; room = omega (arith, first.room, wide) } in
-          subst (λ (i : ℕ). HasPlace (get_or each i no_shape) p) (sym e) (subst (λ (s : Shape). HasPlace s p) (sym alike.second) here)
-      | inr apart ↦ subst (λ (s : Shape). HasPlace s p) (sym (alike.others k valid.left_below apart)) valid.made
+          let made : HasDictNumber (get_or all m no_shape) p = subst (λ (i : ℕ). HasDictNumber (get_or all i no_shape) p) e valid.made in
+          let first : HasDictNumber v p = subst (λ (s : Shape). HasDictNumber s p) alike.first made in
+          let below : p < places = subst (λ (form : Form). HasDictNumberForm form p) v_marked first.listed in
+          let listed : HasDictNumberForm w.form p = subst (λ (form : Form). HasDictNumberForm form p) (sym w_marked) (omega (arith, below, most)) in
+          let here : HasDictNumber w p = record { listed = listed; room = omega (arith, first.room, wide) } in
+          subst (λ (i : ℕ). HasDictNumber (get_or each i no_shape) p) (sym e) (subst (λ (s : Shape). HasDictNumber s p) (sym alike.second) here)
+      | inr apart ↦ subst (λ (s : Shape). HasDictNumber s p) (sym (alike.others k valid.left_below apart)) valid.made
     ]
 
     valid_each : (node : Node) → IsNode all node → IsNode each node

@@ -9,7 +9,7 @@ use Rattle.span_token.specs.Documents.{Doc as Document}
 use Rattle.row_values.specs.Rows.{RowList}
 use Rattle.algebra.specs.declared.node.Node.{Node}
 use Rattle.algebra.specs.declared.output.PlanOut.{PlanOut}
-use Rattle.algebra.specs.ItemLaws.{place_of}
+use Rattle.algebra.specs.ItemLaws.{is_item_at}
 use Rattle.algebra.specs.Items.{item_at, item_count, output_nodes}
 use Rattle.algebra.specs.Nodes.{IsPlan}
 use Rattle.algebra.specs.Plans.{Parts}
@@ -107,7 +107,7 @@ module _ (board : State) (d : ℕ) where
       may_claim : MayClaim board (item_at board.plan d n)
       may_claim =
           let doc = document_at board.docs d filling.page.there in
-          let place = place_of board.plan board.docs d n doc.0 doc.1 next.there in
+          let place = is_item_at board.plan board.docs d n doc.0 doc.1 next.there in
           record {
             place = place;
             wanted = wanted-grows board.plan (rows_on known) (published_on board d) more_shown n next.wanted;
@@ -120,7 +120,7 @@ module _ (board : State) (d : ℕ) where
         value =
             let doc = document_at board.docs d filling.page.there in
             record {
-              place = place_of board.plan board.docs d n doc.0 doc.1 next.there;
+              place = is_item_at board.plan board.docs d n doc.0 doc.1 next.there;
               same = (result-has board.plan board.docs d doc.0 doc.1 n found next.there result).same;
             }
 

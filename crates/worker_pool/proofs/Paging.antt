@@ -14,7 +14,7 @@ use Rattle.aql_typed.specs.Meaning.{Rows}
 use Rattle.algebra.specs.declared.node.Node.{Node}
 use Rattle.algebra.specs.declared.output.PlanOut.{PlanOut}
 use Rattle.algebra.specs.Inputs.{left_input, right_input, is_conditional}
-use Rattle.algebra.specs.ItemLaws.{place_of, at-each}
+use Rattle.algebra.specs.ItemLaws.{is_item_at, at-each}
 use Rattle.algebra.specs.Items.{HasInput, item_at, output_nodes}
 use Rattle.algebra.specs.Needed.{IsNeeded}
 use Rattle.algebra.specs.Nodes.{IsPlan}
@@ -140,7 +140,7 @@ module _ (plan : Parts) (docs : List Document) (d : ℕ) where
   -- the result of a node has what the node is worth
   pub result-has : (doc : Document) → slice_get docs d ≡ Some doc → (n : ℕ) (found : ItemRows) → n < length plan.nodes → IsResultOf plan docs d n found → HasInput plan.lists doc plan.nodes (Some n) found.rows
   result-has doc doc_is n found below of_node =
-      at-each plan docs (λ other k. HasInput plan.lists other plan.nodes (Some k) found.rows) found.item (item_at plan d n) of_node.item of_node.result.place (place_of plan docs d n doc doc_is below) of_node.result.has
+      at-each plan docs (λ other k. HasInput plan.lists other plan.nodes (Some k) found.rows) found.item (item_at plan d n) of_node.item of_node.result.place (is_item_at plan docs d n doc doc_is below) of_node.result.has
 
   module _ (doc : Document) (doc_is : slice_get docs d ≡ Some doc) (known : List (Option ItemRows)) (page : IsPage plan docs d known) where
     -- so what is known are values

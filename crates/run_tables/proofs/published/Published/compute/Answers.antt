@@ -1,12 +1,12 @@
 use Rattle.std.proofs.Common.{sym, subst}
 use Rattle.std.proofs.lemmas.Result.{IfOk-weaker}
-use Rattle.algebra.specs.ItemLaws.{place-below}
+use Rattle.algebra.specs.ItemLaws.{item-below}
 use Rattle.run_tables.specs.Items.{ItemRows, IsResult}
 use Rattle.run_tables.proofs.Computing.{given-by}
 use Rattle.run_tables.proofs.published.Published.compute.Goals as goal
 
 pub placed-requires-clause-there : goal.placed-requires-clause-there
-placed-requires-clause-there g c = place-below g.W.Work.plan g.W.Work.docs c.args.item c.requires.inputs.place
+placed-requires-clause-there g c = item-below g.W.Work.plan g.W.Work.docs c.args.item c.requires.inputs.place
 
 pub apply-requires : goal.apply-requires
 apply-requires g c =
