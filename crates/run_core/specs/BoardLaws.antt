@@ -42,41 +42,41 @@ module _ (board : State) (sound : IsSound board) where
   needed-published d doc doc_is done n needed = all-published board.plan doc sound.planned (published_on board d) (agrees-on d doc doc_is) done n needed
 
   -- a wanted, ready and unpublished item may be published with its value
-  pub may-publish : (item : ℕ) (place : IsItem board.plan board.docs item) → IsWanted board.plan (published_on board place.d) place.n
-      → IsReady board.plan (published_on board place.d) place.node → (standing board item).rows ≡ None
+  pub may-publish : (item : ℕ) (of_item : IsItem board.plan board.docs item) → IsWanted board.plan (published_on board of_item.d) of_item.n
+      → IsReady board.plan (published_on board of_item.d) of_item.node → (standing board item).rows ≡ None
       → (list : RowList) → IsValueAt board.plan board.docs item list → MayPublish board item list
-  may-publish item place wanted ready none list value = publish-holding board item place sound.planned sound.holds wanted ready none list value
+  may-publish item of_item wanted ready none list value = publish-holding board item of_item sound.planned sound.holds wanted ready none list value
 
   -- also after it was claimed
   pub publish-claimed : (worker item : ℕ) → MayClaim board item → (standing board item).rows ≡ None
       → (list : RowList) → IsValueAt board.plan board.docs item list → MayPublish (after board (Claim worker item) None) item list
   publish-claimed worker item may none list value =
-      let place = may.place in
+      let of_item = may.of_item in
       let next = after board (Claim worker item) None in
       let same = rows-after_claim board worker item None (claimed-below board item sound.holds.sized may) in
-      let wanted : IsWanted board.plan (published_on next place.d) place.n =
-      wanted-grows board.plan (published_on board place.d) (published_on next place.d) (λ m list is. same (item_at board.plan place.d m) ∙ is) place.n may.wanted in
-      let ready : IsReady board.plan (published_on next place.d) place.node =
-      ready-same board.plan (published_on board place.d) (published_on next place.d) place.node (λ m is. same (item_at board.plan place.d m)) (λ m is. same (item_at board.plan place.d m)) may.ready in
-      publish-holding next item place sound.planned (holds-after board sound.planned sound.holds (Claim worker item) None may) wanted ready (same item ∙ none) list value
+      let wanted : IsWanted board.plan (published_on next of_item.d) of_item.n =
+      wanted-grows board.plan (published_on board of_item.d) (published_on next of_item.d) (λ m list is. same (item_at board.plan of_item.d m) ∙ is) of_item.n may.wanted in
+      let ready : IsReady board.plan (published_on next of_item.d) of_item.node =
+      ready-same board.plan (published_on board of_item.d) (published_on next of_item.d) of_item.node (λ m is. same (item_at board.plan of_item.d m)) (λ m is. same (item_at board.plan of_item.d m)) may.ready in
+      publish-holding next item of_item sound.planned (holds-after board sound.planned sound.holds (Claim worker item) None may) wanted ready (same item ∙ none) list value
 
   -- the wanted, unpublished item of the lowest number on its document may be claimed where nobody did
-  pub lowest-claim : (item : ℕ) (place : IsItem board.plan board.docs item) → IsWanted board.plan (published_on board place.d) place.n
-      → ((m : ℕ) → m < place.n → IsWanted board.plan (published_on board place.d) m → IsSome (published_on board place.d m))
+  pub lowest-claim : (item : ℕ) (of_item : IsItem board.plan board.docs item) → IsWanted board.plan (published_on board of_item.d) of_item.n
+      → ((m : ℕ) → m < of_item.n → IsWanted board.plan (published_on board of_item.d) m → IsSome (published_on board of_item.d m))
       → (standing board item).claim ≡ None → MayClaim board item
-  lowest-claim item place wanted lower none = record {
-    place = place;
+  lowest-claim item of_item wanted lower none = record {
+    of_item = of_item;
     wanted = wanted;
-    ready = lowest-ready board.plan sound.planned (published_on board place.d) place.n place.node place.node_is wanted lower;
+    ready = lowest-ready board.plan sound.planned (published_on board of_item.d) of_item.n of_item.node of_item.node_is wanted lower;
     unclaimed = none;
   }
 
   -- and published with its value
-  pub lowest-publish : (item : ℕ) (place : IsItem board.plan board.docs item) → IsWanted board.plan (published_on board place.d) place.n
-      → ((m : ℕ) → m < place.n → IsWanted board.plan (published_on board place.d) m → IsSome (published_on board place.d m))
+  pub lowest-publish : (item : ℕ) (of_item : IsItem board.plan board.docs item) → IsWanted board.plan (published_on board of_item.d) of_item.n
+      → ((m : ℕ) → m < of_item.n → IsWanted board.plan (published_on board of_item.d) m → IsSome (published_on board of_item.d m))
       → (standing board item).rows ≡ None → (list : RowList) → IsValueAt board.plan board.docs item list → MayPublish board item list
-  lowest-publish item place wanted lower none list value =
-      may-publish item place wanted (lowest-ready board.plan sound.planned (published_on board place.d) place.n place.node place.node_is wanted lower) none list value
+  lowest-publish item of_item wanted lower none list value =
+      may-publish item of_item wanted (lowest-ready board.plan sound.planned (published_on board of_item.d) of_item.n of_item.node of_item.node_is wanted lower) none list value
 
 module _ {X : Type 0} (board : State) (doc : Document) (R : X → PlanOut → Type 0) (meaning : X → Rows)
     (each : (x : X) (out : PlanOut) → R x out → SameBag (val board.plan.lists doc board.plan.nodes out.node) (meaning x)) where

@@ -12,21 +12,21 @@ use Rattle.run_core.specs.Wanted.{given, IsWanted, IsReady}
 
 -- an item may be claimed where it is wanted, ready and unclaimed
 pub record MayClaim (board : State) (i : ℕ) : Type 0 where
-  pub place : IsItem board.plan board.docs i
-  pub wanted : IsWanted board.plan (published_on board place.d) place.n
-  pub ready : IsReady board.plan (published_on board place.d) place.node
+  pub of_item : IsItem board.plan board.docs i
+  pub wanted : IsWanted board.plan (published_on board of_item.d) of_item.n
+  pub ready : IsReady board.plan (published_on board of_item.d) of_item.node
   pub unclaimed : (standing board i).claim ≡ None
 
 -- and published where it is wanted, ready and unpublished, with rows that are as a bag what its node gives of the published
 -- inputs; a worker may help, so no claim is asked for
 pub record MayPublish (board : State) (i : ℕ) (list : RowList) : Type 0 where
-  pub place : IsItem board.plan board.docs i
-  pub wanted : IsWanted board.plan (published_on board place.d) place.n
-  pub ready : IsReady board.plan (published_on board place.d) place.node
+  pub of_item : IsItem board.plan board.docs i
+  pub wanted : IsWanted board.plan (published_on board of_item.d) of_item.n
+  pub ready : IsReady board.plan (published_on board of_item.d) of_item.node
   pub unpublished : (standing board i).rows ≡ None
-  pub bag : SameBag list.rows (op board.plan.lists place.doc place.node
-      (given board.plan (published_on board place.d) (left_input place.node))
-      (given board.plan (published_on board place.d) (right_input place.node)))
+  pub bag : SameBag list.rows (op board.plan.lists of_item.doc of_item.node
+      (given board.plan (published_on board of_item.d) (left_input of_item.node))
+      (given board.plan (published_on board of_item.d) (right_input of_item.node)))
 
 -- an event is legal with these rows, which a Publish alone has; a Late one comes to an item that is published
 abbrev pub IsLegal : State → Event → Option RowList → Type 0

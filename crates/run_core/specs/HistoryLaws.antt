@@ -202,46 +202,46 @@ has-once board events by =
     }
 
 -- a wanted, ready and unpublished item may be published with its value
-pub publish-holding : (board : State) (item : ℕ) (place : IsItem board.plan board.docs item) → IsPlan board.plan.nodes → HoldsValues board
-    → IsWanted board.plan (published_on board place.d) place.n → IsReady board.plan (published_on board place.d) place.node → (standing board item).rows ≡ None
+pub publish-holding : (board : State) (item : ℕ) (of_item : IsItem board.plan board.docs item) → IsPlan board.plan.nodes → HoldsValues board
+    → IsWanted board.plan (published_on board of_item.d) of_item.n → IsReady board.plan (published_on board of_item.d) of_item.node → (standing board item).rows ≡ None
     → (list : RowList) → IsValueAt board.plan board.docs item list → MayPublish board item list
-publish-holding board item place planned holds wanted ready none list value = record {
-  place = place;
+publish-holding board item of_item planned holds wanted ready none list value = record {
+  of_item = of_item;
   wanted = wanted;
   ready = ready;
   unpublished = none;
-  bag = SameBag-trans _ _ _ (value-at board.plan board.docs item list value place) (SameBag-sym _ _
-      (ready-value board.plan place.doc planned (published_on board place.d) (agrees-holding board holds place.d place.doc place.doc_is) place.n place.node place.node_is ready));
+  bag = SameBag-trans _ _ _ (value-at board.plan board.docs item list value of_item) (SameBag-sym _ _
+      (ready-value board.plan of_item.doc planned (published_on board of_item.d) (agrees-holding board holds of_item.d of_item.doc of_item.doc_is) of_item.n of_item.node of_item.node_is ready));
 }
 
 -- so may the ready item of a document
-goes_by : (board : State) (i : ℕ) (place : IsItem board.plan board.docs i) → IsPlan board.plan.nodes → HoldsValues board → Ready board.plan (published_on board place.d) → MayGoOn board
-goes_by board i place planned holds ready =
-    let item = item_at board.plan place.d ready.n in
+goes_by : (board : State) (i : ℕ) (of_item : IsItem board.plan board.docs i) → IsPlan board.plan.nodes → HoldsValues board → Ready board.plan (published_on board of_item.d) → MayGoOn board
+goes_by board i of_item planned holds ready =
+    let item = item_at board.plan of_item.d ready.n in
     let here : IsItem board.plan board.docs item = record {
-      d = place.d;
+      d = of_item.d;
       n = ready.n;
-      doc = place.doc;
+      doc = of_item.doc;
       node = ready.node;
       is = refl;
-      doc_is = place.doc_is;
+      doc_is = of_item.doc_is;
       node_is = ready.is;
     } in
     record {
       item = item;
-      place = here;
+      of_item = here;
       legal = publish-holding board item here planned holds ready.wanted ready.ready ready.unpublished;
     }
 
 goes-on : (board : State) → IsPlan board.plan.nodes → AreOutputs board.plan.nodes board.plan.outputs → HoldsValues board
     → (i : ℕ) → IsNeededAt board.plan board.docs i → (standing board i).rows ≡ None → MayGoOn board
 goes-on board planned valid holds i needed none =
-    let place = needed.place in
-    let published = published_on board place.d in
-    let here : published place.n ≡ None = ap (λ (k : ℕ). (standing board k).rows) (sym place.is) ∙ none in
-    elim (needed-wanted board.plan place.doc planned published (agrees-holding board holds place.d place.doc place.doc_is) place.n needed.needed) [
-      | inl wanted ↦ goes_by board i place planned holds (some-ready board.plan planned valid published place.n wanted here)
-      | inr gap ↦ goes_by board i place planned holds (some-ready board.plan planned valid published gap.0 gap.1 gap.2)
+    let of_item = needed.of_item in
+    let published = published_on board of_item.d in
+    let here : published of_item.n ≡ None = ap (λ (k : ℕ). (standing board k).rows) (sym of_item.is) ∙ none in
+    elim (needed-wanted board.plan of_item.doc planned published (agrees-holding board holds of_item.d of_item.doc of_item.doc_is) of_item.n needed.needed) [
+      | inl wanted ↦ goes_by board i of_item planned holds (some-ready board.plan planned valid published of_item.n wanted here)
+      | inr gap ↦ goes_by board i of_item planned holds (some-ready board.plan planned valid published gap.0 gap.1 gap.2)
     ]
 
 some_list : (found : Option RowList) (rows worth : Rows) → IsSome found → ((list : RowList) → found ≡ Some list → SameBag list.rows worth) → SameBag worth rows → IsSomeAnd found (λ list. SameBag list.rows rows)

@@ -15,18 +15,18 @@ use Rattle.run_core.specs.Histories.{Happening, AreLegal, after_all, IsReachedBy
 
 -- item i is one, and needed
 pub record IsNeededAt (plan : Parts) (docs : List Doc) (i : ℕ) : Type 0 where
-  pub place : IsItem plan docs i
-  pub needed : IsNeededOn plan docs i place
+  pub of_item : IsItem plan docs i
+  pub needed : IsNeededOn plan docs i of_item
 
 -- item i is one, and these rows are its value, as a bag
 pub record IsValueAt (plan : Parts) (docs : List Doc) (i : ℕ) (list : RowList) : Type 0 where
-  pub place : IsItem plan docs i
-  pub same : SameBag list.rows (val plan.lists place.doc plan.nodes place.n)
+  pub of_item : IsItem plan docs i
+  pub same : SameBag list.rows (val plan.lists of_item.doc plan.nodes of_item.n)
 
 -- some item may be published: with any rows that are its value
 pub record MayGoOn (board : State) : Type 0 where
   pub item : ℕ
-  pub place : IsItem board.plan board.docs item
+  pub of_item : IsItem board.plan board.docs item
   pub legal : (list : RowList) → IsValueAt board.plan board.docs item list → MayPublish board item list
 
 -- on document d each output is published

@@ -86,10 +86,10 @@ claimed-after board event rows i other = ap (λ (s : Standing). s.claim) (standi
 
 -- the item of a legal event is one of the items
 pub claimed-below : (board : State) (item : ℕ) → IsSized board → MayClaim board item → item < length board.items
-claimed-below board item sized may = omega (arith, sized, item-below board.plan board.docs item may.place)
+claimed-below board item sized may = omega (arith, sized, item-below board.plan board.docs item may.of_item)
 
 pub published-below : (board : State) (item : ℕ) (list : RowList) → IsSized board → MayPublish board item list → item < length board.items
-published-below board item list sized may = omega (arith, sized, item-below board.plan board.docs item may.place)
+published-below board item list sized may = omega (arith, sized, item-below board.plan board.docs item may.of_item)
 
 pub there-below : (board : State) (item : ℕ) → IsSome (standing board item).rows → item < length board.items
 there-below board item there = elim (cases_lt item (length board.items)) [
@@ -133,10 +133,10 @@ holds-fresh plan docs = record {
   claimed = λ i worker is. absurd (none-some worker (sym (claim-fresh plan docs i) ∙ is));
 }
 
--- the value of an item, at its place
-pub value-at : (plan : Parts) (docs : List Document) (i : ℕ) (list : RowList) → IsValueAt plan docs i list → (place : IsItem plan docs i)
-    → SameBag list.rows (val plan.lists place.doc plan.nodes place.n)
-value-at plan docs i list value place = at-each plan docs (λ doc n. SameBag list.rows (val plan.lists doc plan.nodes n)) i i refl value.place place value.same
+-- the value of an item, that of its node on its document
+pub value-at : (plan : Parts) (docs : List Document) (i : ℕ) (list : RowList) → IsValueAt plan docs i list → (of_item : IsItem plan docs i)
+    → SameBag list.rows (val plan.lists of_item.doc plan.nodes of_item.n)
+value-at plan docs i list value of_item = at-each plan docs (λ doc n. SameBag list.rows (val plan.lists doc plan.nodes n)) i i refl value.of_item of_item value.same
 
 -- so what is published on a document are the values there
 pub agrees-holding : (board : State) → HoldsValues board → (d : ℕ) (doc : Document) → slice_get board.docs d ≡ Some doc → Agrees board.plan doc (published_on board d)
@@ -147,10 +147,10 @@ agrees-holding board holds d doc doc_is = record {
 
 module _ (board : State) (planned : IsPlan board.plan.nodes) (holds : HoldsValues board) where
   -- a wanted item is needed
-  needed_at : (item : ℕ) (place : IsItem board.plan board.docs item) → IsWanted board.plan (published_on board place.d) place.n → IsNeededAt board.plan board.docs item
-  needed_at item place wanted = record {
-    place = place;
-    needed = wanted-needed board.plan place.doc planned (published_on board place.d) (agrees-holding board holds place.d place.doc place.doc_is) place.n wanted;
+  needed_at : (item : ℕ) (of_item : IsItem board.plan board.docs item) → IsWanted board.plan (published_on board of_item.d) of_item.n → IsNeededAt board.plan board.docs item
+  needed_at item of_item wanted = record {
+    of_item = of_item;
+    needed = wanted-needed board.plan of_item.doc planned (published_on board of_item.d) (agrees-holding board holds of_item.d of_item.doc of_item.doc_is) of_item.n wanted;
   }
 
   holds_claim : (worker item : ℕ) → MayClaim board item → HoldsValues (after board (Claim worker item) None)
@@ -161,7 +161,7 @@ module _ (board : State) (planned : IsPlan board.plan.nodes) (holds : HoldsValue
         values = λ i list is. holds.values i list (sym (rows-after_claim board worker item None below i) ∙ is);
         published = λ i list is. holds.published i list (sym (rows-after_claim board worker item None below i) ∙ is);
         claimed = λ i who is. elim (claim-after_claim board worker item None below i) [
-          | inl here ↦ subst (λ (k : ℕ). IsNeededAt board.plan board.docs k) (sym here.0) (needed_at item may.place may.wanted)
+          | inl here ↦ subst (λ (k : ℕ). IsNeededAt board.plan board.docs k) (sym here.0) (needed_at item may.of_item may.wanted)
           | inr there ↦ holds.claimed i who (sym there.1 ∙ is)
         ];
       }
@@ -169,10 +169,10 @@ module _ (board : State) (planned : IsPlan board.plan.nodes) (holds : HoldsValue
   holds_publish : (worker item : ℕ) (rows : RowList) → MayPublish board item rows → HoldsValues (after board (Publish worker item) (Some rows))
   holds_publish worker item rows may =
       let below = published-below board item rows holds.sized may in
-      let agrees = agrees-holding board holds may.place.d may.place.doc may.place.doc_is in
+      let agrees = agrees-holding board holds may.of_item.d may.of_item.doc may.of_item.doc_is in
       let value : IsValueAt board.plan board.docs item rows = record {
-        place = may.place;
-        same = SameBag-trans _ _ _ may.bag (ready-value board.plan may.place.doc planned (published_on board may.place.d) agrees may.place.n may.place.node may.place.node_is may.ready);
+        of_item = may.of_item;
+        same = SameBag-trans _ _ _ may.bag (ready-value board.plan may.of_item.doc planned (published_on board may.of_item.d) agrees may.of_item.n may.of_item.node may.of_item.node_is may.ready);
       } in
       record {
         sized = sized-after board (Publish worker item) (Some rows) holds.sized;
@@ -181,7 +181,7 @@ module _ (board : State) (planned : IsPlan board.plan.nodes) (holds : HoldsValue
           | inr there ↦ holds.values i list (sym there.1 ∙ is)
         ];
         published = λ i list is. elim (rows-after_publish board worker item (Some rows) below i) [
-          | inl here ↦ subst (λ (k : ℕ). IsNeededAt board.plan board.docs k) (sym here.0) (needed_at item may.place may.wanted)
+          | inl here ↦ subst (λ (k : ℕ). IsNeededAt board.plan board.docs k) (sym here.0) (needed_at item may.of_item may.wanted)
           | inr there ↦ holds.published i list (sym there.1 ∙ is)
         ];
         claimed = λ i who is. holds.claimed i who (sym (claim-after_publish board worker item (Some rows) below i) ∙ is);

@@ -58,13 +58,13 @@ module _ (lists : Lists) (outputs : List PlanOut) (shown : Contains (map (λ out
 
   legal : AreLegal (fresh plan (doc ∷ [])) (doubled_events doc)
   legal = (
-    record { place = record { d = 0; n = 0; doc = doc; node = Doc; is = refl; doc_is = refl; node_is = refl }; wanted = wanted_0 _; ready = ready_0 _; unclaimed = refl },
+    record { of_item = record { d = 0; n = 0; doc = doc; node = Doc; is = refl; doc_is = refl; node_is = refl }; wanted = wanted_0 _; ready = ready_0 _; unclaimed = refl },
     (
-      record { place = record { d = 0; n = 0; doc = doc; node = Doc; is = refl; doc_is = refl; node_is = refl }; wanted = wanted_0 _; ready = ready_0 _; unpublished = refl; bag = SameBag-refl _ },
+      record { of_item = record { d = 0; n = 0; doc = doc; node = Doc; is = refl; doc_is = refl; node_is = refl }; wanted = wanted_0 _; ready = ready_0 _; unpublished = refl; bag = SameBag-refl _ },
       (
-        record { place = record { d = 0; n = 1; doc = doc; node = Union 0 0; is = refl; doc_is = refl; node_is = refl }; wanted = wanted_1 _; ready = ready_1 _ refl; unclaimed = refl },
+        record { of_item = record { d = 0; n = 1; doc = doc; node = Union 0 0; is = refl; doc_is = refl; node_is = refl }; wanted = wanted_1 _; ready = ready_1 _ refl; unclaimed = refl },
         (
-          record { place = record { d = 0; n = 1; doc = doc; node = Union 0 0; is = refl; doc_is = refl; node_is = refl }; wanted = wanted_1 _; ready = ready_1 _ refl; unpublished = refl; bag = SameBag-refl _ },
+          record { of_item = record { d = 0; n = 1; doc = doc; node = Union 0 0; is = refl; doc_is = refl; node_is = refl }; wanted = wanted_1 _; ready = ready_1 _ refl; unpublished = refl; bag = SameBag-refl _ },
           (refl, tt),
         ),
       ),

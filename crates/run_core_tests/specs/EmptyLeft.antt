@@ -70,17 +70,17 @@ module _ (dicts : List DictUse) (outputs : List PlanOut) (shown : Contains (map 
 
   legal : AreLegal (fresh plan (doc ∷ [])) (joined_events doc)
   legal = (
-    record { place = record { d = 0; n = 0; doc = doc; node = Doc; is = refl; doc_is = refl; node_is = refl }; wanted = wanted_0 _; ready = ready_0 _; unclaimed = refl },
+    record { of_item = record { d = 0; n = 0; doc = doc; node = Doc; is = refl; doc_is = refl; node_is = refl }; wanted = wanted_0 _; ready = ready_0 _; unclaimed = refl },
     (
-      record { place = record { d = 0; n = 0; doc = doc; node = Doc; is = refl; doc_is = refl; node_is = refl }; wanted = wanted_0 _; ready = ready_0 _; unpublished = refl; bag = SameBag-refl _ },
+      record { of_item = record { d = 0; n = 0; doc = doc; node = Doc; is = refl; doc_is = refl; node_is = refl }; wanted = wanted_0 _; ready = ready_0 _; unpublished = refl; bag = SameBag-refl _ },
       (
-        record { place = record { d = 0; n = 1; doc = doc; node = Regex 0 0 0 []; is = refl; doc_is = refl; node_is = refl }; wanted = wanted_1 _; ready = ready_1 _ refl; unclaimed = refl },
+        record { of_item = record { d = 0; n = 1; doc = doc; node = Regex 0 0 0 []; is = refl; doc_is = refl; node_is = refl }; wanted = wanted_1 _; ready = ready_1 _ refl; unclaimed = refl },
         (
-          record { place = record { d = 0; n = 1; doc = doc; node = Regex 0 0 0 []; is = refl; doc_is = refl; node_is = refl }; wanted = wanted_1 _; ready = ready_1 _ refl; unpublished = refl; bag = SameBag-refl _ },
+          record { of_item = record { d = 0; n = 1; doc = doc; node = Regex 0 0 0 []; is = refl; doc_is = refl; node_is = refl }; wanted = wanted_1 _; ready = ready_1 _ refl; unpublished = refl; bag = SameBag-refl _ },
           (
-            record { place = record { d = 0; n = 3; doc = doc; node = Cross 1 2 true; is = refl; doc_is = refl; node_is = refl }; wanted = wanted_3 _; ready = ready_3 _ refl; unclaimed = refl },
+            record { of_item = record { d = 0; n = 3; doc = doc; node = Cross 1 2 true; is = refl; doc_is = refl; node_is = refl }; wanted = wanted_3 _; ready = ready_3 _ refl; unclaimed = refl },
             (
-              record { place = record { d = 0; n = 3; doc = doc; node = Cross 1 2 true; is = refl; doc_is = refl; node_is = refl }; wanted = wanted_3 _; ready = ready_3 _ refl; unpublished = refl; bag = SameBag-is _ _ (sym (product-nil [])) },
+              record { of_item = record { d = 0; n = 3; doc = doc; node = Cross 1 2 true; is = refl; doc_is = refl; node_is = refl }; wanted = wanted_3 _; ready = ready_3 _ refl; unpublished = refl; bag = SameBag-is _ _ (sym (product-nil [])) },
               tt,
             ),
           ),

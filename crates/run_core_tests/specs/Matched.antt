@@ -89,17 +89,17 @@ module _ (lists : Lists) (outputs : List PlanOut) (shown : Contains (map (λ out
 
   legal : AreLegal (fresh plan (doc ∷ [])) (matched_events lists doc)
   legal = (
-    record { place = record { d = 0; n = 0; doc = doc; node = Doc; is = refl; doc_is = refl; node_is = refl }; wanted = wanted_0 _; ready = ready_0 _; unclaimed = refl },
+    record { of_item = record { d = 0; n = 0; doc = doc; node = Doc; is = refl; doc_is = refl; node_is = refl }; wanted = wanted_0 _; ready = ready_0 _; unclaimed = refl },
     (
-      record { place = record { d = 0; n = 0; doc = doc; node = Doc; is = refl; doc_is = refl; node_is = refl }; wanted = wanted_0 _; ready = ready_0 _; unpublished = refl; bag = SameBag-refl _ },
+      record { of_item = record { d = 0; n = 0; doc = doc; node = Doc; is = refl; doc_is = refl; node_is = refl }; wanted = wanted_0 _; ready = ready_0 _; unpublished = refl; bag = SameBag-refl _ },
       (
-        record { place = record { d = 0; n = 1; doc = doc; node = Regex 0 0 0 (0 ∷ []); is = refl; doc_is = refl; node_is = refl }; wanted = wanted_1 _; ready = ready_1 _ refl; unclaimed = refl },
+        record { of_item = record { d = 0; n = 1; doc = doc; node = Regex 0 0 0 (0 ∷ []); is = refl; doc_is = refl; node_is = refl }; wanted = wanted_1 _; ready = ready_1 _ refl; unclaimed = refl },
         (
-          record { place = record { d = 0; n = 1; doc = doc; node = Regex 0 0 0 (0 ∷ []); is = refl; doc_is = refl; node_is = refl }; wanted = wanted_1 _; ready = ready_1 _ refl; unpublished = refl; bag = SameBag-is _ _ (sym (append-nil (match_list lists doc).rows)) },
+          record { of_item = record { d = 0; n = 1; doc = doc; node = Regex 0 0 0 (0 ∷ []); is = refl; doc_is = refl; node_is = refl }; wanted = wanted_1 _; ready = ready_1 _ refl; unpublished = refl; bag = SameBag-is _ _ (sym (append-nil (match_list lists doc).rows)) },
           (
-            record { place = record { d = 0; n = 2; doc = doc; node = Project 1 (column 1 ∷ []); is = refl; doc_is = refl; node_is = refl }; wanted = wanted_2 _; ready = ready_2 _ refl; unclaimed = refl },
+            record { of_item = record { d = 0; n = 2; doc = doc; node = Project 1 (column 1 ∷ []); is = refl; doc_is = refl; node_is = refl }; wanted = wanted_2 _; ready = ready_2 _ refl; unclaimed = refl },
             (
-              record { place = record { d = 0; n = 2; doc = doc; node = Project 1 (column 1 ∷ []); is = refl; doc_is = refl; node_is = refl }; wanted = wanted_2 _; ready = ready_2 _ refl; unpublished = refl; bag = SameBag-refl _ },
+              record { of_item = record { d = 0; n = 2; doc = doc; node = Project 1 (column 1 ∷ []); is = refl; doc_is = refl; node_is = refl }; wanted = wanted_2 _; ready = ready_2 _ refl; unpublished = refl; bag = SameBag-refl _ },
               tt,
             ),
           ),

@@ -19,9 +19,9 @@ pub record ItemRows : Type 0 where
 -- the rows are what item i is worth, as a bag, with the columns of its node, and their spans lie in its document; and the
 -- item is needed
 pub record IsResult (plan : Parts) (docs : List Doc) (i : ℕ) (list : RowList) : Type 0 where
-  pub place : IsItem plan docs i
-  pub needed : IsNeededOn plan docs i place
-  pub has : HasInput plan.lists place.doc plan.nodes (Some place.n) list
+  pub of_item : IsItem plan docs i
+  pub needed : IsNeededOn plan docs i of_item
+  pub has : HasInput plan.lists of_item.doc plan.nodes (Some of_item.n) list
 
 -- a result is that of an input's item on document d; there is none where there is no input
 abbrev pub IsOfInput : Parts → ℕ → Option ℕ → Option ItemRows → Type 0
@@ -35,7 +35,7 @@ pub record GoesWithout (node : Node) (left right : Option ItemRows) : Type 0 whe
 
 -- item i is needed, and the results are those of its node's inputs on the same document
 pub record MayCompute (plan : Parts) (docs : List Doc) (i : ℕ) (left right : Option ItemRows) : Type 0 where
-  pub place : IsItem plan docs i
-  pub needed : IsNeededOn plan docs i place
-  pub of_left : IsOfInput plan place.d (left_input place.node) left
-  pub of_right : IsOfInput plan place.d (right_input place.node) right ⊎ GoesWithout place.node left right
+  pub of_item : IsItem plan docs i
+  pub needed : IsNeededOn plan docs i of_item
+  pub of_left : IsOfInput plan of_item.d (left_input of_item.node) left
+  pub of_right : IsOfInput plan of_item.d (right_input of_item.node) right ⊎ GoesWithout of_item.node left right

@@ -65,7 +65,7 @@ impl<'d, W: Work> Published<'d, W> {
         ensures is_result { IfOk result (λ found. IsResult W.plan W.docs item found.value.rows) }
         ensures same { tools.new ≡ tools.old }
     {
-        let (node, doc) = placed::<W>(plan, docs, item);
+        let (node, doc) = node_and_document::<W>(plan, docs, item);
         let (left_input, right_input) = node.inputs();
         let left_rows = rows_given(alloc, plan.nodes(), left_input, left);
         let right_rows = rows_given(alloc, plan.nodes(), right_input, right);
@@ -132,16 +132,16 @@ impl<'d, W: Work> Published<'d, W> {
 }
 
 /// The node and the document of an item.
-fn placed<'r, 'd, W: Work>(
+fn node_and_document<'r, 'd, W: Work>(
     plan: &'d Plan,
     docs: &'r [Document<'d>],
     item: u32,
 ) -> (&'d Node, &'r Document<'d>)
     requires work { (plan.now ≡ W.plan) × (docs.now ≡ W.docs) }
     requires there { item < item_count W.plan W.docs }
-    ensures node { (place : IsItem W.plan W.docs item) → result.0.now ≡ place.node }
+    ensures node { (of_item : IsItem W.plan W.docs item) → result.0.now ≡ of_item.node }
     ensures at { IsAt W.plan.nodes (item % length W.plan.nodes) result.0.now }
-    ensures doc { (place : IsItem W.plan W.docs item) → result.1.now ≡ place.doc }
+    ensures doc { (of_item : IsItem W.plan W.docs item) → result.1.now ≡ of_item.doc }
 {
     let nodes = plan.nodes();
     let node = nodes.get(item % nodes.len());

@@ -20,7 +20,7 @@ document_is_result plan docs doc list is there list_is = subst (IsResult plan do
   where
     result : IsResult plan docs 0 (record { width = 1; rows = (span (whole_of doc) ∷ []) ∷ [] })
     result = record {
-      place = record {
+      of_item = record {
         d = 0;
         n = 0;
         doc = doc;

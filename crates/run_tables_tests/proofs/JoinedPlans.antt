@@ -33,8 +33,8 @@ module _ (plan : Parts) (docs : List Document) (d first : ℕ) (doc : Document) 
   node_at n node at = ap (λ (nodes : List Node). slice_get nodes n) is.nodes ∙ at
 
   -- item n of the document
-  abbrev place : (i n : ℕ) (node : Node) → i ≡ first + n → slice_get joined_nodes n ≡ Some node → IsItem plan docs i
-  place i n node e at = record { d = d; n = n; doc = doc; node = node; is = omega (arith, e, begin); doc_is = there; node_is = node_at n node at }
+  abbrev node_item : (i n : ℕ) (node : Node) → i ≡ first + n → slice_get joined_nodes n ≡ Some node → IsItem plan docs i
+  node_item i n node e at = record { d = d; n = n; doc = doc; node = node; is = omega (arith, e, begin); doc_is = there; node_is = node_at n node at }
 
   of_input : (i n : ℕ) → i ≡ first + n → Some i ≡ Some (item_at plan d n)
   of_input i n e = ap Some (e ∙ ap (λ (m : ℕ). m + n) begin)
@@ -49,11 +49,11 @@ module _ (plan : Parts) (docs : List Document) (d first : ℕ) (doc : Document) 
   needed_0 = needs.input 1 0 (Regex 0 0 0 []) (node_at 1 (Regex 0 0 0 []) refl) (inl refl) needed_1
 
   pub text-may : MayCompute plan docs first None None
-  text-may = record { place = place first 0 Doc (omega arith) refl; needed = needed_0; of_left = refl; of_right = inl refl }
+  text-may = record { of_item = node_item first 0 Doc (omega arith) refl; needed = needed_0; of_left = refl; of_right = inl refl }
 
   pub left-may : (text : ItemRows) → text.item ≡ first → MayCompute plan docs (first + 1) (Some text) None
   left-may text of_text = record {
-    place = place (first + 1) 1 (Regex 0 0 0 []) refl refl;
+    of_item = node_item (first + 1) 1 (Regex 0 0 0 []) refl refl;
     needed = needed_1;
     of_left = of_input text.item 0 (omega (arith, of_text));
     of_right = inl refl;
@@ -63,15 +63,15 @@ module _ (plan : Parts) (docs : List Document) (d first : ℕ) (doc : Document) 
   has_row : (found : ItemRows) → found.item ≡ first + 1 → IsResult plan docs found.item found.rows → length found.rows.rows ≢ 0 → val plan.lists doc plan.nodes 1 ≢ []
   has_row found of_left result some none =
       let has =
-      at-each plan docs (λ (doc : Document) (n : ℕ). HasInput plan.lists doc plan.nodes (Some n) found.rows) found.item (first + 1) of_left result.place
-      (place (first + 1) 1 (Regex 0 0 0 []) refl refl) result.has in
+      at-each plan docs (λ (doc : Document) (n : ℕ). HasInput plan.lists doc plan.nodes (Some n) found.rows) found.item (first + 1) of_left result.of_item
+      (node_item (first + 1) 1 (Regex 0 0 0 []) refl refl) result.has in
       let as_long : length (val plan.lists doc plan.nodes 1) ≡ length found.rows.rows = length_permutation found.rows.rows (val plan.lists doc plan.nodes 1) has.same in
       some (sym as_long ∙ ap length none)
 
   pub right-may : (text found : ItemRows) → text.item ≡ first → found.item ≡ first + 1 → IsResult plan docs found.item found.rows → length found.rows.rows ≢ 0
       → MayCompute plan docs (first + 2) (Some text) None
   right-may text found of_text of_left result some = record {
-    place = place (first + 2) 2 (Project 0 []) refl refl;
+    of_item = node_item (first + 2) 2 (Project 0 []) refl refl;
     needed = needs.input 3 2 (Cross 1 2 true) (node_at 3 (Cross 1 2 true) refl) (inr (refl, λ conditional. has_row found of_left result some)) needed_3;
     of_left = of_input text.item 0 (omega (arith, of_text));
     of_right = inl refl;
@@ -79,7 +79,7 @@ module _ (plan : Parts) (docs : List Document) (d first : ℕ) (doc : Document) 
 
   pub join-may : (found other : ItemRows) → found.item ≡ first + 1 → other.item ≡ first + 2 → MayCompute plan docs (first + 3) (Some found) (Some other)
   join-may found other of_left of_right = record {
-    place = place (first + 3) 3 (Cross 1 2 true) refl refl;
+    of_item = node_item (first + 3) 3 (Cross 1 2 true) refl refl;
     needed = needed_3;
     of_left = of_input found.item 1 of_left;
     of_right = inl (of_input other.item 2 of_right);
@@ -88,7 +88,7 @@ module _ (plan : Parts) (docs : List Document) (d first : ℕ) (doc : Document) 
   -- without a left row the join does without the right one
   pub empty-may : (found : ItemRows) → found.item ≡ first + 1 → length found.rows.rows ≡ 0 → MayCompute plan docs (first + 3) (Some found) None
   empty-may found of_left none = record {
-    place = place (first + 3) 3 (Cross 1 2 true) refl refl;
+    of_item = node_item (first + 3) 3 (Cross 1 2 true) refl refl;
     needed = needed_3;
     of_left = of_input found.item 1 of_left;
     of_right = inr (record { conditional = refl; left_empty = no_rows found.rows.rows none; right_absent = refl });

@@ -107,11 +107,11 @@ module _ (board : State) (d : ℕ) where
       may_claim : MayClaim board (item_at board.plan d n)
       may_claim =
           let doc = document_at board.docs d filling.page.there in
-          let place = is_item_at board.plan board.docs d n doc.0 doc.1 next.there in
+          let of_item = is_item_at board.plan board.docs d n doc.0 doc.1 next.there in
           record {
-            place = place;
+            of_item = of_item;
             wanted = wanted-grows board.plan (rows_on known) (published_on board d) more_shown n next.wanted;
-            ready = ready-grows board.plan (rows_on known) (published_on board d) more_shown place.node (next.ready place.node place.node_is);
+            ready = ready-grows board.plan (rows_on known) (published_on board d) more_shown of_item.node (next.ready of_item.node of_item.node_is);
             unclaimed = not_some (standing board (item_at board.plan d n)).claim (filling.filled.together (item_at board.plan d n) ∙ ap is_some unpublished);
           }
 
@@ -120,7 +120,7 @@ module _ (board : State) (d : ℕ) where
         value =
             let doc = document_at board.docs d filling.page.there in
             record {
-              place = is_item_at board.plan board.docs d n doc.0 doc.1 next.there;
+              of_item = is_item_at board.plan board.docs d n doc.0 doc.1 next.there;
               same = (result-has board.plan board.docs d doc.0 doc.1 n found next.there result).same;
             }
 
@@ -277,8 +277,8 @@ module _ (plan : Parts) (docs : List Document) (d : ℕ) (board : State) where
 module _ (board : State) (sound : IsSound board) (filled : IsFilledTo board.plan board.docs (length board.docs) (item_at board.plan (length board.docs) 0) board) where
   needed_rows : (i : ℕ) → IsNeededAt board.plan board.docs i → IsSome (standing board i).rows
   needed_rows i needed =
-      let place = needed.place in
-      subst (λ (k : ℕ). IsSome (standing board k).rows) (sym place.is) (filled.before place.d (slice_get_within board.docs place.d place.doc place.doc_is) place.doc place.n place.doc_is needed.needed)
+      let of_item = needed.of_item in
+      subst (λ (k : ℕ). IsSome (standing board k).rows) (sym of_item.is) (filled.before of_item.d (slice_get_within board.docs of_item.d of_item.doc of_item.doc_is) of_item.doc of_item.n of_item.doc_is needed.needed)
 
   complete : IsComplete board
   complete = record {

@@ -71,7 +71,7 @@ module _ {T E : Type 0} (r : Result T E) (count : ℕ) (known : List (Option Ite
   pub begun-blank : OnOk r (known ≡ empty_page count) → OnOk r (IsBlank known)
   begun-blank made = on_ok_weaker r (empty_blank count known) made
 
--- an element of a page in which one place was set, or another one
+-- an element of a page in which one element was set, or another one
 pub set_known : (known : List (Option ItemRows)) (n m : ℕ) (put : Option ItemRows) → n < length known
     → ((m ≡ n) × (known_at (set known n put) m ≡ put)) ⊎ ((m ≢ n) × (known_at (set known n put) m ≡ known_at known m))
 set_known known n m put below = elim (cases_eq m n) [
@@ -140,7 +140,7 @@ module _ (plan : Parts) (docs : List Document) (d : ℕ) where
   -- the result of a node has what the node is worth
   pub result-has : (doc : Document) → slice_get docs d ≡ Some doc → (n : ℕ) (found : ItemRows) → n < length plan.nodes → IsResultOf plan docs d n found → HasInput plan.lists doc plan.nodes (Some n) found.rows
   result-has doc doc_is n found below of_node =
-      at-each plan docs (λ other k. HasInput plan.lists other plan.nodes (Some k) found.rows) found.item (item_at plan d n) of_node.item of_node.result.place (is_item_at plan docs d n doc doc_is below) of_node.result.has
+      at-each plan docs (λ other k. HasInput plan.lists other plan.nodes (Some k) found.rows) found.item (item_at plan d n) of_node.item of_node.result.of_item (is_item_at plan docs d n doc doc_is below) of_node.result.has
 
   module _ (doc : Document) (doc_is : slice_get docs d ≡ Some doc) (known : List (Option ItemRows)) (page : IsPage plan docs d known) where
     -- so what is known are values
@@ -203,7 +203,7 @@ module _ (plan : Parts) (docs : List Document) (d : ℕ) where
     pub may-compute : IsPlan plan.nodes → (n : ℕ) → IsNext plan known n → (node : Node) → slice_get plan.nodes n ≡ Some node
         → MayCompute plan docs (item_at plan d n) (known_of known (left_input node)) (known_of known (right_input node))
     may-compute planned n next node is = record {
-      place = record { d = d; n = n; doc = doc; node = node; is = refl; doc_is = doc_is; node_is = is };
+      of_item = record { d = d; n = n; doc = doc; node = node; is = refl; doc_is = doc_is; node_is = is };
       needed = next-needed planned n next;
       of_left = of_left node (next.ready node is) (left_input node) refl;
       of_right = of_right node (next.ready node is) (right_input node) refl;

@@ -109,10 +109,10 @@ fn work_in_threads<'a, 'd, W: Work + Send + Sync, R: Threads + Sync, G: Gate>(
     ensures tools { HaveTools W.plan.lists workers.new }
 {
     let threads = workers.len();
-    let job = |place: usize, worker: &mut Worker<'_>|
+    let job = |number: usize, worker: &mut Worker<'_>|
         requires { IsSync G.row × HasSeat shared.now.claims.now.table worker.old × (worker.old.tools ≡ W.plan.lists) }
         ensures { HasSeat shared.entry.now.claims.now.table worker.new × (worker.new.tools ≡ W.plan.lists) }
-    { work(alloc, shared, place, worker) };
+    { work(alloc, shared, number, worker) };
     thread::for_each_mut(rt, workers, threads, &job);
 }
 

@@ -20,7 +20,7 @@ use std::alloc::Global;
 pub(crate) fn work<'a, 'd, W: Work, G: Gate>(
     alloc: Global,
     shared: &Shared<'a, 'd, W, G>,
-    place: usize,
+    number: usize,
     worker: &mut Worker<'_>,
 )
     requires seat { HasSeat shared.now.claims.now.table worker.old }
@@ -33,7 +33,7 @@ pub(crate) fn work<'a, 'd, W: Work, G: Gate>(
         return;
     }
     let mut walk = Walk::new(alloc);
-    let mut d = place % docs;
+    let mut d = number % docs;
     'docs: for _ in 0..docs {
         if work_on(alloc, shared, worker, &mut walk, d).is_err() {
             return;
