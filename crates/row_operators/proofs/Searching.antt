@@ -26,7 +26,7 @@ module _ {X : Type 0} (key : X → List Datum) where
     equal_at i below at =
         (i, omega (arith, below, length-map (x ∷ xs) key), row_cmp_exact (get_or (map key (x ∷ xs)) i row) row (ap (λ (r : List Datum). row_cmp r row) (get_or-map key (x ∷ xs) i x row below) ∙ at x))
 
-    -- a row that is there is neither before nor behind what is at its place
+    -- a row that is there is neither before nor behind what stands at its index
     equal_there : (there : Contains (map key (x ∷ xs)) row) → row_cmp (key (get_or (x ∷ xs) there.0 x)) row ≡ Equal
     equal_there there =
         ap (λ (r : List Datum). row_cmp r row) (sym (get_or-map key (x ∷ xs) there.0 x row (omega (arith, there.1, length-map (x ∷ xs) key))) ∙ there.2) ∙ row_cmp_itself row

@@ -3,7 +3,7 @@ use Rattle.std.proofs.Common.{◌≡◌, ◌∙◌, ◌<◌, ◌+◌, ◌++◌, 
 use Rattle.std.specs.List.{All, flat_map}
 use Rattle.std.proofs.lemmas.List.{take_more, flat_map_more}
 
--- what holds of each of some things holds of the one at a place
+-- what holds of each of some things holds of the one at an index
 pub holds-at : {X : Type 0} (P : X → Type 0) (all items : List X) (i : ℕ) (x : X) → items ≡ all → i < length items → x ≡ get_or items i x → All P all → P x
 holds-at P all items i x same below is holds = subst P (sym is) (subst (All P) (sym same) holds i x below)
 

@@ -179,11 +179,11 @@ fn value_at<'d>(lead: &Row<'d>, groups: &[Option<Span>], column: u32) -> Value<'
     ensures lies { (doc : Doc) → All (IsOfDocument doc) lead.now → All (IsFoundIn doc) groups.now → IsOfDocument doc (datum_of result) }
 {
     let values = lead.values();
-    let place = column as usize;
-    if place < values.len() {
-        values[place]
-    } else if place - values.len() < groups.len() {
-        value_of(groups[place - values.len()])
+    let index = column as usize;
+    if index < values.len() {
+        values[index]
+    } else if index - values.len() < groups.len() {
+        value_of(groups[index - values.len()])
     } else {
         Value::Null
     }
