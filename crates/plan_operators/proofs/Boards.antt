@@ -89,8 +89,8 @@ module _ (lists : Lists) (doc : Doc) (nodes : List Node) where
     -- rows that were taken off it are those of their input
     pub taken_is : (input other_input : Option ℕ) (rows : RowList) → IsAmong (length board) input → IsGivenUp input other_input rows board → IsInput lists doc nodes input rows
     taken_is input other_input rows among taken =
-        let below : taken.place < length board = subst (IsAmong (length board)) taken.is_input among in
-        let is : IsOf lists doc nodes taken.place rows = subst (λ (o : Option RowList). IfSome o (IsOf lists doc nodes taken.place)) taken.rows_are (has.each taken.place below) in
+        let below : taken.node < length board = subst (IsAmong (length board)) taken.is_input among in
+        let is : IsOf lists doc nodes taken.node rows = subst (λ (o : Option RowList). IfSome o (IsOf lists doc nodes taken.node)) taken.rows_are (has.each taken.node below) in
         subst (λ (o : Option ℕ). IsInput lists doc nodes o rows) (sym taken.is_input) (record { same = is.same; wide = is.wide; lies = is.lies })
 
   -- an input whose rows stand as they stood
@@ -142,7 +142,7 @@ module _ (lists : Lists) (doc : Doc) (nodes : List Node) where
           by (Some rows) given none =
               inl (subst (λ (o : Option ℕ). IsInput lists doc nodes o rows) is
               (taken_is old has right left rows among
-              (record { place = given.place; is_input = given.is_input; rows_are = sym (right_at_first given.place given.is_input) ∙ given.rows_are; other = given.other })))
+              (record { node = given.node; is_input = given.is_input; rows_are = sym (right_at_first given.node given.is_input) ∙ given.rows_are; other = given.other })))
 
   module _ (n : ℕ) (node : Node) (at : IsAt nodes n node) (left right : RowList) (l : IsInput lists doc nodes (left_input node) left) where
     abbrev left_worth : Rows

@@ -1,7 +1,7 @@
 -- rows that are gone through one by one
 pub mod Going
--- rows with the place of a dictionary
-pub mod Placing
+-- rows with the number of a dictionary
+pub mod DictNumbering
 -- where rows lie
 pub mod Lying
 -- the rows of nodes

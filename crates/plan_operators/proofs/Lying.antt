@@ -20,10 +20,10 @@ cut-lies doc keys (Some n) rows lies =
     RowsLieIn-SameBag doc (limited keys (Some n) rows) (sorted (limited keys (Some n) rows)) (SameBag-sorted (limited keys (Some n) rows))
     (All-limited (All (IsOfDocument doc)) keys (Some n) rows lies)
 
--- and so do those of a place
-pub part-lies : (doc : Doc) (place : ℕ) (rows : List (List Datum)) → RowsLieIn doc rows → RowsLieIn doc (part_of place rows)
-part-lies doc place rows lies =
-    All-map (All (IsOfDocument doc)) unmarked (filter (is_marked place) rows)
+-- and so do those of a dictionary's number
+pub part-lies : (doc : Doc) (number : ℕ) (rows : List (List Datum)) → RowsLieIn doc rows → RowsLieIn doc (part_of number rows)
+part-lies doc number rows lies =
+    All-map (All (IsOfDocument doc)) unmarked (filter (is_marked number) rows)
     (All-weaker (All (IsOfDocument doc)) (λ row. All (IsOfDocument doc) (unmarked row))
     (λ row here. All-append (IsOfDocument doc) (take (length row - 2) row) (drop (length row - 1) row) (All-take (IsOfDocument doc) (length row - 2) row here) (All-drop (IsOfDocument doc) (length row - 1) row here))
-    (filter (is_marked place) rows) (All-filter (is_marked place) (All (IsOfDocument doc)) rows lies))
+    (filter (is_marked number) rows) (All-filter (is_marked number) (All (IsOfDocument doc)) rows lies))

@@ -33,7 +33,7 @@ through-above (Some k) n i among above = through-other (Some k) i (λ e. let sam
 
 -- ---- how often a node reads another one
 
--- a node at its place
+-- a node at its number
 pub node-at : (nodes : List Node) (n : ℕ) (node : Node) → n < length nodes → node ≡ slice_index_or nodes n node → slice_get nodes n ≡ Some node
 node-at nodes n node below is = slice_get-get_or nodes n node below ∙ ap (λ (x : Node). Some x) (sym is)
 

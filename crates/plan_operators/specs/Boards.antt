@@ -1,4 +1,4 @@
--- The rows of nodes on a board, which has a place for each node of a plan.
+-- The rows of nodes on a board, which has an entry for each node of a plan.
 use Rattle.std.specs.Prelude.{ℕ, ◌≡◌, ◌<◌, List, [], Option, Some, None, length, slice_index_or, IfSome}
 use Rattle.aql_base.specs.Bags.{SameBag}
 use Rattle.span_token.specs.Documents.{Doc}
@@ -19,7 +19,7 @@ abbrev pub Holds : Lists → Doc → List Node → ℕ → Option RowList → Ty
 Holds lists doc nodes n None = ⊥
 Holds lists doc nodes n (Some list) = IsOf lists doc nodes n list
 
--- each place of the board that has rows has those of its node
+-- each entry of the board that has rows has those of its node
 pub record IsBoardOf (lists : Lists) (doc : Doc) (nodes : List Node) (board : List (Option RowList)) : Type 0 where
   pub each : (n : ℕ) → n < length board → IfSome (slice_index_or board n None) (IsOf lists doc nodes n)
 
@@ -27,7 +27,7 @@ pub record IsBoardOf (lists : Lists) (doc : Doc) (nodes : List Node) (board : Li
 abbrev pub empty_row_list : RowList
 empty_row_list = record { width = 0; rows = [] }
 
--- the rows that a place of a board has; none, of no column, where it has none
+-- the rows that an entry of a board has; none, of no column, where it has none
 abbrev pub rows_there : Option RowList → RowList
 rows_there None = empty_row_list
 rows_there (Some list) = list

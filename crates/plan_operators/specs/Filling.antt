@@ -20,7 +20,7 @@ abbrev pub IsThere : List (Option RowList) → Option ℕ → Type 0
 IsThere board None = Unit {0}
 IsThere board (Some i) = IsSome (slice_index_or board i None)
 
--- the rows that a place of a board has; none, of `width` columns, where it has none
+-- the rows that an entry of a board has; none, of `width` columns, where it has none
 abbrev pub rows_or_none : ℕ → Option RowList → RowList
 rows_or_none width None = record { width = width; rows = [] }
 rows_or_none width (Some list) = list
@@ -49,9 +49,9 @@ IsRightInput lists doc nodes node list = IsInput lists doc nodes (right_input no
 
 -- the rows are those that the board has of an input, and the other input is another one
 pub record IsGivenUp (input other_input : Option ℕ) (rows : RowList) (board : List (Option RowList)) : Type 0 where
-  pub place : ℕ
-  pub is_input : input ≡ Some place
-  pub rows_are : slice_index_or board place None ≡ Some rows
+  pub node : ℕ
+  pub is_input : input ≡ Some node
+  pub rows_are : slice_index_or board node None ≡ Some rows
   pub other : other_input ≡ input → ⊥
 
 -- the rows of an input: those that were given up, and else those that it has on the board
@@ -91,7 +91,7 @@ abbrev pub does_pass : Node → Node → Bool
 does_pass (Cross left right conditional) next = is_selection next
 does_pass (Regex input column pattern groups) next = is_projection next
 does_pass (TokenRegex input column low high pattern groups) next = is_projection next
-does_pass (DictPart input place) next = is_projection next
+does_pass (DictPart input number) next = is_projection next
 does_pass node next = false
 
 -- node `next` reads node n on the left, and is of a kind to which node n may pass its rows on, row by row

@@ -8,7 +8,7 @@ pub mod Boards
 pub mod Readers
 -- how a board is filled
 pub mod Filling
--- rows with the place of a dictionary
-pub mod Places
+-- rows with the number of a dictionary
+pub mod DictNumbers
 -- runs of tokens near the outer rows of a restricted join
 pub mod Neighbourhoods

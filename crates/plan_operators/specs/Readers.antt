@@ -28,7 +28,7 @@ total chosen worth (suc m) = total chosen worth m + cond (chosen m) (worth m) 0
 abbrev pub number_of_readers : List ℕ → ℕ → ℕ
 number_of_readers readers n = slice_index_or readers n 0
 
--- a node waits: its place on the board has no rows, and its number of readers is greater than 0
+-- a node waits: its entry on the board has no rows, and its number of readers is greater than 0
 abbrev pub does_wait : Option RowList → ℕ → Bool
 does_wait (Some list) number = false
 does_wait None zero = false

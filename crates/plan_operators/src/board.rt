@@ -16,8 +16,8 @@ use std::alloc::Global;
 
 /// The rows of the nodes that the outputs of a plan show, on a document.
 ///
-/// The result, a board, has a place for each node of the plan, by its number from 0 (`long`). A node that an output
-/// shows has its rows there (`shown`). Any other place is empty, or has rows that weren't given up to a node that
+/// The result, a board, has an entry for each node of the plan, by its number from 0 (`long`). A node that an output
+/// shows has its rows there (`shown`). Any other entry is empty, or has rows that weren't given up to a node that
 /// reads them: these too are the rows of its node (`board`), which is one that the outputs need on this document
 /// (`needed`). The rows of a node are what it is worth as a bag, with its columns, and their spans, in characters
 /// from 0, lie in the document.
@@ -76,7 +76,7 @@ pub fn rows_shown<'r, 'd>(board: &'r [Option<Rows<'d>>], out: &PlanOut) -> &'r R
     }
 }
 
-/// A place for each node, without rows.
+/// An entry for each node, without rows.
 fn empty_board<'d>(alloc: Global, number: u32) -> Result<Vec<Option<Rows<'d>>>, OutOfMemory>
     ensures long { IfOk result (λ board. vec_len board ≡ number) }
     ensures none { IfOk result (λ board. (n : ℕ) → slice_index_or board.items n None ≡ None) }
@@ -148,8 +148,8 @@ fn does_wait(board: &[Option<Rows<'_>>], readers: &[u64], n: u32) -> bool
     requires long { length readers.now ≡ length board.now }
     ensures { IsTrue result → waits board.now readers.now n ≡ true }
 {
-    let place = n as usize;
-    place < board.len() && board[place].is_none() && readers[place] > 0
+    let index = n as usize;
+    index < board.len() && board[index].is_none() && readers[index] > 0
 }
 
 /// Puts the rows of node `n` on the board, where those that it asks for are there; else gives the number of one

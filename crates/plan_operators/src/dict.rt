@@ -5,7 +5,7 @@ ghost use Rattle.row_values.specs.Datums.{IsOfDocument};
 ghost use Rattle.row_values.specs.Rows.{RowsLieIn};
 ghost use Rattle.dict_match.specs.Rows.{dict_and_extent, extents_for};
 ghost use Rattle.algebra.specs.Operators.{marked_in};
-ghost use Rattle.plan_operators.specs.Places.{with_place, placed_rows};
+ghost use Rattle.plan_operators.specs.DictNumbers.{with_number, numbered_rows};
 
 use dict_match::DictMatch;
 use row_operators::{columns_of_both, source_in};
@@ -14,9 +14,9 @@ use scalar_ops::Tools;
 use span_token::{Document, OutOfMemory, Span};
 use std::alloc::Global;
 
-/// `Dict`: each row, followed by the place of a dictionary and by a span, for each match of each of the
+/// `Dict`: each row, followed by the number of a dictionary and by a span, for each match of each of the
 /// dictionaries. A row is walked once for all of them.
-pub(crate) fn with_places<'d>(
+pub(crate) fn with_numbers<'d>(
     alloc: Global,
     tools: &mut Tools<'_>,
     doc: &Document<'d>,
@@ -39,8 +39,8 @@ pub(crate) fn with_places<'d>(
     Ok(out)
 }
 
-/// Puts the row, followed by a place and a span, after the others, for each match of the dictionary at each
-/// place.
+/// Puts the row, followed by a dictionary's number and a span, after the others, for each match of each
+/// dictionary.
 fn push_matches<'d>(
     alloc: Global,
     tools: &mut Tools<'_>,
@@ -60,16 +60,16 @@ fn push_matches<'d>(
     match source_in(doc, row, column) {
         Some(source) => {
             tools.find_dict_matches(doc, source, found)?;
-            push_places(alloc, row, dicts, found.as_slice(), into)?;
+            push_dicts(alloc, row, dicts, found.as_slice(), into)?;
             Ok(())
         }
         None => Ok(()),
     }
 }
 
-/// Puts the row, followed by a place and a span, after the others, for each of the matches that are the
-/// dictionary's at each place.
-fn push_places<'d>(
+/// Puts the row, followed by a dictionary's number and a span, after the others, for each of the matches that
+/// are the dictionary's, one dictionary after another.
+fn push_dicts<'d>(
     alloc: Global,
     row: &Row<'d>,
     dicts: &[u32],
@@ -77,44 +77,44 @@ fn push_places<'d>(
     into: &mut Rows<'d>,
 ) -> Result<(), OutOfMemory>
     requires width { length row.now + 2 ≡ into.old.width }
-    ensures { OnOk result (into.new ≡ record { width = into.old.width; rows = into.old.rows ++ placed_rows row.now (map dict_and_extent found.now) dicts.now }) }
+    ensures { OnOk result (into.new ≡ record { width = into.old.width; rows = into.old.rows ++ numbered_rows row.now (map dict_and_extent found.now) dicts.now }) }
 {
-    let Ok(number) = u32::try_from(dicts.len()) else {
+    let Ok(count) = u32::try_from(dicts.len()) else {
         return Err(OutOfMemory);
     };
-    for place in 0..number {
-        push_place(alloc, row, place, dicts[place as usize], found, into)?;
+    for number in 0..count {
+        push_dict(alloc, row, number, dicts[number as usize], found, into)?;
     }
     Ok(())
 }
 
-/// Puts the row, followed by the place and a span, after the others, for each of the matches that are the
+/// Puts the row, followed by the number and a span, after the others, for each of the matches that are the
 /// dictionary's.
-fn push_place<'d>(
+fn push_dict<'d>(
     alloc: Global,
     row: &Row<'d>,
-    place: u32,
+    number: u32,
     dict: u32,
     found: &[DictMatch],
     into: &mut Rows<'d>,
 ) -> Result<(), OutOfMemory>
     requires width { length row.now + 2 ≡ into.old.width }
-    ensures { OnOk result (into.new ≡ record { width = into.old.width; rows = into.old.rows ++ map (with_place row.now place) (extents_for dict (map dict_and_extent found.now)) }) }
+    ensures { OnOk result (into.new ≡ record { width = into.old.width; rows = into.old.rows ++ map (with_number row.now number) (extents_for dict (map dict_and_extent found.now)) }) }
 {
     for one in found {
         if one.dict == dict as usize {
-            into.push(marked(alloc, row, place, one.span)?)?;
+            into.push(marked(alloc, row, number, one.span)?)?;
         }
     }
     Ok(())
 }
 
-/// The row, followed by a place and a span.
-fn marked<'d>(alloc: Global, row: &Row<'d>, place: u32, span: Span) -> Result<Row<'d>, OutOfMemory>
-    ensures { IfOk result (λ out. out ≡ with_place row.now place (extent_of span)) }
+/// The row, followed by a dictionary's number and a span.
+fn marked<'d>(alloc: Global, row: &Row<'d>, number: u32, span: Span) -> Result<Row<'d>, OutOfMemory>
+    ensures { IfOk result (λ out. out ≡ with_number row.now number (extent_of span)) }
 {
     let mut out = row.copy(alloc)?;
-    out.push(Value::Int(i64::from(place)))?;
+    out.push(Value::Int(i64::from(number)))?;
     out.push(Value::Span(span))?;
     Ok(out)
 }

@@ -12,53 +12,53 @@ use scalar_ops::{Expr, Exprs, Tools};
 use span_token::{Document, OutOfMemory};
 use std::alloc::Global;
 
-/// `DictPart`: the rows of a place, without it.
+/// `DictPart`: the rows with a dictionary's number, without it.
 pub(crate) fn part_of<'d>(
     alloc: Global,
     rows: &Rows<'d>,
-    place: u32,
+    number: u32,
 ) -> Result<Rows<'d>, OutOfMemory>
     requires room { 2 ≤ rows.now.width }
-    ensures rows { IfOk result (λ out. out ≡ record { width = rows.now.width - 1; rows = part_of place rows.now.rows }) }
+    ensures rows { IfOk result (λ out. out ≡ record { width = rows.now.width - 1; rows = part_of number rows.now.rows }) }
     ensures lies { (doc : Doc) → RowsLieIn doc rows.now.rows → IfOk result (λ out. RowsLieIn doc out.rows) }
 {
     let mut out = Rows::new(alloc, rows.width() - 1);
     for row in rows.as_slice() {
-        push_part(alloc, row, place, &mut out)?;
+        push_part(alloc, row, number, &mut out)?;
     }
     Ok(out)
 }
 
-/// Puts the row without its place after the others, where that is the place.
+/// Puts the row without its dictionary's number after the others, where that is the number.
 fn push_part<'d>(
     alloc: Global,
     row: &Row<'d>,
-    place: u32,
+    number: u32,
     into: &mut Rows<'d>,
 ) -> Result<(), OutOfMemory>
     requires room { 2 ≤ length row.now }
     requires width { into.old.width ≡ length row.now - 1 }
-    ensures { OnOk result (into.new ≡ record { width = into.old.width; rows = into.old.rows ++ part_of place (row.now ∷ []) }) }
+    ensures { OnOk result (into.new ≡ record { width = into.old.width; rows = into.old.rows ++ part_of number (row.now ∷ []) }) }
 {
-    if row.get(row.len() - 2) == Value::Int(i64::from(place)) {
+    if row.get(row.len() - 2) == Value::Int(i64::from(number)) {
         into.push(unmarked(alloc, row)?)?;
     }
     Ok(())
 }
 
-/// A projection of `DictPart`: the values of expressions for each row of a place, without it. No list of these
+/// A projection of `DictPart`: the values of expressions for each row with a dictionary's number, without it. No list of these
 /// rows is made.
 pub(crate) fn part_values<'d>(
     alloc: Global,
     tools: &mut Tools<'_>,
     doc: &Document<'d>,
     rows: &Rows<'d>,
-    place: u32,
+    number: u32,
     items: &'d Exprs,
 ) -> Result<Rows<'d>, OutOfMemory>
     requires in_document { RowsLieIn doc.now rows.now.rows }
     requires room { 2 ≤ rows.now.width }
-    ensures rows { IfOk result (λ out. out.rows ≡ map (row_of tools.old doc.now items.now) (part_of place rows.now.rows)) }
+    ensures rows { IfOk result (λ out. out.rows ≡ map (row_of tools.old doc.now items.now) (part_of number rows.now.rows)) }
     ensures width { IfOk result (λ out. out.width ≡ length items.now) }
     ensures lies { IfOk result (λ out. RowsLieIn doc.now out.rows) }
     ensures same { tools.new ≡ tools.old }
@@ -67,29 +67,30 @@ pub(crate) fn part_values<'d>(
     let _width = rows.width();
     let mut out = Rows::new(alloc, columns_of_both(items.len(), 0)?);
     for row in rows.as_slice() {
-        push_part_values(alloc, tools, doc, row, place, items, &mut out)?;
+        push_part_values(alloc, tools, doc, row, number, items, &mut out)?;
     }
     Ok(out)
 }
 
-/// Puts the values of expressions for the row without its place after the others, where that is the place.
+/// Puts the values of expressions for the row without its dictionary's number after the others, where
+/// that is the number.
 fn push_part_values<'d>(
     alloc: Global,
     tools: &mut Tools<'_>,
     doc: &Document<'d>,
     row: &Row<'d>,
-    place: u32,
+    number: u32,
     items: &'d [Expr],
     into: &mut Rows<'d>,
 ) -> Result<(), OutOfMemory>
     requires in_document { All (IsOfDocument doc.now) row.now }
     requires room { 2 ≤ length row.now }
     requires width { length items.now ≡ into.old.width }
-    ensures rows { OnOk result (into.new ≡ record { width = into.old.width; rows = into.old.rows ++ map (row_of tools.old doc.now (map term_of items.now)) (part_of place (row.now ∷ [])) }) }
+    ensures rows { OnOk result (into.new ≡ record { width = into.old.width; rows = into.old.rows ++ map (row_of tools.old doc.now (map term_of items.now)) (part_of number (row.now ∷ [])) }) }
     ensures lies { RowsLieIn doc.now into.old.rows → OnOk result (RowsLieIn doc.now into.new.rows) }
     ensures same { tools.new ≡ tools.old }
 {
-    if row.get(row.len() - 2) == Value::Int(i64::from(place)) {
+    if row.get(row.len() - 2) == Value::Int(i64::from(number)) {
         let part = unmarked(alloc, row)?;
         into.push(values_for(alloc, tools, doc, &part, items)?)?;
     }

@@ -29,8 +29,8 @@ pub(crate) fn source_of(nodes: &Nodes, n: u32, board: &[Option<Rows<'_>>], reade
     let node = nodes.get(n);
     match node.inputs() {
         (Some(input), _) => {
-            let place = input as usize;
-            if readers[place] == 1 && board[place].is_none() && does_pass(nodes.get(input), node) {
+            let index = input as usize;
+            if readers[index] == 1 && board[index].is_none() && does_pass(nodes.get(input), node) {
                 input
             } else {
                 n
@@ -63,9 +63,9 @@ fn is_empty(board: &[Option<Rows<'_>>], n: u32) -> bool
     ensures yes { IsTrue result → IsEmptyOn board.now n }
     ensures no { IsFalse result → IsEmptyOn board.now n → ⊥ }
 {
-    let place = n as usize;
-    if place < board.len() {
-        match &board[place] {
+    let index = n as usize;
+    if index < board.len() {
+        match &board[index] {
             Some(rows) => rows.len() == 0,
             None => false,
         }
@@ -177,10 +177,10 @@ fn given_up<'d>(
 {
     match input {
         Some(i) => {
-            let place = i as usize;
-            readers[place] -= 1;
-            if readers[place] == 0 && !is_node(other, i) {
-                board[place].take()
+            let index = i as usize;
+            readers[index] -= 1;
+            if readers[index] == 0 && !is_node(other, i) {
+                board[index].take()
             } else {
                 None
             }

@@ -9,7 +9,7 @@ ghost use Rattle.plan_operators.specs.Given.{input_rows, MayRead};
 use crate::Input;
 use crate::consolidation::consolidate;
 use crate::cross::cross;
-use crate::dict::with_places;
+use crate::dict::with_numbers;
 use crate::dict_part::part_of;
 use crate::extract::with_found;
 use crate::minus::difference;
@@ -80,7 +80,7 @@ pub fn apply<'d>(
             with_found(alloc, tools, doc, left.rows(), search)
         }
         Node::Dict { column, dicts, .. } => {
-            with_places(alloc, tools, doc, left.rows(), *column, dicts.as_slice())
+            with_numbers(alloc, tools, doc, left.rows(), *column, dicts.as_slice())
         }
         Node::DictPart { place, .. } => part_of(alloc, left.rows(), *place),
         Node::Blocks {

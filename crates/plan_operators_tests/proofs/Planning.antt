@@ -31,7 +31,7 @@ may_stand nodes node left right left_below right_below left_is right_is made = r
   made = subst (λ (s : Shape). IsMade node s (of_input no_shape (shapes_of nodes) (right_input node))) left_is (subst (λ (t : Shape). IsMade node left t) right_is made);
 }
 
--- an output may show a node that is there, without places, with a name for each column
+-- an output may show a node that is there, without numbers of dictionaries, with a name for each column
 pub may_show : (nodes : List Node) (out : PlanOut) (shape : Shape) → out.node < length nodes → shape ≡ slice_index_or (shapes_of nodes) out.node no_shape → IsOpen shape
     → length out.names.columns ≡ shape.width → IsOutput (shapes_of nodes) out
 may_show nodes out shape there is opened columns = record {
@@ -49,6 +49,6 @@ are_outputs nodes outs names each are distinct = record { each = each; distinct 
 pub document_is : (shape : Shape) → shape.form ≡ Document → shape.width ≡ 1 → shape ≡ document_shape
 document_is shape form wide = ap₂ (λ (w : ℕ) (f : Form). let made : Shape = record { width = w; form = f } in made) wide form
 
--- one of the places of a shape
-pub place_is : (shape : Shape) (places place : ℕ) → shape.form ≡ Marked places → place < places → 2 ≤ shape.width → HasDictNumber shape place
-place_is shape places place form below room = record { listed = subst (λ (f : Form). HasDictNumberForm f place) (sym form) below; room = room }
+-- one of the numbers of a shape
+pub number_is : (shape : Shape) (count number : ℕ) → shape.form ≡ Marked count → number < count → 2 ≤ shape.width → HasDictNumber shape number
+number_is shape count number form below room = record { listed = subst (λ (f : Form). HasDictNumberForm f number) (sym form) below; room = room }

@@ -225,8 +225,14 @@ fn dictionaries(alloc: Global) -> Result<Plan, Fail> {
             dicts,
         },
     )?;
-    for place in 0..4 {
-        put(&mut nodes, Node::DictPart { input: 1, place })?;
+    for number in 0..4 {
+        put(
+            &mut nodes,
+            Node::DictPart {
+                input: 1,
+                place: number,
+            },
+        )?;
     }
     showing(alloc, nodes, tables_of(alloc)?, &[2, 3, 4, 5])
 }

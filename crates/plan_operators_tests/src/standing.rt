@@ -61,7 +61,7 @@ fn may_read(node: &Node, left: Shape, right: Shape) -> bool
         Node::Doc => true,
         Node::Regex { column, .. } => is_open(left) && *column < left.width,
         Node::Dict { column, .. } => is_open(left) && *column < left.width,
-        Node::DictPart { place, .. } => has_place(left, *place),
+        Node::DictPart { place, .. } => has_number(left, *place),
         Node::Select { conds, .. } => is_open(left) && read_below(conds, left.width),
         Node::Project { items, .. } => is_open(left) && read_below(items, left.width),
         Node::Cross { .. } => is_open(left) && is_open(right),
@@ -97,12 +97,12 @@ fn is_document(shape: Shape) -> bool
     }
 }
 
-#[tactic(auto, using(crate::proofs::Planning::place_is))]
-fn has_place(shape: Shape, place: u32) -> bool
-    ensures { IsTrue result → HasDictNumber shape place }
+#[tactic(auto, using(crate::proofs::Planning::number_is))]
+fn has_number(shape: Shape, number: u32) -> bool
+    ensures { IsTrue result → HasDictNumber shape number }
 {
     match shape.form {
-        Form::Marked(places) => place < places && 2 <= shape.width,
+        Form::Marked(count) => number < count && 2 <= shape.width,
         Form::Document | Form::Plain => false,
     }
 }

@@ -7,31 +7,31 @@ use Rattle.dict_match.specs.declared.walk.DictMatch.{DictMatch}
 use Rattle.dict_match.specs.Rows.{dict_and_extent}
 use Rattle.row_values.specs.Datums.{Datum, IsOfDocument}
 use Rattle.row_values.specs.Rows.{RowList, RowsLieIn, span_in}
-use Rattle.plan_operators.specs.Places.{placed_rows}
-use Rattle.plan_operators.proofs.Placing.{placed-marked, none-marked, placed-lies}
+use Rattle.plan_operators.specs.DictNumbers.{numbered_rows}
+use Rattle.plan_operators.proofs.DictNumbering.{numbered-marked, none-marked, numbered-lies}
 use Rattle.plan_operators.proofs.dict.push_matches.Goals as goal
 
-pub returns-in_ok-push_places-in-Some-clause-rows : goal.returns-in_ok-push_places-in-Some-clause-rows
-returns-in_ok-push_places-in-Some-clause-rows c =
+pub returns-in_ok-push_dicts-in-Some-clause-rows : goal.returns-in_ok-push_dicts-in-Some-clause-rows
+returns-in_ok-push_dicts-in-Some-clause-rows c =
     let row = c.args.row.now in
     let dicts = c.args.dicts.now in
     let found = map dict_and_extent c.find_dict_matches.new.into.items in
     let in_column : span_in c.args.column row ≡ Some (extent_of c.in-Some.source) = sym c.source_in.ensures.source ∙ ap (option_map extent_of) c.in-Some.is in
-    c.in_ok-push_places-in-Some.ensures
-    ∙ (ap (λ (ms : List DictMatch). record { width = c.args.into.now.width; rows = c.args.into.now.rows ++ placed_rows row (map dict_and_extent ms) dicts }) c.as_slice.ensures.value
+    c.in_ok-push_dicts-in-Some.ensures
+    ∙ (ap (λ (ms : List DictMatch). record { width = c.args.into.now.width; rows = c.args.into.now.rows ++ numbered_rows row (map dict_and_extent ms) dicts }) c.as_slice.ensures.value
     ∙ ap (λ (rows : List (List Datum)). record { width = c.args.into.now.width; rows = c.args.into.now.rows ++ rows })
-    (placed-marked c.args.tools.now c.args.doc.now c.args.column dicts row (extent_of c.in-Some.source) found in_column c.in_ok-find_dict_matches-in-Some.ensures.matches))
+    (numbered-marked c.args.tools.now c.args.doc.now c.args.column dicts row (extent_of c.in-Some.source) found in_column c.in_ok-find_dict_matches-in-Some.ensures.matches))
 
-pub returns-in_ok-push_places-in-Some-clause-lies : goal.returns-in_ok-push_places-in-Some-clause-lies
-returns-in_ok-push_places-in-Some-clause-lies c = λ old.
+pub returns-in_ok-push_dicts-in-Some-clause-lies : goal.returns-in_ok-push_dicts-in-Some-clause-lies
+returns-in_ok-push_dicts-in-Some-clause-lies c = λ old.
     let row = c.args.row.now in
     let doc = c.args.doc.now in
     let dicts = c.args.dicts.now in
     let found = map dict_and_extent c.as_slice.result.now in
     let inside = subst (λ (ms : List DictMatch). All (λ (m : ℕ × Extent). Rattle.span_token.specs.Relations.ContainsExtent (extent_of c.in-Some.source) m.1) (map dict_and_extent ms)) (sym c.as_slice.ensures.value) c.in_ok-find_dict_matches-in-Some.ensures.within in
-    subst (λ (list : RowList). RowsLieIn doc list.rows) (sym c.in_ok-push_places-in-Some.ensures)
-    (All-append (All (IsOfDocument doc)) c.args.into.now.rows (placed_rows row found dicts) old
-    (placed-lies doc row (extent_of c.in-Some.source) c.requires.in_document (search rules) found inside dicts))
+    subst (λ (list : RowList). RowsLieIn doc list.rows) (sym c.in_ok-push_dicts-in-Some.ensures)
+    (All-append (All (IsOfDocument doc)) c.args.into.now.rows (numbered_rows row found dicts) old
+    (numbered-lies doc row (extent_of c.in-Some.source) c.requires.in_document (search rules) found inside dicts))
 
 pub returns-in-None-clause-rows : goal.returns-in-None-clause-rows
 returns-in-None-clause-rows c =

@@ -1,4 +1,4 @@
-use Rattle.plan_operators.proofs.Placing.{unmarked-is}
+use Rattle.plan_operators.proofs.DictNumbering.{unmarked-is}
 use Rattle.plan_operators.proofs.dict_part.unmarked.Goals as goal
 
 pub returns : goal.returns

@@ -2,7 +2,7 @@ use Rattle.std.proofs.Common.{◌≡◌, ◌+◌, take}
 use Rattle.std.specs.List.{flat_map}
 use Rattle.row_values.specs.Rows.{RowsLieIn}
 use Rattle.algebra.specs.Operators.{marked_in}
-use Rattle.plan_operators.proofs.dict.with_places.Given as goal
+use Rattle.plan_operators.proofs.dict.with_numbers.Given as goal
 
 abbrev pub invariant-loop-row : goal.invariant-loop-row
 invariant-loop-row l = record {

@@ -2,7 +2,7 @@ use Rattle.std.proofs.Common.{rules, ◌≡◌, length, arith}
 use Rattle.std.specs.List.{All}
 use Rattle.row_values.specs.Datums.{IsOfDocument}
 use Rattle.row_operators.specs.Passes.{holds-at}
-use Rattle.plan_operators.proofs.dict.with_places.Goals as goal
+use Rattle.plan_operators.proofs.dict.with_numbers.Goals as goal
 
 pub push_matches-requires : goal.push_matches-requires
 push_matches-requires c =
