@@ -190,7 +190,7 @@ module _ (order : List ℕ) (old new : List Node) (to : List ℕ) (so_far : IsAr
       numbered = λ k j at. elim (front_or_last order i k j at) [
         | inl h ↦ number_stays j (contains_at order k j h.at) ∙ so_far.numbered k j h.at
         | inr h ↦
-            ap (new_number later_to) h.is ∙ (number_here ∙ (last ∙ (so_far.long ∙ sym h.place)))
+            ap (new_number later_to) h.is ∙ (number_here ∙ (last ∙ (so_far.long ∙ sym h.index)))
       ];
     }
       where

@@ -7,7 +7,7 @@ use Rattle.algebra.specs.declared.node.Node.{Node}
 use Rattle.algebra.specs.declared.node.Node.TheVariants.{Doc, Dict, DictPart}
 use Rattle.share_plan.specs.declared.kind.Kind.TheVariants.{Plain}
 use Rattle.share_plan.specs.Kinds.{kind_of}
-use Rattle.share_plan.specs.Placing.{Extends, IsPlaced}
+use Rattle.share_plan.specs.Putting.{Extends, IsFoundOrPut}
 use Rattle.share_plan.proofs.Finding.{there_in_front, there_set_other, there_set_same}
 use Rattle.share_plan.proofs.KindLaws.{plain-source, plain-part}
 
@@ -72,7 +72,7 @@ whether k m = elim (cases_lt k m) [
   ]
 ]
 
--- a `Dict` node takes the place of another
+-- a `Dict` node stands where another stood
 pub extends-set : (nodes : List Node) (m i c : ℕ) (dicts more : List ℕ) → slice_get nodes m ≡ Some (Dict i c dicts) → Extends nodes (set nodes m (Dict i c more))
 extends-set nodes m i c dicts more at =
     let there : m < length nodes = slice_get_within nodes m (Dict i c dicts) at in
@@ -93,20 +93,20 @@ extends-set nodes m i c dicts more at =
     }
 
 -- a dictionary more, with its part
-pub extends-part : (nodes wide last : List Node) (m i c d place : ℕ) (dicts : List ℕ) → slice_get nodes m ≡ Some (Dict i c dicts) → wide ≡ set nodes m (Dict i c (dicts ++ d ∷ []))
-    → last ≡ wide ++ DictPart m place ∷ [] → Extends nodes last
-extends-part nodes wide last m i c d place dicts at is_wide is_last =
-    subst (λ (list : List Node). Extends nodes list) (sym (is_last ∙ ap (λ (list : List Node). list ++ DictPart m place ∷ []) is_wide))
-    (extends-trans nodes (set nodes m (Dict i c (dicts ++ d ∷ []))) (set nodes m (Dict i c (dicts ++ d ∷ [])) ++ DictPart m place ∷ [])
+pub extends-part : (nodes wide last : List Node) (m i c d number : ℕ) (dicts : List ℕ) → slice_get nodes m ≡ Some (Dict i c dicts) → wide ≡ set nodes m (Dict i c (dicts ++ d ∷ []))
+    → last ≡ wide ++ DictPart m number ∷ [] → Extends nodes last
+extends-part nodes wide last m i c d number dicts at is_wide is_last =
+    subst (λ (list : List Node). Extends nodes list) (sym (is_last ∙ ap (λ (list : List Node). list ++ DictPart m number ∷ []) is_wide))
+    (extends-trans nodes (set nodes m (Dict i c (dicts ++ d ∷ []))) (set nodes m (Dict i c (dicts ++ d ∷ [])) ++ DictPart m number ∷ [])
     (extends-set nodes m i c dicts (dicts ++ d ∷ []) at)
-    (extends-push (set nodes m (Dict i c (dicts ++ d ∷ []))) (DictPart m place) (not_plain_part m place)))
+    (extends-push (set nodes m (Dict i c (dicts ++ d ∷ []))) (DictPart m number) (not_plain_part m number)))
 
 -- a node that was there, and one that is put behind the others
-pub placed-there : (nodes : List Node) (n : ℕ) (node : Node) → slice_get nodes n ≡ Some node → IsPlaced nodes nodes n node
-placed-there nodes n node at = record { put = inl refl; at = at }
+pub found-there : (nodes : List Node) (n : ℕ) (node : Node) → slice_get nodes n ≡ Some node → IsFoundOrPut nodes nodes n node
+found-there nodes n node at = record { put = inl refl; at = at }
 
-pub placed-last : (nodes new : List Node) (n : ℕ) (node : Node) → new ≡ nodes ++ node ∷ [] → n ≡ length nodes → IsPlaced nodes new n node
-placed-last nodes new n node is number = record {
+pub put-last : (nodes new : List Node) (n : ℕ) (node : Node) → new ≡ nodes ++ node ∷ [] → n ≡ length nodes → IsFoundOrPut nodes new n node
+put-last nodes new n node is number = record {
   put = inr (is, number);
   at = ap (λ (list : List Node). slice_get list n) is ∙ (ap (λ (k : ℕ). slice_get (nodes ++ node ∷ []) k) number ∙ at_last nodes node);
 }

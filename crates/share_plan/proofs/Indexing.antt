@@ -18,7 +18,7 @@ use Rattle.share_plan.specs.declared.kind.Kind.{Kind}
 use Rattle.share_plan.specs.declared.kind.Kind.TheVariants.{Source, Part, Plain}
 use Rattle.share_plan.specs.Indexes.{dict_at, found_as, found_by, keys_of, Key, IsInserted, IsIndex}
 use Rattle.share_plan.specs.Kinds.{kind_of}
-use Rattle.share_plan.specs.Placing.{Keeps}
+use Rattle.share_plan.specs.Putting.{Keeps}
 use Rattle.share_plan.specs.Sharing.{AreDistinct, AreMerged}
 use Rattle.share_plan.specs.Words.{node_words}
 use Rattle.share_plan.proofs.Finding.{items_of, key_stands, keys_stay, there_in_front, there_set_other, there_set_same}
@@ -58,12 +58,12 @@ module _ (nodes : List Node) (keys : List Key) (index : IsIndex nodes keys) wher
 
 abbrev input_in : Node → ℕ
 input_in (Dict input column dicts) = input
-input_in (DictPart input place) = input
+input_in (DictPart input number) = input
 input_in node = 0
 
 abbrev second_in : Node → ℕ
 second_in (Dict input column dicts) = column
-second_in (DictPart input place) = place
+second_in (DictPart input number) = number
 second_in node = 0
 
 module _ (nodes : List Node) (x : Node) where
@@ -114,11 +114,11 @@ module _ (nodes : List Node) (x : Node) where
             ap (λ (a : ℕ). dict_at (slice_get nodes a) p) (sym (ap input_in found)) ∙ ap second_in found,
           )
 
--- a part's place is listed by its `Dict` node
-pub place_listed : (nodes : List Node) (m n i c place : ℕ) (dicts : List ℕ) → IsPlan nodes → slice_get nodes m ≡ Some (Dict i c dicts) → slice_get nodes n ≡ Some (DictPart m place) → place < length dicts
-place_listed nodes m n i c place dicts plan is at =
-    let valid : IsNode (shapes_of nodes) (DictPart m place) = (is-at nodes n (DictPart m place) plan (slice_get_within nodes n (DictPart m place) at) (is_node nodes n (DictPart m place) at)).valid in
-    subst (λ (s : Shape). HasDictNumberForm s.form place) (dict_shape nodes plan m i c dicts is) valid.made.listed
+-- a part's number is listed by its `Dict` node
+pub number_listed : (nodes : List Node) (m n i c number : ℕ) (dicts : List ℕ) → IsPlan nodes → slice_get nodes m ≡ Some (Dict i c dicts) → slice_get nodes n ≡ Some (DictPart m number) → number < length dicts
+number_listed nodes m n i c number dicts plan is at =
+    let valid : IsNode (shapes_of nodes) (DictPart m number) = (is-at nodes n (DictPart m number) plan (slice_get_within nodes n (DictPart m number) at) (is_node nodes n (DictPart m number) at)).valid in
+    subst (λ (s : Shape). HasDictNumberForm s.form number) (dict_shape nodes plan m i c dicts is) valid.made.listed
 
 module _ (nodes : List Node) (keys later : List Key) (key : Key) (n : ℕ) (is_new : Bool) (index : IsIndex nodes keys) (put : IsInserted keys later key n is_new) (old : is_new ≡ false) where
   abbrev x : Node
@@ -156,11 +156,11 @@ module _ (nodes : List Node) (keys later : List Key) (key : Key) (n : ℕ) (is_n
 
   -- a part of the dictionary
   pub part-there : (m i c d : ℕ) (dicts : List ℕ) → key.items ≡ node_words (DictPart m d) → slice_get nodes m ≡ Some (Dict i c dicts)
-      → (place : ℕ) × (slice_get nodes n ≡ Some (DictPart m place)) × (slice_get dicts place ≡ Some d)
+      → (number : ℕ) × (slice_get nodes n ≡ Some (DictPart m number)) × (slice_get dicts number ≡ Some d)
   part-there m i c d dicts are at =
       let is = part_told nodes x m d (words-told (found_by nodes x) (DictPart m d) (x_key ∙ are)) in
       let part : slice_get nodes n ≡ Some (DictPart m is.0) = x_stands ∙ ap (λ (node : Node). Some node) is.1 in
-      let listed : is.0 < length dicts = place_listed nodes m n i c is.0 dicts index.plan at part in
+      let listed : is.0 < length dicts = number_listed nodes m n i c is.0 dicts index.plan at part in
       let same : get_or dicts is.0 0 ≡ d = sym (ap (λ (o : Option Node). dict_at o is.0) at) ∙ is.2 in
       (is.0, part, slice_get-get_or dicts is.0 0 listed ∙ ap (λ (e : ℕ). Some e) same)
 
@@ -267,11 +267,11 @@ module _ (nodes : List Node) (keys : List Key) (index : IsIndex nodes keys) (m i
     ]
   ]
 
-  -- what is listed at a place that was there
+  -- what is listed at a number that was there
   dicts_same : (k : ℕ) → k < length nodes → (p n : ℕ) → slice_get nodes n ≡ Some (DictPart k p) → dict_at (slice_get wider k) p ≡ dict_at (slice_get nodes k) p
   dicts_same k below p n part = elim (whether k) [
     | inl e ↦
-        let listed : p < length dicts = place_listed nodes m n i c p dicts index.plan at (subst (λ (a : ℕ). slice_get nodes n ≡ Some (DictPart a p)) e part) in
+        let listed : p < length dicts = number_listed nodes m n i c p dicts index.plan at (subst (λ (a : ℕ). slice_get nodes n ≡ Some (DictPart a p)) e part) in
         ap (λ (a : ℕ). dict_at (slice_get wider a) p) e
         ∙ (ap (λ (o : Option Node). dict_at o p) wider-at
         ∙ (get_or_append_left dicts (d ∷ []) 0 p listed

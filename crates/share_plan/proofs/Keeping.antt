@@ -370,7 +370,7 @@ module _ (plan : Parts) (new : List Node) (order to : List ℕ) (marks : List Bo
         let named : sight j ≡ moved.number j = subst (λ (o : Option ℕ). IfSome o (λ k. sight k ≡ moved.number k)) e moved.right in
         ap right_input moved.same ∙ (right-renamed moved.number before ∙ (ap (option_map moved.number) e ∙ ap (λ (k : ℕ). Some k) (sym named)))
 
-    -- what stands before place n has a lower number
+    -- what stands before index n has a lower number
     sight_before : (l : ℕ) → Contains (take n order) l → sight l < n
     sight_before l c = let t = taken_at order n l c in omega (arith, t.1, arranged.numbered t.0 l t.2)
 

@@ -14,7 +14,7 @@ use Rattle.share_plan.specs.Kinds.{kind_of}
 -- what a node of a kind is
 abbrev pub IsOfKind : Kind → Node → Type 0
 IsOfKind Source node = (input column : ℕ) × (dicts : List ℕ) × (node ≡ Dict input column dicts)
-IsOfKind (Part input place) node = node ≡ DictPart input place
+IsOfKind (Part input number) node = node ≡ DictPart input number
 IsOfKind Plain node = Unit {0}
 
 of_kind : (node : Node) → IsOfKind (kind_of node) node
@@ -40,7 +40,7 @@ is_of_kind node kind e = subst (λ (k : Kind). IsOfKind k node) e (of_kind node)
 
 -- with other numbers of inputs it is of the same kind
 abbrev pub renamed_kind : (ℕ → ℕ) → Kind → Kind
-renamed_kind to (Part input place) = Part (to input) place
+renamed_kind to (Part input number) = Part (to input) number
 renamed_kind to kind = kind
 
 pub kind-renamed : (to : ℕ → ℕ) (node : Node) → kind_of (with_inputs to node) ≡ renamed_kind to (kind_of node)
@@ -61,28 +61,28 @@ kind-renamed to (Consolidate i policy target) = refl
 kind-renamed to (Group i keys aggs) = refl
 kind-renamed to (OrderLimit i keys limit) = refl
 
--- only a `Dict` node has places
-module _ (s t : Shape) (place : ℕ) where
+-- only a `Dict` node has numbers of dictionaries
+module _ (s t : Shape) (number : ℕ) where
   abbrev IsListed : Node → Type 0
-  IsListed node = (input column : ℕ) × (dicts : List ℕ) × (node ≡ Dict input column dicts) × (place < length dicts)
+  IsListed node = (input column : ℕ) × (dicts : List ℕ) × (node ≡ Dict input column dicts) × (number < length dicts)
 
-  pub has_places : (node : Node) → HasDictNumberForm (shape_by node s t).form place → IsListed node
-  has_places Doc listed = absurd listed
-  has_places (Regex i c p groups) listed = absurd listed
-  has_places (TokenRegex i c l h p groups) listed = absurd listed
-  has_places (Dict i c dicts) listed = (i, c, dicts, refl, listed)
-  has_places (DictPart i p) listed = absurd listed
-  has_places (Blocks i c l h from upto tokens) listed = absurd listed
-  has_places (Select i conds) listed = absurd listed
-  has_places (Project i items) listed = absurd listed
-  has_places (Cross l r conditional) listed = absurd listed
-  has_places (SpanJoin l r join lc rc conditional) listed = absurd listed
-  has_places (Restricted o s join lc part) listed = absurd listed
-  has_places (Union l r) listed = absurd listed
-  has_places (Minus l r) listed = absurd listed
-  has_places (Consolidate i policy target) listed = absurd listed
-  has_places (Group i keys aggs) listed = absurd listed
-  has_places (OrderLimit i keys limit) listed = absurd listed
+  pub has_numbers : (node : Node) → HasDictNumberForm (shape_by node s t).form number → IsListed node
+  has_numbers Doc listed = absurd listed
+  has_numbers (Regex i c p groups) listed = absurd listed
+  has_numbers (TokenRegex i c l h p groups) listed = absurd listed
+  has_numbers (Dict i c dicts) listed = (i, c, dicts, refl, listed)
+  has_numbers (DictPart i p) listed = absurd listed
+  has_numbers (Blocks i c l h from upto tokens) listed = absurd listed
+  has_numbers (Select i conds) listed = absurd listed
+  has_numbers (Project i items) listed = absurd listed
+  has_numbers (Cross l r conditional) listed = absurd listed
+  has_numbers (SpanJoin l r join lc rc conditional) listed = absurd listed
+  has_numbers (Restricted o s join lc part) listed = absurd listed
+  has_numbers (Union l r) listed = absurd listed
+  has_numbers (Minus l r) listed = absurd listed
+  has_numbers (Consolidate i policy target) listed = absurd listed
+  has_numbers (Group i keys aggs) listed = absurd listed
+  has_numbers (OrderLimit i keys limit) listed = absurd listed
 
 -- no kind is another
 abbrev IsPlain : Kind → Type 0
@@ -109,7 +109,7 @@ open_shape node plain s t = tt
 
 -- every node but a part reads rows that any node may read
 abbrev pub HasOpenInputs : List Shape → Kind → Node → Type 0
-HasOpenInputs shapes (Part input place) node = Unit {0}
+HasOpenInputs shapes (Part input number) node = Unit {0}
 HasOpenInputs shapes kind node = KeepsInputs (λ i. IsOpen (get_or shapes i no_shape)) node
 
 module _ (shapes : List Shape) where

@@ -17,7 +17,7 @@ use Rattle.algebra.specs.Shapes.{shape_by, no_shape, shapes_of, IsOpen, IsOpenFo
 use Rattle.share_plan.specs.declared.kind.Kind.TheVariants.{Source, Plain}
 use Rattle.share_plan.specs.Kinds.{kind_of}
 use Rattle.share_plan.specs.Marks.{IsMovedBy}
-use Rattle.share_plan.specs.Placing.{IsOpenAt}
+use Rattle.share_plan.specs.Putting.{IsOpenAt}
 use Rattle.share_plan.specs.Renumbering.{IsPart, IsPlain, IsMoved, IsRenumbered}
 use Rattle.share_plan.proofs.Extending.{front_or_last}
 use Rattle.share_plan.proofs.KindLaws.{open_inputs}
@@ -112,7 +112,7 @@ module _ (Kept : ℕ → Type 0) (old new : List Node) (to : List ℕ) (plan : I
 
 abbrev numbered : Form → ℕ → Option ℕ
 numbered Document n = Some n
-numbered (Marked places) n = None
+numbered (Marked count) n = None
 numbered Unmarked n = Some n
 
 abbrev number_of : Option Shape → ℕ → Option ℕ
@@ -124,7 +124,7 @@ number_told Document n m e = (tt, some_number n m e)
   where
     some_number : (a b : ℕ) → Some a ≡ Some b → a ≡ b
     some_number a b e = cc
-number_told (Marked places) n m e = absurd (none_some m e)
+number_told (Marked count) n m e = absurd (none_some m e)
   where
     none_some : (b : ℕ) → None ≡ Some b → ⊥
     none_some b e = cc
@@ -135,7 +135,7 @@ number_told Unmarked n m e = (tt, some_number n m e)
 
 number_given : (form : Form) (n : ℕ) → IsOpenForm form → numbered form n ≡ Some n
 number_given Document n opens = refl
-number_given (Marked places) n opens = absurd opens
+number_given (Marked count) n opens = absurd opens
 number_given Unmarked n opens = refl
 
 module _ (old new : List Node) (to : List ℕ) (plan : IsPlan old) (mapped : IsMapped (IsOpenAt old) old new to) (moved : AreMoved (IsOpenAt old) old new to) (from : ComeFrom (IsOpenAt old) new to) where

@@ -97,7 +97,7 @@ aggs-read (Sum n ∷ aggs) = ap (λ (rest : List Agg). Sum n ∷ rest) (aggs-rea
 aggs-read (Min n ∷ aggs) = ap (λ (rest : List Agg). Min n ∷ rest) (aggs-read aggs)
 aggs-read (Max n ∷ aggs) = ap (λ (rest : List Agg). Max n ∷ rest) (aggs-read aggs)
 
--- ---- nodes, each from the numbers behind its place in the table
+-- ---- nodes, each from the numbers behind its number in the table
 
 abbrev regex_in : List ℤ → Node
 regex_in (i ∷ c ∷ p ∷ words) = Regex (nat_of i) (nat_of c) (nat_of p) (numbers words)

@@ -21,7 +21,7 @@ use Rattle.algebra.specs.Nodes.{IsPlan}
 use Rattle.algebra.specs.Operators.{op, with_found}
 use Rattle.algebra.specs.Shapes.{columns, shape_by, no_shape, shapes_of, IsOpen}
 use Rattle.algebra.specs.Values.{val, value_after}
-use Rattle.share_plan.specs.Placing.{IsOpenAt, Keeps, IsFound}
+use Rattle.share_plan.specs.Putting.{IsOpenAt, Keeps, IsFound}
 
 -- a node that is there
 pub is_node : (nodes : List Node) (n : ℕ) (node : Node) → slice_get nodes n ≡ Some node → node ≡ get_or nodes n node
@@ -41,34 +41,34 @@ module _ (nodes : List Node) (plan : IsPlan nodes) (m input column : ℕ) (dicts
   pub dict_rows : (lists : Lists) (doc : Doc) → val lists doc nodes m ≡ op lists doc (Dict input column dicts) (val lists doc nodes input) []
   dict_rows lists doc = val-is lists doc nodes m (Dict input column dicts) plan m_below (is_node nodes m (Dict input column dicts) is)
 
-  module _ (place d : ℕ) (listed : slice_get dicts place ≡ Some d) where
+  module _ (number d : ℕ) (listed : slice_get dicts number ≡ Some d) where
     part_width : columns ((get_or (shapes_of nodes) m no_shape).width - 1) ≡ columns (width_at nodes input + 1)
     part_width = ap (λ (s : Shape). columns (s.width - 1)) dict_shape ∙ ap (λ (n : ℕ). columns n) (two_less (width_at nodes input))
       where
         two_less : (n : ℕ) → n + 2 - 1 ≡ n + 1
         two_less n = omega arith
 
-    part_rows : (lists : Lists) (doc : Doc) → op lists doc (DictPart m place) (val lists doc nodes m) [] ≡ with_found lists doc (dict column d) (val lists doc nodes input)
+    part_rows : (lists : Lists) (doc : Doc) → op lists doc (DictPart m number) (val lists doc nodes m) [] ≡ with_found lists doc (dict column d) (val lists doc nodes input)
     part_rows lists doc =
-        ap (λ (rows : Rows). op lists doc (DictPart m place) rows []) (dict_rows lists doc)
-        ∙ dict_part lists doc input column dicts m place d (val lists doc nodes input) [] [] (slice_get_within dicts place d listed) listed
+        ap (λ (rows : Rows). op lists doc (DictPart m number) rows []) (dict_rows lists doc)
+        ∙ dict_part lists doc input column dicts m number d (val lists doc nodes input) [] [] (slice_get_within dicts number d listed) listed
 
     -- a part that would be put behind the nodes has what its dictionary finds
-    pub shape_behind : had no_shape shape_by (shapes_of nodes) (DictPart m place) ≡ columns (width_at nodes input + 1)
+    pub shape_behind : had no_shape shape_by (shapes_of nodes) (DictPart m number) ≡ columns (width_at nodes input + 1)
     shape_behind = part_width
 
-    pub rows_behind : (lists : Lists) (doc : Doc) → value_after lists doc nodes (DictPart m place) ≡ with_found lists doc (dict column d) (val lists doc nodes input)
+    pub rows_behind : (lists : Lists) (doc : Doc) → value_after lists doc nodes (DictPart m number) ≡ with_found lists doc (dict column d) (val lists doc nodes input)
     rows_behind lists doc = part_rows lists doc
 
     -- and so has a part that is there
-    pub part_found : (n : ℕ) → slice_get nodes n ≡ Some (DictPart m place) → IsFound nodes nodes n input column d
+    pub part_found : (n : ℕ) → slice_get nodes n ≡ Some (DictPart m number) → IsFound nodes nodes n input column d
     part_found n at =
-        let below = slice_get_within nodes n (DictPart m place) at in
-        let here = is_node nodes n (DictPart m place) at in
+        let below = slice_get_within nodes n (DictPart m number) at in
+        let here = is_node nodes n (DictPart m number) at in
         record {
           there = below;
-          shaped = (is-at nodes n (DictPart m place) plan below here).stands.has.shaped ∙ part_width;
-          same = λ lists doc. SameBag-is _ _ (val-is lists doc nodes n (DictPart m place) plan below here ∙ part_rows lists doc);
+          shaped = (is-at nodes n (DictPart m number) plan below here).stands.has.shaped ∙ part_width;
+          same = λ lists doc. SameBag-is _ _ (val-is lists doc nodes n (DictPart m number) plan below here ∙ part_rows lists doc);
         }
 
 -- ---- nodes that have stayed

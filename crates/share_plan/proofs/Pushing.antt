@@ -47,7 +47,7 @@ call_words old begun given after op ts begins gives ends =
     ∙ (append_assoc old (pos 5 ∷ pos 0 ∷ list_words ts) (op_words op)
     ∙ ap (λ (args : List ℤ). old ++ pos 5 ∷ pos 0 ∷ (args ++ op_words op)) (sym (arguments-are ts)))))
 
--- an operator's bounds, and then its place in the table
+-- an operator's bounds, and then its number in the table
 pub parts_pushed : (old one two after : List ℤ) (tag low high : ℤ) → one ≡ old ++ pos 6 ∷ low ∷ [] → two ≡ one ++ pos 7 ∷ high ∷ [] → after ≡ two ++ pos 8 ∷ tag ∷ []
     → after ≡ old ++ pos 6 ∷ low ∷ pos 7 ∷ high ∷ pos 8 ∷ tag ∷ []
 parts_pushed old one two after tag low high first second third =

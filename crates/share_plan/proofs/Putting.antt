@@ -14,7 +14,7 @@ use Rattle.share_plan.specs.declared.kind.Kind.{Kind}
 use Rattle.share_plan.specs.declared.kind.Kind.TheVariants.{Source, Plain}
 use Rattle.share_plan.specs.Indexes.{dict_at, found_as, found_by, Key, IsInserted, IsIndex}
 use Rattle.share_plan.specs.Kinds.{kind_of}
-use Rattle.share_plan.specs.Placing.{IsOpenAt, Keeps, Extends, IsPartAt, IsDictOf, IsFound}
+use Rattle.share_plan.specs.Putting.{IsOpenAt, Keeps, Extends, IsPartAt, IsDictOf, IsFound}
 use Rattle.share_plan.specs.Words.{node_words}
 use Rattle.share_plan.proofs.Extending.{extends-part}
 use Rattle.share_plan.proofs.Finding.{keys_more, key_apart, key_last, there_in_front}
@@ -77,9 +77,9 @@ pub record IsPartMore (nodes last : List Node) (later : List Key) (n i c d : ℕ
   pub index : IsIndex last later
   pub found : IsFound nodes last n i c d
 
-module _ (nodes : List Node) (keys later : List Key) (key : Key) (n m d place : ℕ) (index : IsIndex nodes keys) (put : IsInserted keys later key n true)
+module _ (nodes : List Node) (keys later : List Key) (key : Key) (n m d number : ℕ) (index : IsIndex nodes keys) (put : IsInserted keys later key n true)
     (are : key.items ≡ node_words (DictPart m d)) (wide last : List Node) (i c : ℕ) (dicts : List ℕ) (at : slice_get nodes m ≡ Some (Dict i c dicts))
-    (place_is : place ≡ length dicts) (wide_is : wide ≡ set nodes m (Dict i c (dicts ++ d ∷ []))) (last_is : last ≡ wide ++ DictPart m place ∷ []) where
+    (number_is : number ≡ length dicts) (wide_is : wide ≡ set nodes m (Dict i c (dicts ++ d ∷ []))) (last_is : last ≡ wide ++ DictPart m number ∷ []) where
   abbrev wider : List Node
   wider = set nodes m (Dict i c (dicts ++ d ∷ []))
 
@@ -124,8 +124,8 @@ module _ (nodes : List Node) (keys later : List Key) (key : Key) (n m d place : 
 
   part_stands : slice_get final n ≡ Some part
   part_stands =
-      let number : n ≡ length wider = last_number wider keys later key n wider_index put in
-      slice_get-get_or final n Doc (omega (arith, number, length-append wider (part ∷ []))) ∙ ap (λ (node : Node). Some node) (get_or_at wider part [] Doc n (sym number))
+      let last_n : n ≡ length wider = last_number wider keys later key n wider_index put in
+      slice_get-get_or final n Doc (omega (arith, last_n, length-append wider (part ∷ []))) ∙ ap (λ (node : Node). Some node) (get_or_at wider part [] Doc n (sym last_n))
 
   final_keeps : Keeps nodes final
   final_keeps =
@@ -144,7 +144,7 @@ module _ (nodes : List Node) (keys later : List Key) (key : Key) (n m d place : 
   pub part-more : IsPartMore nodes last later n i c d
   part-more =
       subst (λ (list : List Node). IsPartMore nodes list later n i c d)
-      (sym (last_is ∙ (ap (λ (all : List Node). all ++ DictPart m place ∷ []) wide_is ∙ ap (λ (p : ℕ). wider ++ DictPart m p ∷ []) place_is)))
+      (sym (last_is ∙ (ap (λ (all : List Node). all ++ DictPart m number ∷ []) wide_is ∙ ap (λ (p : ℕ). wider ++ DictPart m p ∷ []) number_is)))
       final_more
 
 -- a part that is there

@@ -25,11 +25,11 @@ use Rattle.share_plan.specs.declared.kind.Kind.TheVariants.{Source, Part, Plain}
 use Rattle.share_plan.specs.Indexes.{Key, IsIndex}
 use Rattle.share_plan.specs.Kinds.{kind_of}
 use Rattle.share_plan.specs.Renumbering.{IsPart}
-use Rattle.share_plan.specs.Placing.{IsOpenAt, Extends, IsPlaced, IsPartAt, IsFound, HasSource, MayPut, IsPut}
+use Rattle.share_plan.specs.Putting.{IsOpenAt, Extends, IsFoundOrPut, IsPartAt, IsFound, HasSource, MayPut, IsPut}
 use Rattle.share_plan.proofs.Extending.{front_or_last, front_stays}
 use Rattle.share_plan.proofs.Finding.{there_in_front}
 use Rattle.share_plan.proofs.Moving.{AreMoved, ComeFrom, IsLikeAt, moved_itself, moved_later, moved-more, from-more}
-use Rattle.share_plan.proofs.KindLaws.{is_of_kind, renamed_kind, kind-renamed, has_places, plain-source, source-part, open_inputs, open_shape}
+use Rattle.share_plan.proofs.KindLaws.{is_of_kind, renamed_kind, kind-renamed, has_numbers, plain-source, source-part, open_inputs, open_shape}
 use Rattle.share_plan.proofs.Parts.{is_node, width_at, shape_behind, rows_behind, mapped_keeps, mapped_has}
 
 -- each `Dict` node so far waits among the sources, reading the node that stands for its input
@@ -111,7 +111,7 @@ module _ (all yielded nodes sources : List Node) (to : List ℕ) (keys : List Ke
       let at_x : slice_get yielded k ≡ Some x = slice_get-get_or yielded k Doc below in
       let here = is-at yielded k x plan_so_far below (is_node yielded k x at_x) in
       let listed : HasDictNumberForm (had no_shape shape_by (shapes_of yielded) x).form p = subst (λ (s : Shape). HasDictNumberForm s.form p) here.stands.has.shaped part.made.listed in
-      let d = has_places (of_input no_shape (shapes_of yielded) (left_input x)) (of_input no_shape (shapes_of yielded) (right_input x)) p x listed in
+      let d = has_numbers (of_input no_shape (shapes_of yielded) (left_input x)) (of_input no_shape (shapes_of yielded) (right_input x)) p x listed in
       record {
         input = d.0;
         column = d.1;
@@ -225,11 +225,11 @@ module _ (all yielded nodes sources : List Node) (to : List ℕ) (keys : List Ke
         (subst (λ (m : ℕ). IsAmong m (right_input node)) (length-each no_shape shape_by yielded) valid.right_below) in
         subst (λ (sh : Shape). IsOpen sh) (sym (ap (λ (list : List Node). get_or (shapes_of list) (length yielded) no_shape) whole ∙ here)) (open_shape node e _ _)
 
-    plain_moved : kind_of node ≡ Plain → IsPlaced nodes after n (with_inputs look node) → AreMoved Kept (yielded ++ node ∷ []) after (to ++ n ∷ [])
-    plain_moved e placed = moved-more Kept yielded nodes to plan_so_far long node after n shared.moved stay last
+    plain_moved : kind_of node ≡ Plain → IsFoundOrPut nodes after n (with_inputs look node) → AreMoved Kept (yielded ++ node ∷ []) after (to ++ n ∷ [])
+    plain_moved e found_or_put = moved-more Kept yielded nodes to plan_so_far long node after n shared.moved stay last
       where
         stay : (j : ℕ) (x : Node) → slice_get nodes j ≡ Some x → (kind_of x ≡ Source → ⊥) → slice_get after j ≡ Some x
-        stay j x at other = elim placed.put [
+        stay j x at other = elim found_or_put.put [
           | inl same ↦ ap (λ (list : List Node). slice_get list j) same ∙ at
           | inr more ↦ ap (λ (list : List Node). slice_get list j) more.0 ∙ front_stays nodes (with_inputs look node ∷ []) j x at
         ]
@@ -237,7 +237,7 @@ module _ (all yielded nodes sources : List Node) (to : List ℕ) (keys : List Ke
         last : Kept (length yielded) → IsLikeAt after (to ++ n ∷ []) n node
         last kept = (
           with_inputs look node,
-          placed.at,
+          found_or_put.at,
           λ is. plain-source (sym (renamed_plain e) ∙ is),
           inl (
             e,
@@ -247,11 +247,11 @@ module _ (all yielded nodes sources : List Node) (to : List ℕ) (keys : List Ke
           ),
         )
 
-    plain_from : kind_of node ≡ Plain → IsPlaced nodes after n (with_inputs look node) → ComeFrom Kept after (to ++ n ∷ [])
-    plain_from e placed = from-more Kept yielded nodes to plan_so_far long node after n shared.from were
+    plain_from : kind_of node ≡ Plain → IsFoundOrPut nodes after n (with_inputs look node) → ComeFrom Kept after (to ++ n ∷ [])
+    plain_from e found_or_put = from-more Kept yielded nodes to plan_so_far long node after n shared.from were
       where
         were : (j : ℕ) (x : Node) → slice_get after j ≡ Some x → kind_of x ≡ Plain → (slice_get nodes j ≡ Some x) ⊎ ((j ≡ n) × Kept (length yielded))
-        were j x at plain = elim placed.put [
+        were j x at plain = elim found_or_put.put [
           | inl same ↦ inl (ap (λ (list : List Node). slice_get list j) (sym same) ∙ at)
           | inr more ↦ elim (front_or_last nodes (with_inputs look node) j x (ap (λ (list : List Node). slice_get list j) (sym more.0) ∙ at)) [
             | inl h ↦ inl h

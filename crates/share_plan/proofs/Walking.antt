@@ -61,7 +61,7 @@ listed_at xs x c = (c.0, slice_get-get_or xs c.0 x c.1 ∙ ap (λ (n : ℕ). Som
 pub contains_at : (xs : List ℕ) (k x : ℕ) → slice_get xs k ≡ Some x → Contains xs x
 contains_at xs k x at = (k, slice_get_within xs k x at, get_or_from_slice_get xs k x x at)
 
--- what stands before a place
+-- what stands before an index
 pub taken_at : (xs : List ℕ) (n x : ℕ) → Contains (take n xs) x → (k : ℕ) × (k < n) × (slice_get xs k ≡ Some x)
 taken_at xs n x c =
     let below : c.0 < n = omega (arith, c.1, length-take n xs) in
@@ -77,7 +77,7 @@ pub record IsFront (xs : List ℕ) (y k x : ℕ) : Type 0 where
   pub before : take k (xs ++ y ∷ []) ≡ take k xs
 
 pub record IsLast (xs : List ℕ) (y k x : ℕ) : Type 0 where
-  pub place : k ≡ length xs
+  pub index : k ≡ length xs
   pub is : x ≡ y
   pub before : take k (xs ++ y ∷ []) ≡ xs
 
@@ -87,7 +87,7 @@ front_or_last xs y k x at = elim (cases_lt k (length xs)) [
   | inr h ↦
       let last : k ≡ length xs = omega (arith, h, slice_get_within (xs ++ y ∷ []) k x at, length-append xs (y ∷ [])) in
       inr (record {
-        place = last;
+        index = last;
         is = sym (get_or_from_slice_get (xs ++ y ∷ []) k x 0 at) ∙ get_or_at xs y [] 0 k (sym last);
         before = ap (λ (n : ℕ). take n (xs ++ y ∷ [])) last ∙ take-append_seam xs (y ∷ []);
       })

@@ -26,7 +26,7 @@ use Rattle.scalar_ops.specs.Extractions.{of_some}
 use Rattle.share_plan.specs.declared.kind.Kind.{Kind}
 use Rattle.share_plan.specs.declared.kind.Kind.TheVariants.{Source, Part, Plain}
 use Rattle.share_plan.specs.Kinds.{kind_of}
-use Rattle.share_plan.specs.Placing.{Keeps}
+use Rattle.share_plan.specs.Putting.{Keeps}
 use Rattle.share_plan.proofs.KindLaws.{is_of_kind, open_inputs}
 
 -- whether two numbers are one
@@ -39,13 +39,13 @@ either i m = elim (cases_lt i m) [
   ]
 ]
 
--- node m of nodes with these shapes has so many places
-abbrev pub HasPlaces : List Shape → ℕ → ℕ → Type 0
-HasPlaces shapes m places = (get_or shapes m no_shape).form ≡ Marked places
+-- node m of nodes with these shapes has so many dictionaries
+abbrev pub HasDictNumbers : List Shape → ℕ → ℕ → Type 0
+HasDictNumbers shapes m count = (get_or shapes m no_shape).form ≡ Marked count
 
 -- its rows aren't open
-apart_from_open : (shapes : List Shape) (m places i : ℕ) → HasPlaces shapes m places → IsOpen (get_or shapes i no_shape) → i ≡ m → ⊥
-apart_from_open shapes m places i marked opens e = subst IsOpenForm (ap (λ (k : ℕ). (get_or shapes k no_shape).form) e ∙ marked) opens
+apart_from_open : (shapes : List Shape) (m count i : ℕ) → HasDictNumbers shapes m count → IsOpen (get_or shapes i no_shape) → i ≡ m → ⊥
+apart_from_open shapes m count i marked opens e = subst IsOpenForm (ap (λ (k : ℕ). (get_or shapes k no_shape).form) e ∙ marked) opens
 
 -- ---- two lists that are equal but at m, and what nodes have by them
 
@@ -76,12 +76,12 @@ module _ {A : Type 0} (nothing : A) (m : ℕ) (v w : A) where
     ];
   }
 
-module _ {A : Type 0} (nothing : A) (rule : Node → A → A → A) (m : ℕ) (v w : A) (places : ℕ)
-    (parts : (k p : ℕ) (other : A) → p < places → rule (DictPart k p) v other ≡ rule (DictPart k p) w other) where
-  module _ (shapes : List Shape) (all each : List A) (alike : AreAlike nothing m v w all each) (long : length shapes ≡ length all) (marked : HasPlaces shapes m places) where
+module _ {A : Type 0} (nothing : A) (rule : Node → A → A → A) (m : ℕ) (v w : A) (count : ℕ)
+    (parts : (k p : ℕ) (other : A) → p < count → rule (DictPart k p) v other ≡ rule (DictPart k p) w other) where
+  module _ (shapes : List Shape) (all each : List A) (alike : AreAlike nothing m v w all each) (long : length shapes ≡ length all) (marked : HasDictNumbers shapes m count) where
     same_input : (o : Option ℕ) → IsAmong (length shapes) o → IfSome o (λ i. IsOpen (get_or shapes i no_shape)) → of_input nothing each o ≡ of_input nothing all o
     same_input None among opens = refl
-    same_input (Some i) among opens = alike.others i (omega (arith, among, long)) (apart_from_open shapes m places i marked opens)
+    same_input (Some i) among opens = alike.others i (omega (arith, among, long)) (apart_from_open shapes m count i marked opens)
 
     same_by_inputs : (node : Node) → IsNode shapes node → KeepsInputs (λ i. IsOpen (get_or shapes i no_shape)) node → had nothing rule each node ≡ had nothing rule all node
     same_by_inputs node valid opens =
@@ -91,7 +91,7 @@ module _ {A : Type 0} (nothing : A) (rule : Node → A → A → A) (m : ℕ) (v
     same_part k p valid = elim (either k m) [
       | inl e ↦
           let listed : HasDictNumberForm (get_or shapes m no_shape).form p = subst (λ (i : ℕ). HasDictNumberForm (get_or shapes i no_shape).form p) e valid.made.listed in
-          let below : p < places = subst (λ (form : Form). HasDictNumberForm form p) marked listed in
+          let below : p < count = subst (λ (form : Form). HasDictNumberForm form p) marked listed in
           ap (λ (i : ℕ). rule (DictPart k p) (get_or each i nothing) nothing) e
           ∙ (ap (λ (x : A). rule (DictPart k p) x nothing) alike.second
           ∙ (sym (parts k p nothing below)
@@ -111,11 +111,11 @@ module _ {A : Type 0} (nothing : A) (rule : Node → A → A → A) (m : ℕ) (v
             let is : node ≡ DictPart k p = is_of_kind node (Part k p) e in
             subst (λ (n : Node). had nothing rule each n ≡ had nothing rule all n) (sym is) (same_part k p (subst (IsNode shapes) is valid))
 
-  marked_push : (shapes : List Shape) (shape : Shape) → m < length shapes → HasPlaces shapes m places → HasPlaces (shapes ++ shape ∷ []) m places
+  marked_push : (shapes : List Shape) (shape : Shape) → m < length shapes → HasDictNumbers shapes m count → HasDictNumbers (shapes ++ shape ∷ []) m count
   marked_push shapes shape below marked = ap (λ (s : Shape). s.form) (get_or_append_left shapes (shape ∷ []) no_shape m below) ∙ marked
 
   -- and so have all nodes that are put behind
-  pub all_alike : (shapes : List Shape) (all each : List A) (nodes : List Node) → ArePlanned shapes nodes → length shapes ≡ length all → HasPlaces shapes m places → AreAlike nothing m v w all each
+  pub all_alike : (shapes : List Shape) (all each : List A) (nodes : List Node) → ArePlanned shapes nodes → length shapes ≡ length all → HasDictNumbers shapes m count → AreAlike nothing m v w all each
       → AreAlike nothing m v w (all_from nothing rule all nodes) (all_from nothing rule each nodes)
   all_alike shapes all each [] planned long marked alike = alike
   all_alike shapes all each (node ∷ nodes) planned long marked alike =
@@ -129,12 +129,12 @@ module _ {A : Type 0} (nothing : A) (rule : Node → A → A → A) (m : ℕ) (v
 
 -- ---- the shapes, and that the nodes stay a plan
 
-module _ (m : ℕ) (v w : Shape) (places more : ℕ) (most : places ≤ more) (v_marked : v.form ≡ Marked places) (w_marked : w.form ≡ Marked more) (wide : w.width ≡ v.width) where
-  parts_wide : (k p : ℕ) (other : Shape) → p < places → shape_by (DictPart k p) v other ≡ shape_by (DictPart k p) w other
+module _ (m : ℕ) (v w : Shape) (count more : ℕ) (most : count ≤ more) (v_marked : v.form ≡ Marked count) (w_marked : w.form ≡ Marked more) (wide : w.width ≡ v.width) where
+  parts_wide : (k p : ℕ) (other : Shape) → p < count → shape_by (DictPart k p) v other ≡ shape_by (DictPart k p) w other
   parts_wide k p other below = ap (λ (n : ℕ). columns (n - 1)) (sym wide)
 
   module _ (all each : List Shape) (alike : AreAlike no_shape m v w all each) where
-    marked_first : HasPlaces all m places
+    marked_first : HasDictNumbers all m count
     marked_first = ap (λ (s : Shape). s.form) alike.first ∙ v_marked
 
     among_each : (o : Option ℕ) → IsAmong (length all) o → IsAmong (length each) o
@@ -144,8 +144,8 @@ module _ (m : ℕ) (v w : Shape) (places more : ℕ) (most : places ≤ more) (v
         → IsMade node (of_input no_shape each (left_input node)) (of_input no_shape each (right_input node))
     made_by_inputs node valid opens =
         rw (
-          same_input no_shape shape_by m v w places parts_wide all all each alike refl marked_first (left_input node) valid.left_below opens.left,
-          same_input no_shape shape_by m v w places parts_wide all all each alike refl marked_first (right_input node) valid.right_below opens.right,
+          same_input no_shape shape_by m v w count parts_wide all all each alike refl marked_first (left_input node) valid.left_below opens.left,
+          same_input no_shape shape_by m v w count parts_wide all all each alike refl marked_first (right_input node) valid.right_below opens.right,
         ) valid.made
 
     made_part : (k p : ℕ) → IsNode all (DictPart k p) → HasDictNumber (get_or each k no_shape) p
@@ -153,7 +153,7 @@ module _ (m : ℕ) (v w : Shape) (places more : ℕ) (most : places ≤ more) (v
       | inl e ↦
           let made : HasDictNumber (get_or all m no_shape) p = subst (λ (i : ℕ). HasDictNumber (get_or all i no_shape) p) e valid.made in
           let first : HasDictNumber v p = subst (λ (s : Shape). HasDictNumber s p) alike.first made in
-          let below : p < places = subst (λ (form : Form). HasDictNumberForm form p) v_marked first.listed in
+          let below : p < count = subst (λ (form : Form). HasDictNumberForm form p) v_marked first.listed in
           let listed : HasDictNumberForm w.form p = subst (λ (form : Form). HasDictNumberForm form p) (sym w_marked) (omega (arith, below, most)) in
           let here : HasDictNumber w p = record { listed = listed; room = omega (arith, first.room, wide) } in
           subst (λ (i : ℕ). HasDictNumber (get_or each i no_shape) p) (sym e) (subst (λ (s : Shape). HasDictNumber s p) (sym alike.second) here)
@@ -181,11 +181,11 @@ module _ (m : ℕ) (v w : Shape) (places more : ℕ) (most : places ≤ more) (v
   planned_alike : (all each : List Shape) (nodes : List Node) → AreAlike no_shape m v w all each → ArePlanned all nodes → ArePlanned each nodes
   planned_alike all each [] alike planned = tt
   planned_alike all each (node ∷ nodes) alike planned =
-      let marked : HasPlaces all m places = marked_first all each alike in (
+      let marked : HasDictNumbers all m count = marked_first all each alike in (
         valid_each all each alike node planned.0,
         planned_alike (all ++ had no_shape shape_by all node ∷ []) (each ++ had no_shape shape_by each node ∷ []) nodes
             (alike_push no_shape m v w all each (had no_shape shape_by all node) (had no_shape shape_by each node) alike
-            (same_had no_shape shape_by m v w places parts_wide all all each alike refl marked node planned.0)) planned.1,
+            (same_had no_shape shape_by m v w count parts_wide all all each alike refl marked node planned.0)) planned.1,
       )
 
 -- ---- a plan with a dictionary more
@@ -209,8 +209,8 @@ module _ (xs ys : List Node) (input column d : ℕ) (dicts : List ℕ) (plan : I
   abbrev shape_after : Shape
   shape_after = had no_shape shape_by (shapes_of xs) after
 
-  more_places : length dicts ≤ length (dicts ++ d ∷ [])
-  more_places = omega (arith, length-append dicts (d ∷ []))
+  more_dicts : length dicts ≤ length (dicts ++ d ∷ [])
+  more_dicts = omega (arith, length-append dicts (d ∷ []))
 
   -- what stands behind the node may stand behind the other
   planned_behind : (shapes : List Shape) (front : List Node) → ArePlanned shapes (front ++ before ∷ ys)
@@ -219,7 +219,7 @@ module _ (xs ys : List Node) (input column d : ℕ) (dicts : List ℕ) (plan : I
   planned_behind shapes (x ∷ front) planned = planned_behind (shapes ++ had no_shape shape_by shapes x ∷ []) front planned.1
 
   abbrev parts_of_shapes : (k p : ℕ) (other : Shape) → p < length dicts → shape_by (DictPart k p) shape_before other ≡ shape_by (DictPart k p) shape_after other
-  parts_of_shapes = parts_wide (length xs) shape_before shape_after (length dicts) (length (dicts ++ d ∷ [])) more_places refl refl refl
+  parts_of_shapes = parts_wide (length xs) shape_before shape_after (length dicts) (length (dicts ++ d ∷ [])) more_dicts refl refl refl
 
   alike_begin : {A : Type 0} (nothing : A) (rule : Node → A → A → A)
       → AreAlike nothing (length xs) (had nothing rule (all_from nothing rule [] xs) before) (had nothing rule (all_from nothing rule [] xs) after)
@@ -256,7 +256,7 @@ module _ (xs ys : List Node) (input column d : ℕ) (dicts : List ℕ) (plan : I
   behind : ArePlanned shapes_before ys
   behind = planned_behind [] xs plan
 
-  marked_begin : HasPlaces shapes_before (length xs) (length dicts)
+  marked_begin : HasDictNumbers shapes_before (length xs) (length dicts)
   marked_begin = ap (λ (s : Shape). s.form) shapes_begin.first
 
   widened_node : IsNode (shapes_of xs) after
@@ -273,7 +273,7 @@ module _ (xs ys : List Node) (input column d : ℕ) (dicts : List ℕ) (plan : I
   pub widened-plan : IsPlan new
   widened-plan =
       plan_from [] xs plan widened_node
-      (planned_alike (length xs) shape_before shape_after (length dicts) (length (dicts ++ d ∷ [])) more_places refl refl refl shapes_before shapes_after ys shapes_begin behind)
+      (planned_alike (length xs) shape_before shape_after (length dicts) (length (dicts ++ d ∷ [])) more_dicts refl refl refl shapes_before shapes_after ys shapes_begin behind)
 
   shapes_alike : AreAlike no_shape (length xs) shape_before shape_after (shapes_of old) (shapes_of new)
   shapes_alike =
@@ -291,8 +291,8 @@ module _ (xs ys : List Node) (input column d : ℕ) (dicts : List ℕ) (plan : I
     abbrev rows_after : Rows
     rows_after = had [] (op lists doc) in_front after
 
-    kept_place : (p : ℕ) → p < length dicts → slice_get (dicts ++ d ∷ []) p ≡ slice_get dicts p
-    kept_place p below =
+    kept_number : (p : ℕ) → p < length dicts → slice_get (dicts ++ d ∷ []) p ≡ slice_get dicts p
+    kept_number p below =
         slice_get-get_or (dicts ++ d ∷ []) p 0 (omega (arith, below, length-append dicts (d ∷ [])))
         ∙ (ap (λ (n : ℕ). Some n) (get_or_append_left dicts (d ∷ []) 0 p below) ∙ sym (slice_get-get_or dicts p 0 below))
 
@@ -300,7 +300,7 @@ module _ (xs ys : List Node) (input column d : ℕ) (dicts : List ℕ) (plan : I
     parts_of_rows k p other below =
         let rows = of_input [] in_front (Some input) in
         part-marked lists doc column dicts p rows below
-        ∙ (ap (λ (o : Option ℕ). of_some (λ e. with_found lists doc (dict column e) rows) o) (sym (kept_place p below))
+        ∙ (ap (λ (o : Option ℕ). of_some (λ e. with_found lists doc (dict column e) rows) o) (sym (kept_number p below))
         ∙ sym (part-marked lists doc column (dicts ++ d ∷ []) p rows (omega (arith, below, length-append dicts (d ∷ [])))))
 
     rows_alike : AreAlike [] (length xs) rows_before rows_after (all_from [] (op lists doc) [] old) (all_from [] (op lists doc) [] new)
@@ -312,7 +312,7 @@ module _ (xs ys : List Node) (input column d : ℕ) (dicts : List ℕ) (plan : I
         subst (λ (each : List Rows). AreAlike [] (length xs) rows_before rows_after (all_from [] (op lists doc) [] old) each) (sym (all-append [] (op lists doc) [] xs (after ∷ ys)))
         (subst (λ (all : List Rows). AreAlike [] (length xs) rows_before rows_after all (all_from [] (op lists doc) (in_front ++ rows_after ∷ []) ys)) (sym (all-append [] (op lists doc) [] xs (before ∷ ys))) alike)
 
-  marked_here : HasPlaces (shapes_of old) (length xs) (length dicts)
+  marked_here : HasDictNumbers (shapes_of old) (length xs) (length dicts)
   marked_here = ap (λ (s : Shape). s.form) shapes_alike.first
 
   -- every node whose rows any node may read has its shape and its rows

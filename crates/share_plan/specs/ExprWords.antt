@@ -5,7 +5,7 @@ use Rattle.scalar_ops.specs.declared.op.Op.{Op}
 use Rattle.scalar_ops.specs.declared.op.Op.TheVariants.{GetBegin, GetEnd, GetLength, GetText, CombineSpans, SpanBetween, LeftContext, RightContext, LeftContextTok, RightContextTok, Follows, FollowsTok, Overlaps, Contains, Equals, GreaterThan, NotNull, ContainsRegex, MatchesRegex, ContainsDict, MatchesDict, Not, And, Or}
 use Rattle.scalar_ops.specs.Expressions.{Term, Terms, column, number, string, call, none, more}
 
--- the operator's place in this table, with its bounds or its number in a table
+-- the operator's number in this table, with its bounds or its number in a table of patterns or dictionaries
 abbrev pub op_parts : Op → ℤ × ℤ × ℤ
 op_parts GetBegin = (pos 0, pos 0, pos 0)
 op_parts GetEnd = (pos 1, pos 0, pos 0)

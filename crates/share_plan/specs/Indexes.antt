@@ -14,10 +14,10 @@ use Rattle.share_plan.specs.declared.kind.Kind.TheVariants.{Source, Part, Plain}
 use Rattle.share_plan.specs.Kinds.{kind_of}
 use Rattle.share_plan.specs.Words.{node_words}
 
--- the dictionary at a place of a `Dict` node
+-- the dictionary with a number of a `Dict` node
 abbrev pub dict_at : Option Node → ℕ → ℕ
-dict_at (Some (Dict input column dicts)) place = slice_index_or dicts place 0
-dict_at other place = 0
+dict_at (Some (Dict input column dicts)) number = slice_index_or dicts number 0
+dict_at other number = 0
 
 -- a `Dict` node without its dictionaries
 abbrev pub emptied : Node → Node
@@ -27,7 +27,7 @@ emptied node = node
 -- what a node of a kind is found by, among some nodes
 abbrev pub found_as : List Node → Kind → Node → Node
 found_as nodes Source node = emptied node
-found_as nodes (Part input place) node = DictPart input (dict_at (slice_get nodes input) place)
+found_as nodes (Part input number) node = DictPart input (dict_at (slice_get nodes input) number)
 found_as nodes Plain node = node
 
 abbrev pub found_by : List Node → Node → Node

@@ -14,7 +14,7 @@ pub mod ExprWords
 pub mod Words
 -- nodes that are found by their numbers, and how one more is put
 pub mod Indexes
-pub mod Placing
+pub mod Putting
 -- marks on nodes that are read, and plans of marked nodes
 pub mod Marks
 -- walks from the outputs down to what they need

@@ -7,13 +7,13 @@ use Rattle.algebra.specs.Shapes.{no_shape, shapes_of}
 
 -- a part of a `Dict` node
 abbrev pub IsPart : Node → Type 0
-IsPart (DictPart input place) = Unit {0}
+IsPart (DictPart input number) = Unit {0}
 IsPart node = ⊥
 
 -- neither a `Dict` node nor a part of one
 abbrev pub IsPlain : Node → Type 0
 IsPlain (Dict input column dicts) = ⊥
-IsPlain (DictPart input place) = ⊥
+IsPlain (DictPart input number) = ⊥
 IsPlain node = Unit {0}
 
 -- the second node is the first one, which reads its inputs by their new numbers

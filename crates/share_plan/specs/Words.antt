@@ -34,7 +34,7 @@ local_words (sought.TokenRegex low high pattern) = pos low ∷ pos high ∷ pos 
 local_words (sought.Dict d) = pos d ∷ pos 0 ∷ []
 
 abbrev pub agg_words : Agg → List ℤ
-agg_words (Key place) = pos 0 ∷ pos place ∷ []
+agg_words (Key number) = pos 0 ∷ pos number ∷ []
 agg_words Count = pos 1 ∷ pos 0 ∷ []
 agg_words (CountOf column) = pos 2 ∷ pos column ∷ []
 agg_words (Sum column) = pos 3 ∷ pos column ∷ []
@@ -44,13 +44,13 @@ agg_words (Max column) = pos 5 ∷ pos column ∷ []
 abbrev pub flag_word : Bool → ℤ
 flag_word holds = if holds then pos 1 else pos 0
 
--- the node's place in this table, and its numbers
+-- the node's number in this table, and its own numbers
 abbrev pub head_words : Node → List ℤ
 head_words Doc = pos 0 ∷ []
 head_words (Regex input column pattern groups) = pos 1 ∷ pos input ∷ pos column ∷ pos pattern ∷ []
 head_words (TokenRegex input column low high pattern groups) = pos 2 ∷ pos input ∷ pos column ∷ pos low ∷ pos high ∷ pos pattern ∷ []
 head_words (Dict input column dicts) = pos 3 ∷ pos input ∷ pos column ∷ []
-head_words (DictPart input place) = pos 4 ∷ pos input ∷ pos place ∷ []
+head_words (DictPart input number) = pos 4 ∷ pos input ∷ pos number ∷ []
 head_words (Blocks input column low high from upto tokens) =
     pos 5 ∷ pos input ∷ pos column ∷ pos low ∷ pos high ∷ from ∷ upto ∷ flag_word tokens ∷ []
 head_words (Select input conds) = pos 6 ∷ pos input ∷ []

@@ -7,7 +7,7 @@ ghost use Rattle.algebra.specs.Nodes.{IsNode};
 ghost use Rattle.algebra.specs.Shapes.{shapes_of};
 ghost use Rattle.share_plan.specs.Indexes.{IsIndex, IsInserted};
 ghost use Rattle.share_plan.specs.Kinds as spec;
-ghost use Rattle.share_plan.specs.Placing.{Keeps, Extends, IsPlaced, IsPartAt, IsDictOf, IsFound, HasSource, MayPut, IsPut};
+ghost use Rattle.share_plan.specs.Putting.{Keeps, Extends, IsFoundOrPut, IsPartAt, IsDictOf, IsFound, HasSource, MayPut, IsPut};
 ghost use Rattle.share_plan.specs.declared.kind.Kind.TheVariants as kinds;
 
 use crate::kind::{Kind, kind_of};
@@ -50,7 +50,7 @@ impl Shared {
     {
         match kind_of(&node) {
             Kind::Source => self.keep_source(node),
-            Kind::Part { input, place } => self.put_part(alloc, input, place),
+            Kind::Part { input, number } => self.put_part(alloc, input, number),
             Kind::Plain => self.put_plain(alloc, node),
         }
     }
@@ -76,7 +76,7 @@ impl Shared {
         requires plain { spec.kind_of node ≡ kinds.Plain }
         requires valid { IsNode (shapes_of self.old.nodes.items) node }
         ensures stands { IfOk result (λ n. Stands self.old.nodes.items self.new.nodes.items n node) }
-        ensures placed { IfOk result (λ n. IsPlaced self.old.nodes.items self.new.nodes.items n node) }
+        ensures found_or_put { IfOk result (λ n. IsFoundOrPut self.old.nodes.items self.new.nodes.items n node) }
         ensures index { OnOk result (IsIndex self.new.nodes.items self.new.index.keys) }
         ensures sources { self.new.sources ≡ self.old.sources }
     {
@@ -89,19 +89,19 @@ impl Shared {
         Ok(number)
     }
 
-    /// Puts the part of a place of a source: a `DictPart` of the `Dict` node of its column.
-    fn put_part(&mut self, alloc: Global, source: u32, place: u32) -> Result<u32, OutOfMemory>
+    /// Puts the part of a dictionary of a source, by its number there: a `DictPart` of the `Dict` node of its column.
+    fn put_part(&mut self, alloc: Global, source: u32, dict_number: u32) -> Result<u32, OutOfMemory>
         requires index { IsIndex self.old.nodes.items self.old.index.keys }
-        requires may { (has : HasSource self.old.sources.items source place) × IsNode (shapes_of self.old.nodes.items) (variant.Dict has.input has.column []) }
+        requires may { (has : HasSource self.old.sources.items source dict_number) × IsNode (shapes_of self.old.nodes.items) (variant.Dict has.input has.column []) }
         ensures keeps { OnOk result (Keeps self.old.nodes.items self.new.nodes.items) }
         ensures extends { OnOk result (Extends self.old.nodes.items self.new.nodes.items) }
         ensures part { IfOk result (λ n. IsPartAt self.new.nodes.items n) }
         ensures found { IfOk result (λ n. (input column d : ℕ) (dicts : List ℕ) → slice_get self.old.sources.items source ≡ Some (variant.Dict input column dicts)
-            → slice_get dicts place ≡ Some d → IsFound self.old.nodes.items self.new.nodes.items n input column d) }
+            → slice_get dicts dict_number ≡ Some d → IsFound self.old.nodes.items self.new.nodes.items n input column d) }
         ensures index { OnOk result (IsIndex self.new.nodes.items self.new.index.keys) }
         ensures sources { self.new.sources ≡ self.old.sources }
     {
-        let (input, column, dict) = sought_at(self.sources.as_slice(), source, place);
+        let (input, column, dict) = sought_at(self.sources.as_slice(), source, dict_number);
         let searching = self.put_dict(alloc, input, column)?;
         let number = self.put_dictionary(alloc, searching, dict)?;
         Ok(number)
@@ -150,8 +150,11 @@ impl Shared {
         if !is_new {
             return Ok(number);
         }
-        let place = push_dictionary(&mut self.nodes, input, dict)?;
-        self.nodes.push(Node::DictPart { input, place })?;
+        let part_number = push_dictionary(&mut self.nodes, input, dict)?;
+        self.nodes.push(Node::DictPart {
+            input,
+            place: part_number,
+        })?;
         Ok(number)
     }
 }
@@ -160,42 +163,42 @@ impl Shared {
 fn put_key(index: &mut IndexSet<Vec<i128>>, key: Vec<i128>) -> Result<(u32, bool), OutOfMemory>
     ensures { IfOk result (λ put. IsInserted index.old.keys index.new.keys key put.0 put.1) }
 {
-    let (place, is_new) = index.insert_full(key)?;
-    let Ok(number) = u32::try_from(place) else {
+    let (key_number, is_new) = index.insert_full(key)?;
+    let Ok(number) = u32::try_from(key_number) else {
         return Err(OutOfMemory);
     };
     Ok((number, is_new))
 }
 
-/// The input, the column and the dictionary of a place of a source.
-fn sought_at(sources: &[Node], source: u32, place: u32) -> (u32, u32, u32)
-    requires { HasSource sources.now source place }
+/// The input, the column and a dictionary of a source, by its number there.
+fn sought_at(sources: &[Node], source: u32, dict_number: u32) -> (u32, u32, u32)
+    requires { HasSource sources.now source dict_number }
     ensures { (input column : ℕ) (dicts : List ℕ) → slice_get sources.now source ≡ Some (variant.Dict input column dicts)
-        → (result.0 ≡ input) × (result.1 ≡ column) × (slice_get dicts place ≡ Some result.2) }
+        → (result.0 ≡ input) × (result.1 ≡ column) × (slice_get dicts dict_number ≡ Some result.2) }
 {
     match &sources[source as usize] {
         Node::Dict {
             input,
             column,
             dicts,
-        } => (*input, *column, dicts.as_slice()[place as usize]),
+        } => (*input, *column, dicts.as_slice()[dict_number as usize]),
         _ => unreachable!(),
     }
 }
 
-/// Puts a dictionary behind those of a `Dict` node, and gives its place.
+/// Puts a dictionary behind those of a `Dict` node, and gives its number among them, from 0.
 fn push_dictionary(nodes: &mut Vec<Node>, n: u32, dict: u32) -> Result<u32, OutOfMemory>
     requires { (input column : ℕ) × IsDictOf nodes.old.items n input column }
-    ensures { IfOk result (λ place. (input column : ℕ) (dicts : List ℕ) → slice_get nodes.old.items n ≡ Some (variant.Dict input column dicts)
-        → (place ≡ length dicts) × (nodes.new.items ≡ set nodes.old.items n (variant.Dict input column (dicts ++ dict ∷ [])))) }
+    ensures { IfOk result (λ number. (input column : ℕ) (dicts : List ℕ) → slice_get nodes.old.items n ≡ Some (variant.Dict input column dicts)
+        → (number ≡ length dicts) × (nodes.new.items ≡ set nodes.old.items n (variant.Dict input column (dicts ++ dict ∷ [])))) }
 {
     match &mut nodes[n as usize] {
         Node::Dict { dicts, .. } => {
-            let Ok(place) = u32::try_from(dicts.len()) else {
+            let Ok(number) = u32::try_from(dicts.len()) else {
                 return Err(OutOfMemory);
             };
             dicts.push(dict)?;
-            Ok(place)
+            Ok(number)
         }
         _ => unreachable!(),
     }

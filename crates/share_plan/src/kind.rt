@@ -8,8 +8,8 @@ use algebra::Node;
 pub(crate) enum Kind {
     /// A `Dict` node: it is put when a part of it is.
     Source,
-    /// The rows of the place `place` of the `Dict` node `input`.
-    Part { input: u32, place: u32 },
+    /// The rows of dictionary `number`, from 0, of the `Dict` node `input`.
+    Part { input: u32, number: u32 },
     /// Any other node: it is put as it is, or is there.
     Plain,
 }
@@ -22,7 +22,7 @@ pub(crate) fn kind_of(node: &Node) -> Kind
         Node::Dict { .. } => Kind::Source,
         Node::DictPart { input, place } => Kind::Part {
             input: *input,
-            place: *place,
+            number: *place,
         },
         _ => Kind::Plain,
     }

@@ -2,7 +2,7 @@ ghost use Rattle.std.specs.Prelude.{◌≡◌, ◌<◌, [], length, map, All, If
 ghost use Rattle.algebra.specs.Mapping.{renumbered, IsMapped};
 ghost use Rattle.algebra.specs.Nodes.{IsPlan};
 ghost use Rattle.algebra.specs.Plans.{KeepsOutputs};
-ghost use Rattle.share_plan.specs.Placing.{IsOpenAt};
+ghost use Rattle.share_plan.specs.Putting.{IsOpenAt};
 ghost use Rattle.share_plan.specs.Renumbering.{IsRenumbered};
 ghost use Rattle.share_plan.specs.Sharing.{AreDistinct, AreMerged};
 

@@ -35,10 +35,14 @@ pub(crate) fn words_of_dict(
 }
 
 /// The numbers of a `DictPart` of a `Dict` node.
-pub(crate) fn words_of_part(alloc: Global, input: u32, place: u32) -> Result<Vec<i128>, OutOfMemory>
-    ensures { IfOk result (λ words. words.items ≡ node_words (variant.DictPart input place)) }
+pub(crate) fn words_of_part(
+    alloc: Global,
+    input: u32,
+    number: u32,
+) -> Result<Vec<i128>, OutOfMemory>
+    ensures { IfOk result (λ words. words.items ≡ node_words (variant.DictPart input number)) }
 {
-    Ok(vec![in alloc; 4, word(input), word(place)]?)
+    Ok(vec![in alloc; 4, word(input), word(number)]?)
 }
 
 /// A number of a node, a column or a table among these.
@@ -270,7 +274,7 @@ fn push_agg(words: &mut Vec<i128>, agg: Agg) -> Result<(), OutOfMemory>
     ensures { OnOk result (words.new.items ≡ words.old.items ++ agg_words agg) }
 {
     match agg {
-        Agg::Key(place) => push_pair(words, 0, word(place)),
+        Agg::Key(key) => push_pair(words, 0, word(key)),
         Agg::Count => push_pair(words, 1, 0),
         Agg::CountOf(column) => push_pair(words, 2, word(column)),
         Agg::Sum(column) => push_pair(words, 3, word(column)),
@@ -355,7 +359,7 @@ fn push_op(words: &mut Vec<i128>, op: Op) -> Result<(), OutOfMemory>
     }
 }
 
-/// Puts an operator's bounds, and then its place in the table.
+/// Puts an operator's bounds, and then its number in the table.
 fn push_parts(words: &mut Vec<i128>, tag: i128, low: i128, high: i128) -> Result<(), OutOfMemory>
     ensures { OnOk result (words.new.items ≡ words.old.items ++ pos 6 ∷ low ∷ pos 7 ∷ high ∷ pos 8 ∷ tag ∷ []) }
 {

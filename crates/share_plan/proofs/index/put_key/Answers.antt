@@ -4,7 +4,7 @@ use Rattle.share_plan.proofs.index.put_key.Goals as goal
 
 pub returns : goal.returns
 returns c = record {
-  keys_are = c.in_ok-place.ensures.keys;
-  added = c.in_ok-place.ensures.added;
-  stored = subst (λ (n : ℕ). (x : Key) × (slice_get c.insert_full.new.self.keys n ≡ Some x) × (same c.args.key x ≡ true)) (sym c.in-Ok.ensures.1) c.in_ok-place.ensures.stored;
+  keys_are = c.in_ok-key_number.ensures.keys;
+  added = c.in_ok-key_number.ensures.added;
+  stored = subst (λ (n : ℕ). (x : Key) × (slice_get c.insert_full.new.self.keys n ≡ Some x) × (same c.args.key x ≡ true)) (sym c.in-Ok.ensures.1) c.in_ok-key_number.ensures.stored;
 }

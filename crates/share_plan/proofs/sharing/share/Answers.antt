@@ -4,7 +4,7 @@ use Rattle.algebra.specs.declared.node.Node.{Node}
 use Rattle.algebra.specs.declared.output.PlanOut.{PlanOut}
 use Rattle.algebra.specs.Mapping.{renumbered}
 use Rattle.algebra.specs.Plans.{Parts, AreOutputs}
-use Rattle.share_plan.specs.Placing.{IsOpenAt}
+use Rattle.share_plan.specs.Putting.{IsOpenAt}
 use Rattle.share_plan.specs.Renumbering.{IsRenumbered}
 use Rattle.share_plan.specs.Sharing.{AreDistinct, AreMerged}
 use Rattle.share_plan.proofs.Outputs.{outputs_there, outputs_kept, outputs_show}

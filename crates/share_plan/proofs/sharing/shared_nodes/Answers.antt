@@ -6,7 +6,7 @@ use Rattle.algebra.specs.declared.node.Node.{Node}
 use Rattle.algebra.specs.Inputs.{left_input, right_input, with_inputs, IsAmong}
 use Rattle.algebra.specs.Mapping.{new_number}
 use Rattle.share_plan.specs.Kinds.{kind_of}
-use Rattle.share_plan.specs.Placing.{MayPut, IsPut}
+use Rattle.share_plan.specs.Putting.{MayPut, IsPut}
 use Rattle.share_plan.proofs.Indexing.{index-distinct, index-merged}
 use Rattle.share_plan.proofs.Moving.{open-renumbered}
 use Rattle.share_plan.proofs.Rebuilding.{IsShared, taken, left_there, right_there, may_be_put, one_more}

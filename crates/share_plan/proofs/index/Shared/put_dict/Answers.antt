@@ -2,7 +2,7 @@ use Rattle.std.proofs.Common.{rules, ◌≡◌, ◌∙◌, ◌++◌, ◌∷◌, 
 use Rattle.algebra.specs.declared.node.Node.{Node}
 use Rattle.algebra.specs.declared.node.Node.TheVariants.{Dict}
 use Rattle.share_plan.specs.Indexes.{IsInserted, IsIndex}
-use Rattle.share_plan.specs.Placing.{Extends, IsDictOf}
+use Rattle.share_plan.specs.Putting.{Extends, IsDictOf}
 use Rattle.share_plan.proofs.Extending.{extends-same, extends-dict}
 use Rattle.share_plan.proofs.Indexing.{dict-there}
 use Rattle.share_plan.proofs.Putting.{dict-stands, dict-index}

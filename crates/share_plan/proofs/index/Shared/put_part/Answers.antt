@@ -4,7 +4,7 @@ use Rattle.algebra.specs.declared.node.Node.{Node}
 use Rattle.algebra.specs.declared.node.Node.TheVariants.{Dict}
 use Rattle.algebra.specs.Nodes.{IsNode}
 use Rattle.algebra.specs.Shapes.{shapes_of}
-use Rattle.share_plan.specs.Placing.{IsFound}
+use Rattle.share_plan.specs.Putting.{IsFound}
 use Rattle.share_plan.proofs.Extending.{extends-trans}
 use Rattle.share_plan.proofs.Parts.{keeps_grows, keeps_trans}
 use Rattle.share_plan.proofs.Putting.{found_before}
@@ -36,7 +36,7 @@ returns-clause-found c =
     found_before nodes mid after c.in_ok-number.number r.0 r.1 r.2 c.in_ok-searching.ensures.grows valid (c.in_ok-number.ensures.found r.0 r.1 c.in_ok-searching.ensures.there) in
     λ input column d dicts at listed.
     let known = c.sought_at-input.ensures input column dicts (ap (λ (list : List Node). slice_get list c.args.source) c.as_slice.ensures.value ∙ at) in
-    let same : r.2 ≡ d = sym (get_or_from_slice_get dicts c.args.place r.2 0 known.2) ∙ get_or_from_slice_get dicts c.args.place d 0 listed in
+    let same : r.2 ≡ d = sym (get_or_from_slice_get dicts c.args.dict_number r.2 0 known.2) ∙ get_or_from_slice_get dicts c.args.dict_number d 0 listed in
     subst (λ (i : ℕ). IsFound nodes after c.in_ok-number.number i column d) known.0
     (subst (λ (k : ℕ). IsFound nodes after c.in_ok-number.number r.0 k d) known.1 (subst (λ (f : ℕ). IsFound nodes after c.in_ok-number.number r.0 r.1 f) same found))
 

@@ -31,13 +31,13 @@ pub record Extends (old new : List Node) : Type 0 where
   pub were : (k : ℕ) (node : Node) → slice_get new k ≡ Some node → kind_of node ≡ Plain → slice_get old k ≡ Some node
 
 -- node n is this one: it was there, or was put behind the others
-pub record IsPlaced (old new : List Node) (n : ℕ) (node : Node) : Type 0 where
+pub record IsFoundOrPut (old new : List Node) (n : ℕ) (node : Node) : Type 0 where
   pub put : (new ≡ old) ⊎ ((new ≡ old ++ node ∷ []) × (n ≡ length old))
   pub at : slice_get new n ≡ Some node
 
 -- node n is a part
 abbrev pub IsPartAt : List Node → ℕ → Type 0
-IsPartAt nodes n = (input place : ℕ) × (slice_get nodes n ≡ Some (DictPart input place))
+IsPartAt nodes n = (input number : ℕ) × (slice_get nodes n ≡ Some (DictPart input number))
 
 -- node m searches this column of this input for dictionaries
 abbrev pub IsDictOf : List Node → ℕ → ℕ → ℕ → Type 0
@@ -48,24 +48,24 @@ abbrev pub IsFound : List Node → List Node → ℕ → ℕ → ℕ → ℕ →
 IsFound old new n input column d =
     Has new n (columns ((slice_index_or (shapes_of old) input no_shape).width + 1)) (λ lists doc. with_found lists doc (dict column d) (val lists doc old input))
 
--- source k is a `Dict` node that has the place
-pub record HasSource (sources : List Node) (k place : ℕ) : Type 0 where
+-- source k is a `Dict` node that has the number
+pub record HasSource (sources : List Node) (k number : ℕ) : Type 0 where
   pub input : ℕ
   pub column : ℕ
   pub dicts : List ℕ
   pub source : slice_get sources k ≡ Some (Dict input column dicts)
-  pub listed : place < length dicts
+  pub listed : number < length dicts
 
 -- a node of this kind may be put behind the nodes: a part where the column's `Dict` node may
 abbrev pub MayPut : List Node → List Node → Kind → Node → Type 0
 MayPut sources nodes Source node = Unit {0}
-MayPut sources nodes (Part k place) node = (has : HasSource sources k place) × IsNode (shapes_of nodes) (Dict has.input has.column [])
+MayPut sources nodes (Part k number) node = (has : HasSource sources k number) × IsNode (shapes_of nodes) (Dict has.input has.column [])
 MayPut sources nodes Plain node = IsNode (shapes_of nodes) node
 
 -- sources and nodes after a node of this kind was put, and its number among them
 abbrev pub IsPut : (sources nodes : List Node) (later after : List Node) → ℕ → Kind → Node → Type 0
 IsPut sources nodes later after n Source node = (later ≡ sources ++ node ∷ []) × (after ≡ nodes) × (n ≡ length sources)
-IsPut sources nodes later after n (Part k place) node =
+IsPut sources nodes later after n (Part k number) node =
     (later ≡ sources) × Keeps nodes after × Extends nodes after × IsPartAt after n
-    × ((input column d : ℕ) (dicts : List ℕ) → slice_get sources k ≡ Some (Dict input column dicts) → slice_get dicts place ≡ Some d → IsFound nodes after n input column d)
-IsPut sources nodes later after n Plain node = (later ≡ sources) × Stands nodes after n node × IsPlaced nodes after n node
+    × ((input column d : ℕ) (dicts : List ℕ) → slice_get sources k ≡ Some (Dict input column dicts) → slice_get dicts number ≡ Some d → IsFound nodes after n input column d)
+IsPut sources nodes later after n Plain node = (later ≡ sources) × Stands nodes after n node × IsFoundOrPut nodes after n node
