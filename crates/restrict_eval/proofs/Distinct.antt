@@ -34,7 +34,7 @@ filled first second Doc = Doc
 filled first second (Regex i c p groups) = Regex (input_or first) c p groups
 filled first second (TokenRegex i c low high p groups) = TokenRegex (input_or first) c low high p groups
 filled first second (Dict i c dicts) = Dict (input_or first) c dicts
-filled first second (DictPart i place) = DictPart (input_or first) place
+filled first second (DictPart i number) = DictPart (input_or first) number
 filled first second (Blocks i c low high from upto tokens) = Blocks (input_or first) c low high from upto tokens
 filled first second (Select i conds) = Select (input_or first) conds
 filled first second (Project i items) = Project (input_or first) items
@@ -52,7 +52,7 @@ filled_carried to Doc plain = refl
 filled_carried to (Regex i c p groups) plain = refl
 filled_carried to (TokenRegex i c low high p groups) plain = refl
 filled_carried to (Dict i c dicts) plain = refl
-filled_carried to (DictPart i place) plain = refl
+filled_carried to (DictPart i number) plain = refl
 filled_carried to (Blocks i c low high from upto tokens) plain = refl
 filled_carried to (Select i conds) plain = refl
 filled_carried to (Project i items) plain = refl
@@ -110,8 +110,8 @@ module _ (old : List Node) (outputs : List ℕ) (new : List Node) (to : List ℕ
   -- ---- where no two nodes of the old plan are equal
 
   module _ (distinct : AllPairs (λ a b. a ≢ b) old) where
-    one_place : (i k : ℕ) (x y : Node) → slice_get old i ≡ Some x → slice_get old k ≡ Some y → x ≡ y → i ≡ k
-    one_place i k x y is_x is_y same = elim (cases_lt i k) [
+    one_index : (i k : ℕ) (x y : Node) → slice_get old i ≡ Some x → slice_get old k ≡ Some y → x ≡ y → i ≡ k
+    one_index i k x y is_x is_y same = elim (cases_lt i k) [
       | inl lower ↦
           absurd (distinct i k x lower (slice_get_within old k y is_y) (get_or_from_slice_get old i x x is_x ∙ (same ∙ sym (get_or_from_slice_get old k y x is_y))))
       | inr least ↦ elim (cases_lt k i) [
@@ -125,11 +125,11 @@ module _ (old : List Node) (outputs : List ℕ) (new : List Node) (to : List ℕ
     finds_once : (source : ℕ) → slice_get old source ≡ Some Doc → (part : Local) (t u : ℕ) → Finds old t source part → Finds old u source part → t ≡ u
     finds_once source document (sought.TokenRegex low high pattern) t u finds others =
         let column_same : finds.0 ≡ others.0 = runs_column old plan source t finds.0 low high pattern document finds.1 ∙ sym (runs_column old plan source u others.0 low high pattern document others.1) in
-        one_place t u _ _ finds.1 others.1 (ap (λ (c : ℕ). TokenRegex source c low high pattern (0 ∷ [])) column_same)
+        one_index t u _ _ finds.1 others.1 (ap (λ (c : ℕ). TokenRegex source c low high pattern (0 ∷ [])) column_same)
     finds_once source document (sought.Dict d) t u finds others =
         let column_same : finds.1 ≡ others.1 = dict_column old plan source finds.0 finds.1 d document finds.3 ∙ sym (dict_column old plan source others.0 others.1 d document others.3) in
-        let dict_same : finds.0 ≡ others.0 = one_place finds.0 others.0 _ _ finds.3 others.3 (ap (λ (c : ℕ). Dict source c (d ∷ [])) column_same) in
-        one_place t u _ _ finds.2 others.2 (ap (λ (n : ℕ). DictPart n 0) dict_same)
+        let dict_same : finds.0 ≡ others.0 = one_index finds.0 others.0 _ _ finds.3 others.3 (ap (λ (c : ℕ). Dict source c (d ∷ [])) column_same) in
+        one_index t u _ _ finds.2 others.2 (ap (λ (n : ℕ). DictPart n 0) dict_same)
 
     found_once : (t u : ℕ) (found : HasFound old t) (others : HasFound old u) → found.source ≡ others.source → found.part ≡ others.part → t ≡ u
     found_once t u found others source part =
@@ -192,7 +192,7 @@ module _ (old : List Node) (outputs : List ℕ) (new : List Node) (to : List ℕ
 
     -- two nodes that are equal stand for one node
     stood_once : (i k : ℕ) (x y : Node) → slice_get old i ≡ Some x → slice_get old k ≡ Some y → IsStood old outputs new to i x → IsStood old outputs new to k y → slice_get new (look i) ≡ slice_get new (look k) → i ≡ k
-    stood_once i k x y is_x is_y (words.same l a) (words.same m b) same = one_place i k x y is_x is_y (same_carried i k x y is_x is_y (same_Some _ _ (sym a ∙ (same ∙ b))))
+    stood_once i k x y is_x is_y (words.same l a) (words.same m b) same = one_index i k x y is_x is_y (same_carried i k x y is_x is_y (same_Some _ _ (sym a ∙ (same ∙ b))))
     stood_once i k x y is_x is_y (words.same l a) (words.near b) same = absurd (no_restricted i x is_x k (look k) b (same_Some _ _ (sym a ∙ (same ∙ b.at))))
     stood_once i k x y is_x is_y (words.same l a) (words.shown n cs b over c) same = absurd (no_columns i x is_x k n (map column cs) b over (same_Some _ _ (sym a ∙ (same ∙ c))))
     stood_once i k x y is_x is_y (words.near a) (words.same m b) same = absurd (no_restricted k y is_y i (look i) a (same_Some _ _ (sym b ∙ (sym same ∙ a.at))))

@@ -112,7 +112,7 @@ module _ (nodes : List Node) where
 
   -- in place of a node that has nothing that is found
   pub no_found : (base : ℕ) (node : Node) → slice_get nodes base ≡ Some node → ((i c low high p : ℕ) (groups : List ℕ) → node ≡ TokenRegex i c low high p groups → ⊥)
-      → ((i place : ℕ) → node ≡ DictPart i place → ⊥) → HasFound nodes base → ⊥
+      → ((i number : ℕ) → node ≡ DictPart i number → ⊥) → HasFound nodes base → ⊥
   no_found base node is no_runs no_part found = by found.part found.finds
     where
       by : (part : Local) → Finds nodes base found.source part → ⊥
@@ -135,19 +135,19 @@ module _ (nodes : List Node) where
           cc
 
   -- others than the only dictionary in the document
-  pub other_part : (base input place : ℕ) (node : Node) → slice_get nodes base ≡ Some (DictPart input place) → slice_get nodes input ≡ Some node
-      → ((source c d : ℕ) → node ≡ Dict source c (d ∷ []) → place ≡ 0 → slice_get nodes source ≡ Some Doc → ⊥) → HasFound nodes base → ⊥
-  other_part base input place node is is_node other found = by found.part found.finds
+  pub other_part : (base input number : ℕ) (node : Node) → slice_get nodes base ≡ Some (DictPart input number) → slice_get nodes input ≡ Some node
+      → ((source c d : ℕ) → node ≡ Dict source c (d ∷ []) → number ≡ 0 → slice_get nodes source ≡ Some Doc → ⊥) → HasFound nodes base → ⊥
+  other_part base input number node is is_node other found = by found.part found.finds
     where
       by : (part : Local) → Finds nodes base found.source part → ⊥
       by (sought.TokenRegex low high pattern) finds =
-          let same : DictPart input place ≡ TokenRegex found.source finds.0 low high pattern (0 ∷ []) = same_Some _ _ (sym is ∙ finds.1) in
+          let same : DictPart input number ≡ TokenRegex found.source finds.0 low high pattern (0 ∷ []) = same_Some _ _ (sym is ∙ finds.1) in
           cc
       by (sought.Dict d) finds =
-          let same : DictPart input place ≡ DictPart finds.0 0 = same_Some _ _ (sym is ∙ finds.2) in
+          let same : DictPart input number ≡ DictPart finds.0 0 = same_Some _ _ (sym is ∙ finds.2) in
           let input_is : input ≡ finds.0 = cc in
-          let place_is : place ≡ 0 = cc in
-          other found.source finds.1 d (same_Some node (Dict found.source finds.1 (d ∷ [])) (sym is_node ∙ (ap (slice_get nodes) input_is ∙ finds.3))) place_is found.document
+          let number_is : number ≡ 0 = cc in
+          other found.source finds.1 d (same_Some node (Dict found.source finds.1 (d ∷ [])) (sym is_node ∙ (ap (slice_get nodes) input_is ∙ finds.3))) number_is found.document
 
   -- ---- what is found
 
@@ -253,6 +253,6 @@ fates_more nodes outputs found later near j long more each is i below = elim (ca
       (subst (λ (o : Option Near). IsFate nodes outputs j o) (sym (ap (λ (os : List (Option Near)). get_or os j None) more ∙ get_or_at found near [] None j long)) is)
 ]
 
--- the fate at a place
+-- the fate at an index
 pub fate_read : (found : List (Option Near)) (n j : ℕ) (x : Option Near) → n ≡ j → j < length found → x ≡ get_or found n x → x ≡ get_or found j None
 fate_read found n j x same below is = is ∙ (get_or_default found n x None (omega (arith, same, below)) ∙ ap (λ (k : ℕ). get_or found k None) same)

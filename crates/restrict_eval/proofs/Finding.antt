@@ -12,7 +12,7 @@ use Rattle.restrict_eval.specs.Restricting.{Finds, HasFound}
 abbrev pub tag : Node → ℕ
 tag Doc = 0
 tag (TokenRegex i c low high p groups) = 1
-tag (DictPart i place) = 1
+tag (DictPart i number) = 1
 tag (Project i items) = 2
 tag (SpanJoin l r kind lc rc conditional) = 3
 tag (Restricted o s kind lc part) = 4
@@ -22,7 +22,7 @@ tag node = 5
 pub apart : (x y : Node) → x ≡ y → (tag x ≡ tag y → ⊥) → ⊥
 apart x y same other = other (ap tag same)
 
--- there is one node at a place
+-- there is one node at an index
 pub one_node : (nodes : List Node) (m k : ℕ) (x y : Node) → m ≡ k → slice_get nodes m ≡ Some x → slice_get nodes k ≡ Some y → x ≡ y
 one_node nodes m k x y same at_m at_k = same_Some x y (sym at_m ∙ (ap (slice_get nodes) same ∙ at_k))
 

@@ -47,7 +47,7 @@ module _ (lists : Lists) (doc : Doc) where
       (ap₂ (λ (xs ys : List Datum). xs ++ ys) (sym (between [] l r 0 refl)) (sym (behind l r columns))
       ∙ sym (map-append (value lists doc (l ++ r)) (columns_from 0 (length l)) (map column (map (λ c. length l + c) columns))))
 
-  -- the column at a place
+  -- the column at an index
   column_at : (columns : List ℕ) (n c : ℕ) (row : List Datum) → slice_get columns n ≡ Some c → value_in (of_columns columns row) n ≡ value_in row c
   column_at [] n c row at = absurd (none-some c at)
   column_at (d ∷ columns) zero c row at = ap (value_in row) (same_Some d c at)

@@ -19,7 +19,7 @@ with_inputs-agree count f g agree Doc left right = refl
 with_inputs-agree count f g agree (Regex i c p groups) left right = ap (λ (n : ℕ). Regex n c p groups) (agree i left)
 with_inputs-agree count f g agree (TokenRegex i c low high p groups) left right = ap (λ (n : ℕ). TokenRegex n c low high p groups) (agree i left)
 with_inputs-agree count f g agree (Dict i c dicts) left right = ap (λ (n : ℕ). Dict n c dicts) (agree i left)
-with_inputs-agree count f g agree (DictPart i place) left right = ap (λ (n : ℕ). DictPart n place) (agree i left)
+with_inputs-agree count f g agree (DictPart i number) left right = ap (λ (n : ℕ). DictPart n number) (agree i left)
 with_inputs-agree count f g agree (Blocks i c low high from upto tokens) left right = ap (λ (n : ℕ). Blocks n c low high from upto tokens) (agree i left)
 with_inputs-agree count f g agree (Select i conds) left right = ap (λ (n : ℕ). Select n conds) (agree i left)
 with_inputs-agree count f g agree (Project i items) left right = ap (λ (n : ℕ). Project n items) (agree i left)
@@ -38,7 +38,7 @@ module _ (to : ℕ → ℕ) where
   carried-left (Regex i c p groups) = refl
   carried-left (TokenRegex i c low high p groups) = refl
   carried-left (Dict i c dicts) = refl
-  carried-left (DictPart i place) = refl
+  carried-left (DictPart i number) = refl
   carried-left (Blocks i c low high from upto tokens) = refl
   carried-left (Select i conds) = refl
   carried-left (Project i items) = refl
@@ -56,7 +56,7 @@ module _ (to : ℕ → ℕ) where
   carried-right (Regex i c p groups) = refl
   carried-right (TokenRegex i c low high p groups) = refl
   carried-right (Dict i c dicts) = refl
-  carried-right (DictPart i place) = refl
+  carried-right (DictPart i number) = refl
   carried-right (Blocks i c low high from upto tokens) = refl
   carried-right (Select i conds) = refl
   carried-right (Project i items) = refl
@@ -74,7 +74,7 @@ module _ (to : ℕ → ℕ) where
   carried_conditional (Regex i c p groups) = tt
   carried_conditional (TokenRegex i c low high p groups) = tt
   carried_conditional (Dict i c dicts) = tt
-  carried_conditional (DictPart i place) = tt
+  carried_conditional (DictPart i number) = tt
   carried_conditional (Blocks i c low high from upto tokens) = tt
   carried_conditional (Select i conds) = tt
   carried_conditional (Project i items) = tt
@@ -93,7 +93,7 @@ module _ (to : ℕ → ℕ) where
   from_doc (Regex i c p groups) e = cc
   from_doc (TokenRegex i c low high p groups) e = cc
   from_doc (Dict i c dicts) e = cc
-  from_doc (DictPart i place) e = cc
+  from_doc (DictPart i number) e = cc
   from_doc (Blocks i c low high from upto tokens) e = cc
   from_doc (Select i conds) e = cc
   from_doc (Project i items) e = cc
@@ -112,7 +112,7 @@ module _ (to : ℕ → ℕ) where
   from_runs (Regex i c p groups) i' c' low' high' p' groups' e = cc
   from_runs (TokenRegex i c low high p groups) i' c' low' high' p' groups' e = (i, cc, cc)
   from_runs (Dict i c dicts) i' c' low' high' p' groups' e = cc
-  from_runs (DictPart i place) i' c' low' high' p' groups' e = cc
+  from_runs (DictPart i number) i' c' low' high' p' groups' e = cc
   from_runs (Blocks i c low high from upto tokens) i' c' low' high' p' groups' e = cc
   from_runs (Select i conds) i' c' low' high' p' groups' e = cc
   from_runs (Project i items) i' c' low' high' p' groups' e = cc
@@ -131,7 +131,7 @@ module _ (to : ℕ → ℕ) where
   from_project (Regex i c p groups) i' items' e = cc
   from_project (TokenRegex i c low high p groups) i' items' e = cc
   from_project (Dict i c dicts) i' items' e = cc
-  from_project (DictPart i place) i' items' e = cc
+  from_project (DictPart i number) i' items' e = cc
   from_project (Blocks i c low high from upto tokens) i' items' e = cc
   from_project (Select i conds) i' items' e = cc
   from_project (Project i items) i' items' e = (i, cc, cc)
@@ -150,7 +150,7 @@ module _ (to : ℕ → ℕ) where
   from_dict (Regex i c p groups) i' c' dicts' e = cc
   from_dict (TokenRegex i c low high p groups) i' c' dicts' e = cc
   from_dict (Dict i c dicts) i' c' dicts' e = (i, cc, cc)
-  from_dict (DictPart i place) i' c' dicts' e = cc
+  from_dict (DictPart i number) i' c' dicts' e = cc
   from_dict (Blocks i c low high from upto tokens) i' c' dicts' e = cc
   from_dict (Select i conds) i' c' dicts' e = cc
   from_dict (Project i items) i' c' dicts' e = cc
@@ -164,23 +164,23 @@ module _ (to : ℕ → ℕ) where
   from_dict (OrderLimit i keys limit) i' c' dicts' e = cc
 
   -- what is carried to a `DictPart` node is one
-  pub from_dict_part : (node : Node) (i' place' : ℕ) → carried to node ≡ DictPart i' place' → (j : ℕ) × (node ≡ DictPart j place') × (to j ≡ i')
-  from_dict_part Doc i' place' e = cc
-  from_dict_part (Regex i c p groups) i' place' e = cc
-  from_dict_part (TokenRegex i c low high p groups) i' place' e = cc
-  from_dict_part (Dict i c dicts) i' place' e = cc
-  from_dict_part (DictPart i place) i' place' e = (i, cc, cc)
-  from_dict_part (Blocks i c low high from upto tokens) i' place' e = cc
-  from_dict_part (Select i conds) i' place' e = cc
-  from_dict_part (Project i items) i' place' e = cc
-  from_dict_part (Cross l r conditional) i' place' e = cc
-  from_dict_part (SpanJoin l r join lc rc conditional) i' place' e = cc
-  from_dict_part (Restricted o s join lc part) i' place' e = cc
-  from_dict_part (Union l r) i' place' e = cc
-  from_dict_part (Minus l r) i' place' e = cc
-  from_dict_part (Consolidate i policy target) i' place' e = cc
-  from_dict_part (Group i keys aggs) i' place' e = cc
-  from_dict_part (OrderLimit i keys limit) i' place' e = cc
+  pub from_dict_part : (node : Node) (i' number' : ℕ) → carried to node ≡ DictPart i' number' → (j : ℕ) × (node ≡ DictPart j number') × (to j ≡ i')
+  from_dict_part Doc i' number' e = cc
+  from_dict_part (Regex i c p groups) i' number' e = cc
+  from_dict_part (TokenRegex i c low high p groups) i' number' e = cc
+  from_dict_part (Dict i c dicts) i' number' e = cc
+  from_dict_part (DictPart i number) i' number' e = (i, cc, cc)
+  from_dict_part (Blocks i c low high from upto tokens) i' number' e = cc
+  from_dict_part (Select i conds) i' number' e = cc
+  from_dict_part (Project i items) i' number' e = cc
+  from_dict_part (Cross l r conditional) i' number' e = cc
+  from_dict_part (SpanJoin l r join lc rc conditional) i' number' e = cc
+  from_dict_part (Restricted o s join lc part) i' number' e = cc
+  from_dict_part (Union l r) i' number' e = cc
+  from_dict_part (Minus l r) i' number' e = cc
+  from_dict_part (Consolidate i policy target) i' number' e = cc
+  from_dict_part (Group i keys aggs) i' number' e = cc
+  from_dict_part (OrderLimit i keys limit) i' number' e = cc
 
   -- what is carried to a `SpanJoin` node is one
   pub from_join : (node : Node) (l' r' : ℕ) (join' : JoinKind) (lc' rc' : ℕ) (conditional' : Bool) → carried to node ≡ SpanJoin l' r' join' lc' rc' conditional' → (i j : ℕ) × (b : Bool) × (node ≡ SpanJoin i j join' lc' rc' b) × (to i ≡ l') × (to j ≡ r')
@@ -188,7 +188,7 @@ module _ (to : ℕ → ℕ) where
   from_join (Regex i c p groups) l' r' join' lc' rc' conditional' e = cc
   from_join (TokenRegex i c low high p groups) l' r' join' lc' rc' conditional' e = cc
   from_join (Dict i c dicts) l' r' join' lc' rc' conditional' e = cc
-  from_join (DictPart i place) l' r' join' lc' rc' conditional' e = cc
+  from_join (DictPart i number) l' r' join' lc' rc' conditional' e = cc
   from_join (Blocks i c low high from upto tokens) l' r' join' lc' rc' conditional' e = cc
   from_join (Select i conds) l' r' join' lc' rc' conditional' e = cc
   from_join (Project i items) l' r' join' lc' rc' conditional' e = cc
@@ -207,7 +207,7 @@ module _ (to : ℕ → ℕ) where
   from_restricted (Regex i c p groups) o' s' join' lc' part' e = cc
   from_restricted (TokenRegex i c low high p groups) o' s' join' lc' part' e = cc
   from_restricted (Dict i c dicts) o' s' join' lc' part' e = cc
-  from_restricted (DictPart i place) o' s' join' lc' part' e = cc
+  from_restricted (DictPart i number) o' s' join' lc' part' e = cc
   from_restricted (Blocks i c low high from upto tokens) o' s' join' lc' part' e = cc
   from_restricted (Select i conds) o' s' join' lc' part' e = cc
   from_restricted (Project i items) o' s' join' lc' part' e = cc

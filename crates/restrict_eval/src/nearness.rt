@@ -121,7 +121,7 @@ pub(crate) fn plain_columns(
     Ok(Some(columns))
 }
 
-/// Whether the column at this place is column 1, which is the match.
+/// Whether the column at this index is column 1, which is the match.
 fn is_match(columns: &[u32], rc: u32) -> bool
     ensures { IsTrue result ↔ (slice_get columns.now rc ≡ Some 1) }
 {
@@ -164,17 +164,17 @@ pub(crate) fn sought_by(nodes: &Nodes, base: u32, columns: Option<OwnedList<u32>
     }
 }
 
-/// The same, where node `base` has the matches at this place of node `input`. A node that has several
+/// The same, where node `base` has the matches with this dictionary's number of node `input`. A node that has several
 /// dictionaries looks for all of them in one walk, which is made for the others anyway.
 fn entries_of(
     nodes: &Nodes,
     base: u32,
     input: u32,
-    place: u32,
+    number: u32,
     columns: Option<OwnedList<u32>>,
 ) -> Option<Near>
     requires there { input < length nodes.now }
-    requires is { slice_get nodes.now base ≡ Some (variant.DictPart input place) }
+    requires is { slice_get nodes.now base ≡ Some (variant.DictPart input number) }
     ensures base { IfSome result (λ near. (near.base ≡ base) × (near.columns ≡ columns)) }
     ensures some { IfSome result (λ near. Finds nodes.now base near.source near.sought × (slice_get nodes.now near.source ≡ Some variant.Doc)) }
     ensures none { IfNone result (HasFound nodes.now base → ⊥) }
@@ -185,7 +185,7 @@ fn entries_of(
             dicts,
             ..
         } => {
-            if is_single(dicts.as_slice(), place) && is_document(nodes.get(*source)) {
+            if is_single(dicts.as_slice(), number) && is_document(nodes.get(*source)) {
                 Some(Near {
                     base,
                     source: *source,
@@ -202,11 +202,11 @@ fn entries_of(
     }
 }
 
-/// Whether this is the place of the only dictionary.
-fn is_single(dicts: &[u32], place: u32) -> bool
-    ensures { IsTrue result ↔ ((place ≡ 0) × (length dicts.now ≡ 1)) }
+/// Whether this is the number of the only dictionary.
+fn is_single(dicts: &[u32], number: u32) -> bool
+    ensures { IsTrue result ↔ ((number ≡ 0) × (length dicts.now ≡ 1)) }
 {
-    place == 0 && dicts.len() == 1
+    number == 0 && dicts.len() == 1
 }
 
 /// Whether the groups are the whole match alone.

@@ -46,7 +46,7 @@ returns-in_default c =
     record {
       base = tt;
       some = tt;
-      none = no_found nodes c.args.base c.get.result.now is (λ i column low high pattern groups e. c.in_default.not-TokenRegex i column low high pattern groups e) (λ i place e. c.in_default.not-DictPart i place e);
+      none = no_found nodes c.args.base c.get.result.now is (λ i column low high pattern groups e. c.in_default.not-TokenRegex i column low high pattern groups e) (λ i number e. c.in_default.not-DictPart i number e);
     }
 
 pub entries_of-requires : goal.entries_of-requires

@@ -23,9 +23,9 @@ put-requires c =
     let fate = get_or c.in_ok-found.found.items j None in
     let below : j < length c.args.old = omega (arith, ap length whole, length-append c.loop-node.yielded (c.in-Some.node ∷ rest)) in
     let is_fate : IsFate c.args.old outs j fate = c.in_ok-found.ensures.each j below in
-    let place : c.len.result ≡ j = omega (arith, c.len.ensures, c.loop-node.to.ok.0, c.loop-node.invariant.mapped.long) in
+    let at_end : c.len.result ≡ j = omega (arith, c.len.ensures, c.loop-node.to.ok.0, c.loop-node.invariant.mapped.long) in
     let near_is : c.index.result.now ≡ fate =
-    fate_read c.in_ok-found.found.items c.len.result j c.index.result.now place (omega (arith, below, c.in_ok-found.ensures.long)) c.index.ensures in
+    fate_read c.in_ok-found.found.items c.len.result j c.index.result.now at_end (omega (arith, below, c.in_ok-found.ensures.long)) c.index.ensures in
     record {
       may = subst (λ (to : List ℕ). MayPut c.loop-node.nodes to c.index.result.now c.in-Some.node) (sym c.as_slice.ensures.value)
           (subst (λ (near : Option Near). MayPut c.loop-node.nodes c.loop-node.to.items near c.in-Some.node) (sym near_is)
@@ -45,9 +45,9 @@ loop-node-preserved c =
     let fate = get_or c.in_ok-found.found.items j None in
     let below : j < length c.args.old = omega (arith, ap length whole, length-append c.loop-node.yielded (c.in-Some.node ∷ rest)) in
     let is_fate : IsFate c.args.old outs j fate = c.in_ok-found.ensures.each j below in
-    let place : c.len.result ≡ j = omega (arith, c.len.ensures, c.loop-node.to.ok.0, c.loop-node.invariant.mapped.long) in
+    let at_end : c.len.result ≡ j = omega (arith, c.len.ensures, c.loop-node.to.ok.0, c.loop-node.invariant.mapped.long) in
     let near_is : c.index.result.now ≡ fate =
-    fate_read c.in_ok-found.found.items c.len.result j c.index.result.now place (omega (arith, below, c.in_ok-found.ensures.long)) c.index.ensures in
+    fate_read c.in_ok-found.found.items c.len.result j c.index.result.now at_end (omega (arith, below, c.in_ok-found.ensures.long)) c.index.ensures in
     let added : c.put.new.nodes ≡ c.loop-node.nodes ++ put_for c.loop-node.nodes c.loop-node.to.items fate c.in-Some.node =
     c.in_ok-n.ensures.added ∙ ap₂ (λ (to : List ℕ) (near : Option Near). c.loop-node.nodes ++ put_for c.loop-node.nodes to near c.in-Some.node) c.as_slice.ensures.value near_is in
     subst (λ (to : List ℕ). IsBuilt c.args.old outs (c.loop-node.yielded ++ c.in-Some.node ∷ []) c.put.new.nodes to) (sym c.in_ok-push.ensures.items)
