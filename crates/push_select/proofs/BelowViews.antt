@@ -12,7 +12,7 @@ use Rattle.algebra.specs.declared.node.Node.TheVariants.{Project, Cross, SpanJoi
 use Rattle.push_select.specs.declared.below.Below.{Below}
 use Rattle.push_select.specs.declared.below.Below.TheVariants as below
 use Rattle.push_select.specs.Joins.{column_of}
-use Rattle.push_select.specs.Places.{IsBelow}
+use Rattle.push_select.specs.Replacing.{IsBelow}
 use Rattle.push_select.specs.Pushed.{ShowsColumns}
 
 -- nothing is told of a projection of other items

@@ -25,7 +25,7 @@ use Rattle.algebra.specs.SelectionLaws.{selected-columns}
 use Rattle.algebra.specs.Shapes.{IsOpen, columns, no_shape, shapes_of}
 use Rattle.algebra.specs.Values.{val}
 use Rattle.push_select.specs.Pushed.{width_at, MayStand, ArePushed}
-use Rattle.push_select.proofs.Placing.{node_there, shape_there}
+use Rattle.push_select.proofs.Replacing.{node_there, shape_there}
 
 -- the number of column n below a projection of these columns
 abbrev pub name_in : List ℕ → ℕ → ℕ

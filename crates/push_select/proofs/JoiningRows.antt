@@ -64,14 +64,14 @@ module _ (lists : Lists) (doc : Document) where
   selected-joined_out width xs ys c j form left right wide =
       selected-out xs ys c (product left right) ∙ ap (selected lists doc (xs ++ ys)) (selected-join width c j form left right wide)
 
--- the condition at a place, and those in front of it and behind it
-pub terms_split : (conds : List Expr) (place : ℕ) (cond : Expr) → place < length conds → cond ≡ get_or conds place cond
-    → map term_of conds ≡ map term_of (take place conds) ++ term_of cond ∷ map term_of (drop (place + 1) conds)
-terms_split conds place cond below at =
-    ap (λ (es : List Expr). map term_of es) (sym (take-append-drop place conds)
-    ∙ ap (λ (rest : List Expr). take place conds ++ rest) (drop_more conds place cond below ∙ ap (λ (e : Expr). e ∷ drop (place + 1) conds) (sym at)))
-    ∙ map-append term_of (take place conds) (cond ∷ drop (place + 1) conds)
+-- the condition with a number, and those in front of it and behind it
+pub terms_split : (conds : List Expr) (number : ℕ) (cond : Expr) → number < length conds → cond ≡ get_or conds number cond
+    → map term_of conds ≡ map term_of (take number conds) ++ term_of cond ∷ map term_of (drop (number + 1) conds)
+terms_split conds number cond below at =
+    ap (λ (es : List Expr). map term_of es) (sym (take-append-drop number conds)
+    ∙ ap (λ (rest : List Expr). take number conds ++ rest) (drop_more conds number cond below ∙ ap (λ (e : Expr). e ∷ drop (number + 1) conds) (sym at)))
+    ∙ map-append term_of (take number conds) (cond ∷ drop (number + 1) conds)
 
-pub terms_left : (conds others : List Expr) (place : ℕ) → others ≡ take place conds ++ drop (place + 1) conds
-    → map term_of others ≡ map term_of (take place conds) ++ map term_of (drop (place + 1) conds)
-terms_left conds others place are = ap (λ (es : List Expr). map term_of es) are ∙ map-append term_of (take place conds) (drop (place + 1) conds)
+pub terms_left : (conds others : List Expr) (number : ℕ) → others ≡ take number conds ++ drop (number + 1) conds
+    → map term_of others ≡ map term_of (take number conds) ++ map term_of (drop (number + 1) conds)
+terms_left conds others number are = ap (λ (es : List Expr). map term_of es) are ∙ map-append term_of (take number conds) (drop (number + 1) conds)

@@ -11,7 +11,7 @@ pub mod JoiningRows
 -- nodes that combine two others
 pub mod BelowViews
 -- nodes that take the place of others
-pub mod Placing
+pub mod Replacing
 -- sides that are narrowed
 pub mod Narrowing
 -- where conditions stand in plans that grow

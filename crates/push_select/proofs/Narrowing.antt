@@ -29,10 +29,10 @@ use Rattle.push_select.specs.declared.join.Join.{Join}
 use Rattle.push_select.specs.declared.selection.NarrowedPair.{NarrowedPair}
 use Rattle.push_select.specs.declared.sides.Sides.{Sides}
 use Rattle.push_select.specs.Conditions.{AreSides, IsApart}
-use Rattle.push_select.specs.Places.{Combination, all_pairs, joined_by, cross_of, join_of_pair, joint_width, Gives, Narrows, NarrowsPair, Combines}
+use Rattle.push_select.specs.Replacing.{Combination, all_pairs, joined_by, cross_of, join_of_pair, joint_width, Gives, Narrows, NarrowsPair, Combines}
 use Rattle.push_select.specs.Pushed.{width_at, ReadsBoth}
 use Rattle.push_select.proofs.JoiningRows.{selected-same}
-use Rattle.push_select.proofs.Placing.{node_there, shape_there, gives-grown, gives-is, gives-width, width-given, open-given}
+use Rattle.push_select.proofs.Replacing.{node_there, shape_there, gives-grown, gives-is, gives-width, width-given, open-given}
 use Rattle.push_select.proofs.SideViews.{left-read, right-read, joint-read}
 use Rattle.push_select.proofs.Standing.{joint-both}
 

@@ -27,11 +27,11 @@ use Rattle.push_select.specs.declared.below.Pair.{Pair}
 use Rattle.push_select.specs.declared.below.Three.{Three}
 use Rattle.push_select.specs.declared.turning.Turns.{Turns}
 use Rattle.push_select.specs.Conditions.{IsApart, AreTurns}
-use Rattle.push_select.specs.Places.{all_pairs, cross_of, front_of, behind_of, joint_width, three_width, Combines, CombinesThree}
+use Rattle.push_select.specs.Replacing.{all_pairs, cross_of, front_of, behind_of, joint_width, three_width, Combines, CombinesThree}
 use Rattle.push_select.specs.ProductLaws.{product-assoc}
 use Rattle.push_select.specs.Pushed.{width_at, ReadsBoth}
 use Rattle.push_select.proofs.JoiningRows.{selected-none}
-use Rattle.push_select.proofs.Placing.{node_there, shape_there}
+use Rattle.push_select.proofs.Replacing.{node_there, shape_there}
 use Rattle.push_select.proofs.SideViews.{shifted_read}
 
 -- the conditions by the number of columns of a node's shape

@@ -20,8 +20,8 @@ use Rattle.algebra.specs.Nodes.{IsNode}
 use Rattle.algebra.specs.Operators.{marked_in, part_of, sought_by, with_found}
 use Rattle.algebra.specs.Shapes.{columns, document_shape, no_shape, shapes_of}
 use Rattle.algebra.specs.Values.{val}
-use Rattle.push_select.specs.Places.{Searches}
-use Rattle.push_select.proofs.Placing.{node_there}
+use Rattle.push_select.specs.Replacing.{Searches}
+use Rattle.push_select.proofs.Replacing.{node_there}
 
 -- ---- what is found in the document
 

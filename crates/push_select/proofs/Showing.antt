@@ -29,7 +29,7 @@ use Rattle.algebra.specs.Values.{val}
 use Rattle.algebra.specs.WidthLaws.{AreWide, val-wide}
 use Rattle.push_select.specs.declared.below.Pair.{Pair}
 use Rattle.push_select.specs.Conditions.{IsApart}
-use Rattle.push_select.specs.Places.{all_pairs, cross_of, columns_swapped, joint_width, Combines}
+use Rattle.push_select.specs.Replacing.{all_pairs, cross_of, columns_swapped, joint_width, Combines}
 use Rattle.push_select.specs.Pushed.{width_at, ReadsBoth}
 use Rattle.push_select.proofs.Going.{name_in, column_below, all_below}
 use Rattle.push_select.proofs.Reordering.{apart_renamed, unmapped, inner_width}

@@ -15,7 +15,7 @@ use Rattle.scalar_ops.specs.Tables.{Lists}
 use Rattle.aql_typed.specs.Trees.{plain}
 use Rattle.aql_typed.specs.Meaning.{Rows, row_of, projected}
 use Rattle.algebra.specs.WidthLaws.{AreWide}
-use Rattle.push_select.specs.Places.{columns_swapped}
+use Rattle.push_select.specs.Replacing.{columns_swapped}
 
 -- ---- numbers of columns
 

@@ -30,7 +30,7 @@ use Rattle.push_select.specs.declared.below.Pair.{Pair}
 use Rattle.push_select.specs.declared.join.Join.{Join}
 use Rattle.push_select.specs.Conditions.{IsApart}
 use Rattle.push_select.specs.Joins.{join_by_sides, join_between, join_of}
-use Rattle.push_select.specs.Places.{cross_of, join_of_pair, IsPushed}
+use Rattle.push_select.specs.Replacing.{cross_of, join_of_pair, IsPushed}
 use Rattle.push_select.specs.Pushed.{width_at, IsOfSpans, AreOfBothSides, IsSpanPredicate, ReadsBoth, ReadsBothFreely, IsAnd, ShowsColumns, StandAbove, MayStand, IsUnrestricted}
 
 node_before : (nodes : List Node) (n : ℕ) → n < length (shapes_of nodes) → n < length nodes

@@ -82,9 +82,9 @@ abbrev pub IsOfOtherRank : ℕ → Option Join → Type 0
 IsOfOtherRank rank None = Unit {0}
 IsOfOtherRank rank (Some j) = rank_of j.kind ≡ rank → ⊥
 
--- a condition at a place, and the join that it stands for
+-- a condition with its number, and the join that it stands for
 pub record IsChoice (width : ℕ) (conds : List Expr) (choice : Choice) : Type 0 where
   pub cond : Expr
-  pub there : choice.place < length conds
-  pub at : cond ≡ slice_index_or conds choice.place cond
+  pub there : choice.number < length conds
+  pub at : cond ≡ slice_index_or conds choice.number cond
   pub joins : join_of width (term_of cond) ≡ Some choice.join

@@ -9,4 +9,4 @@ pub mod Conditions
 -- the join that a condition stands for
 pub mod Joins
 -- what nodes that take the place of others have
-pub mod Places
+pub mod Replacing

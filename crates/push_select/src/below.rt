@@ -3,7 +3,7 @@
 ghost use Rattle.std.specs.Prelude.{◌≡◌, IfOk, IfSome, IfNone, ℕ, List, map};
 ghost use Rattle.scalar_ops.specs.Expressions.{column};
 ghost use Rattle.scalar_ops.specs.Views.{term_of};
-ghost use Rattle.push_select.specs.Places.{IsBelow};
+ghost use Rattle.push_select.specs.Replacing.{IsBelow};
 ghost use Rattle.push_select.specs.Pushed.{IsUnrestricted};
 
 use crate::join::{Join, column_of};

@@ -14,7 +14,7 @@ use std::alloc::Global;
 pub(crate) enum Numbers<'a> {
     /// Less by so many, and 0 where it would be below.
     Less(u32),
-    /// The number that stands at their place in a list, 0 past it.
+    /// The number that stands at their index in a list, 0 past it.
     Listed(&'a [u32]),
 }
 

@@ -15,10 +15,10 @@ pub(crate) struct Join {
     pub rc: u32,
 }
 
-/// The place of a condition, from 0, and the join that it stands for.
+/// The number of a condition, from 0, and the join that it stands for.
 #[derive(Clone, Copy, Debug, PartialEq, Eq)]
 pub(crate) struct Choice {
-    pub place: usize,
+    pub number: usize,
     pub join: Join,
 }
 
@@ -54,9 +54,9 @@ fn first_of(conds: &[Expr], width: u32, rank: u8) -> Option<Choice>
     ensures some { IfSome result (λ choice. IsChoice width conds.now choice) }
     ensures none { IfNone result (All (λ cond. IsOfOtherRank rank (join_of width (term_of cond))) conds.now) }
 {
-    for (place, cond) in conds.iter().enumerate() {
+    for (number, cond) in conds.iter().enumerate() {
         if let Some(join) = ranked(cond, width, rank) {
-            return Some(Choice { place, join });
+            return Some(Choice { number, join });
         }
     }
     None

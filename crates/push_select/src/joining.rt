@@ -9,7 +9,7 @@ ghost use Rattle.algebra.specs.Nodes.{IsNode};
 ghost use Rattle.algebra.specs.Shapes.{shapes_of};
 ghost use Rattle.push_select.specs.Conditions.{IsApart};
 ghost use Rattle.push_select.specs.Joins.{join_of, IsChoice};
-ghost use Rattle.push_select.specs.Places.{all_pairs, joined_by, cross_of, join_of_pair, front_of, behind_of, joint_width, three_width, IsPushed, IsPlain, Combines, CombinesThree};
+ghost use Rattle.push_select.specs.Replacing.{all_pairs, joined_by, cross_of, join_of_pair, front_of, behind_of, joint_width, three_width, IsPushed, IsPlain, Combines, CombinesThree};
 ghost use Rattle.push_select.specs.Pushed.{width_at, ReadsBoth, StandAbove};
 
 use crate::below::{Below, Pair, Three, below_of, is_product};
@@ -243,7 +243,7 @@ fn found_joined(
     ensures pushed { OnOk result (IsPushed nodes.new) }
 {
     let mut others = conds;
-    let _joins = others.remove(found.place);
+    let _joins = others.remove(found.number);
     let n = joined(nodes, pair, found.join, others)?;
     Ok(n)
 }

@@ -6,7 +6,7 @@ ghost use Rattle.algebra.specs.declared.node.Node.TheVariants.{Project};
 ghost use Rattle.algebra.specs.Growth.{Stands};
 ghost use Rattle.algebra.specs.Nodes.{IsNode};
 ghost use Rattle.algebra.specs.Shapes.{shapes_of};
-ghost use Rattle.push_select.specs.Places.{IsPushed};
+ghost use Rattle.push_select.specs.Replacing.{IsPushed};
 
 use crate::below::{Below, below_of};
 use crate::copying::{Numbers, all_renamed, columns_shown};

@@ -43,7 +43,7 @@ pub fn push(alloc: Global, plan: Plan) -> Result<Plan, OutOfMemory>
 struct Pushing;
 
 impl Rewrite for Pushing {
-    ghost use Rattle.push_select.specs.Places.{IsPushed};
+    ghost use Rattle.push_select.specs.Replacing.{IsPushed};
 
     ghost knows = { λ rule nodes. IsPushed nodes };
 

@@ -7,7 +7,7 @@ ghost use Rattle.algebra.specs.declared.node.Node.TheVariants.{Select, Project, 
 ghost use Rattle.algebra.specs.Growth.{Stands, IsAt};
 ghost use Rattle.algebra.specs.Nodes.{IsNode};
 ghost use Rattle.algebra.specs.Shapes.{shapes_of};
-ghost use Rattle.push_select.specs.Places.{cross_of, join_of_pair, joint_width, IsPushed, Narrows, NarrowsPair};
+ghost use Rattle.push_select.specs.Replacing.{cross_of, join_of_pair, joint_width, IsPushed, Narrows, NarrowsPair};
 
 use crate::below::{Below, Pair, below_of};
 use crate::copying::{Numbers, all_copied, all_renamed};

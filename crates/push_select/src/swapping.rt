@@ -2,7 +2,7 @@
 
 ghost use Rattle.std.specs.Prelude.{◌≡◌, ◌++◌, IfOk, OnOk};
 ghost use Rattle.std.specs.List.{range_with_len};
-ghost use Rattle.push_select.specs.Places.{columns_swapped};
+ghost use Rattle.push_select.specs.Replacing.{columns_swapped};
 
 use span_token::OutOfMemory;
 use std::alloc::Global;

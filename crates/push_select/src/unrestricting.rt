@@ -5,7 +5,7 @@ ghost use Rattle.algebra.specs.declared.node.Node.TheVariants.{Restricted};
 ghost use Rattle.algebra.specs.Growth.{Stands};
 ghost use Rattle.algebra.specs.Nodes.{IsNode};
 ghost use Rattle.algebra.specs.Shapes.{document_shape, no_shape, shapes_of, IsSought};
-ghost use Rattle.push_select.specs.Places.{IsPushed, Searches};
+ghost use Rattle.push_select.specs.Replacing.{IsPushed, Searches};
 
 use algebra::{JoinKind, Local, Node, Nodes};
 use span_token::{OutOfMemory, OwnedList};

@@ -4,11 +4,11 @@ use Rattle.push_select.specs.Joins.{join_of, IsOfOtherRank}
 use Rattle.push_select.proofs.JoinViews.{all_more, all_of, when_none}
 use Rattle.push_select.proofs.join.first_of.Goals as goal
 
-pub loop-place-preserved : goal.loop-place-preserved
-loop-place-preserved c =
-    all_more (λ (cond : Expr). IsOfOtherRank c.args.rank (join_of c.args.width (term_of cond))) c.args.conds.now c.loop-place.place c.index-conds-place.result c.loop-place-test.true c.index-conds-place.is c.loop-place.invariant
-    (when_none (IsOfOtherRank c.args.rank (join_of c.args.width (term_of c.index-conds-place.result))) c.ranked.result c.in_default.not-Some c.ranked.ensures.none)
+pub loop-number-preserved : goal.loop-number-preserved
+loop-number-preserved c =
+    all_more (λ (cond : Expr). IsOfOtherRank c.args.rank (join_of c.args.width (term_of cond))) c.args.conds.now c.loop-number.number c.index-conds-number.result c.loop-number-test.true c.index-conds-number.is c.loop-number.invariant
+    (when_none (IsOfOtherRank c.args.rank (join_of c.args.width (term_of c.index-conds-number.result))) c.ranked.result c.in_default.not-Some c.ranked.ensures.none)
 
 pub returns-clause-none : goal.returns-clause-none
 returns-clause-none c =
-    all_of (λ (cond : Expr). IsOfOtherRank c.args.rank (join_of c.args.width (term_of cond))) c.args.conds.now c.loop-place.place c.loop-place-test.false c.loop-place.invariant
+    all_of (λ (cond : Expr). IsOfOtherRank c.args.rank (join_of c.args.width (term_of cond))) c.args.conds.now c.loop-number.number c.loop-number-test.false c.loop-number.invariant

@@ -5,5 +5,5 @@ use Rattle.scalar_ops.specs.Views.{term_of}
 use Rattle.push_select.specs.Joins.{join_of, IsOfOtherRank}
 use Rattle.push_select.proofs.join.first_of.Given as goal
 
-abbrev pub invariant-loop-place : goal.invariant-loop-place
-invariant-loop-place l = All (λ (cond : Expr). IsOfOtherRank l.rank (join_of l.width (term_of cond))) (take l.place l.conds)
+abbrev pub invariant-loop-number : goal.invariant-loop-number
+invariant-loop-number l = All (λ (cond : Expr). IsOfOtherRank l.rank (join_of l.width (term_of cond))) (take l.number l.conds)

@@ -10,11 +10,11 @@ use Rattle.algebra.specs.Growth.{Stands, IsAt}
 use Rattle.algebra.specs.Nodes.{IsNode}
 use Rattle.algebra.specs.Shapes.{shapes_of}
 use Rattle.push_select.specs.Conditions.{IsApart, AreTurns}
-use Rattle.push_select.specs.Places.{all_pairs, behind_of, columns_swapped, IsBelow, Combines}
+use Rattle.push_select.specs.Replacing.{all_pairs, behind_of, columns_swapped, IsBelow, Combines}
 use Rattle.push_select.specs.Pushed.{width_at, ReadsBoth}
 use Rattle.push_select.proofs.ExprViews.{named-terms}
 use Rattle.push_select.proofs.Going.{name_in}
-use Rattle.push_select.proofs.Placing.{node_there}
+use Rattle.push_select.proofs.Replacing.{node_there}
 use Rattle.push_select.proofs.Reordering.{turns_at, later_of, behind-reads, behind-joint, behind-apart, front-valid, front-reads, front-joint, front-apart, turned-combines, three-behind, three-reads, three-joint, three-combines}
 use Rattle.push_select.proofs.Showing.{shown-reads, shown-joint, shown-apart, shown-valid, shown-combines, columns-shows, swapped-shows, swapped-further, swapped-front, swapped-behind}
 use Rattle.push_select.proofs.joining.+pairing.Goals as goal

@@ -1,7 +1,7 @@
 use Rattle.std.proofs.Common.{map, refl}
 use Rattle.scalar_ops.specs.Views.{term_of}
-use Rattle.push_select.specs.Places.{all_pairs, cross_of}
-use Rattle.push_select.proofs.Placing.{node_there, above-valid, above-combines}
+use Rattle.push_select.specs.Replacing.{all_pairs, cross_of}
+use Rattle.push_select.proofs.Replacing.{node_there, above-valid, above-combines}
 use Rattle.push_select.proofs.Standing.{pushed-add, above-last, above-cross}
 use Rattle.push_select.proofs.joining.crossed.Goals as goal
 

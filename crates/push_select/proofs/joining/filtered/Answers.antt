@@ -6,7 +6,7 @@ use Rattle.algebra.specs.declared.node.Node.TheVariants.{Select}
 use Rattle.algebra.specs.Nodes.{IsNode}
 use Rattle.algebra.specs.Shapes.{shapes_of}
 use Rattle.push_select.specs.Pushed.{StandAbove}
-use Rattle.push_select.proofs.Placing.{terms_none, stands-none}
+use Rattle.push_select.proofs.Replacing.{terms_none, stands-none}
 use Rattle.push_select.proofs.Standing.{pushed-add}
 use Rattle.push_select.proofs.joining.filtered.Goals as goal
 

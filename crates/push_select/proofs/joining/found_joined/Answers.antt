@@ -1,7 +1,7 @@
 use Rattle.scalar_ops.specs.Expressions.{ReadsBelow}
-use Rattle.push_select.specs.Places.{joint_width}
+use Rattle.push_select.specs.Replacing.{joint_width}
 use Rattle.push_select.specs.Pushed.{width_at, ReadsBoth}
-use Rattle.push_select.proofs.Placing.{others-all, join-valid, found-combines}
+use Rattle.push_select.proofs.Replacing.{others-all, join-valid, found-combines}
 use Rattle.push_select.proofs.joining.found_joined.Goals as goal
 
 pub joined-requires-clause-both : goal.joined-requires-clause-both

@@ -1,7 +1,7 @@
 use Rattle.std.proofs.Common.{map, refl}
 use Rattle.scalar_ops.specs.Views.{term_of}
-use Rattle.push_select.specs.Places.{joined_by, join_of_pair}
-use Rattle.push_select.proofs.Placing.{node_there, above-valid, above-combines}
+use Rattle.push_select.specs.Replacing.{joined_by, join_of_pair}
+use Rattle.push_select.proofs.Replacing.{node_there, above-valid, above-combines}
 use Rattle.push_select.proofs.Standing.{pushed-add, above-last, above-join}
 use Rattle.push_select.proofs.joining.joined.Goals as goal
 

@@ -1,4 +1,4 @@
-use Rattle.push_select.proofs.Placing.{node_there}
+use Rattle.push_select.proofs.Replacing.{node_there}
 use Rattle.push_select.proofs.joining.matched.Goals as goal
 
 pub shape-width-requires : goal.shape-width-requires

@@ -3,12 +3,12 @@ use Rattle.scalar_ops.specs.Expressions.{column}
 use Rattle.algebra.specs.declared.node.Node.{Node}
 use Rattle.algebra.specs.declared.node.Node.TheVariants.{Project}
 use Rattle.algebra.specs.Growth.{IsAt}
-use Rattle.push_select.specs.Places.{IsBelow}
+use Rattle.push_select.specs.Replacing.{IsBelow}
 use Rattle.push_select.specs.Pushed.{MayStand}
 use Rattle.push_select.proofs.BelowViews.{shows-none}
 use Rattle.push_select.proofs.ExprViews.{named-terms}
 use Rattle.push_select.proofs.Going.{may-at, items-below, items-stands}
-use Rattle.push_select.proofs.Placing.{node_there}
+use Rattle.push_select.proofs.Replacing.{node_there}
 use Rattle.push_select.proofs.Standing.{pushed-add, shows-there}
 use Rattle.push_select.proofs.projecting.projected.Goals as goal
 

@@ -6,11 +6,11 @@ use Rattle.algebra.specs.declared.node.Node.TheVariants.{Select, Project, Union}
 use Rattle.algebra.specs.Growth.{Stands, IsAt}
 use Rattle.algebra.specs.Nodes.{IsNode}
 use Rattle.algebra.specs.Shapes.{shapes_of}
-use Rattle.push_select.specs.Places.{IsBelow}
+use Rattle.push_select.specs.Replacing.{IsBelow}
 use Rattle.push_select.proofs.ExprViews.{named-terms}
 use Rattle.push_select.proofs.Going.{union-left, union-right, union-valid, union-stands, columns-below, columns-above, columns-stands}
 use Rattle.push_select.proofs.Narrowing.{left-valid, right-valid, pair-narrows, narrowed-valid, narrowed-join-valid, narrowed-reads, narrowed-both, narrowed-apart, product-stands, join-stands, reads_joint, sides_at}
-use Rattle.push_select.proofs.Placing.{node_there, terms_none, narrows-none, narrows-stands}
+use Rattle.push_select.proofs.Replacing.{node_there, terms_none, narrows-none, narrows-stands}
 use Rattle.push_select.proofs.Standing.{pushed-add, above-there}
 use Rattle.push_select.proofs.selection.+selection.Goals as goal
 

@@ -3,7 +3,7 @@ use Rattle.algebra.specs.declared.node.Local.{Local}
 use Rattle.algebra.specs.declared.node.Node.TheVariants.{TokenRegex, Dict, DictPart}
 use Rattle.algebra.specs.Growth.{Stands}
 use Rattle.algebra.specs.Shapes.{IsSought}
-use Rattle.push_select.specs.Places.{IsPushed, Searches}
+use Rattle.push_select.specs.Replacing.{IsPushed, Searches}
 use Rattle.push_select.proofs.Searching.{runs-valid, runs-searched, dict-valid, part-valid, part-searched}
 use Rattle.push_select.proofs.Standing.{pushed-add}
 use Rattle.push_select.proofs.unrestricting.searched.Goals as goal

@@ -24,7 +24,7 @@ use Rattle.algebra.specs.WidthLaws.{val-wide}
 use Rattle.push_select.specs.declared.below.Pair.{Pair}
 use Rattle.push_select.specs.declared.join.Choice.{Choice}
 use Rattle.push_select.specs.Joins.{IsChoice}
-use Rattle.push_select.specs.Places.{Combination, all_pairs, joined_by, cross_of, join_of_pair, joint_width, IsPlain, Gives, Narrows, Combines}
+use Rattle.push_select.specs.Replacing.{Combination, all_pairs, joined_by, cross_of, join_of_pair, joint_width, IsPlain, Gives, Narrows, Combines}
 use Rattle.push_select.specs.Pushed.{width_at}
 use Rattle.push_select.proofs.JoiningRows.{selected-none, selected-joined_out, terms_split, terms_left}
 use Rattle.push_select.proofs.JoinViews.{JoinForm, is_join, join-left, join-right}
@@ -132,25 +132,25 @@ module _ (old mid : List Node) (m : ℕ) (pair : Pair) (rows : Combination) (has
 
 module _ (old : List Node) (pair : Pair) (both : IsNode (shapes_of old) (cross_of pair)) (conds : List Expr) (found : Choice) (is : IsChoice (width_at old pair.left) conds found) where
   abbrev front : List Term
-  front = map term_of (take found.place conds)
+  front = map term_of (take found.number conds)
 
   abbrev rest : List Term
-  rest = map term_of (drop (found.place + 1) conds)
+  rest = map term_of (drop (found.number + 1) conds)
 
   form : JoinForm (width_at old pair.left) (term_of is.cond) found.join
   form = is_join (width_at old pair.left) (term_of is.cond) found.join is.joins
 
   split : map term_of conds ≡ front ++ term_of is.cond ∷ rest
-  split = terms_split conds found.place is.cond is.there is.at
+  split = terms_split conds found.number is.cond is.there is.at
 
   -- what holds of all conditions holds of that one
   found_all : (P : Term → Type 0) → All P (map term_of conds) → P (term_of is.cond)
   found_all P all = All-head P (term_of is.cond) rest (all-right P front (term_of is.cond ∷ rest) (subst (All P) split all))
 
   -- and of the others
-  pub others-all : (P : Term → Type 0) (others : List Expr) → others ≡ take found.place conds ++ drop (found.place + 1) conds → All P (map term_of conds) → All P (map term_of others)
+  pub others-all : (P : Term → Type 0) (others : List Expr) → others ≡ take found.number conds ++ drop (found.number + 1) conds → All P (map term_of conds) → All P (map term_of others)
   others-all P others are all =
-      subst (All P) (sym (terms_left conds others found.place are))
+      subst (All P) (sym (terms_left conds others found.number are))
       (All-append P front rest (all-left P front (term_of is.cond ∷ rest) (subst (All P) split all))
       (All-tail P (term_of is.cond) rest (all-right P front (term_of is.cond ∷ rest) (subst (All P) split all))))
 
@@ -167,17 +167,17 @@ module _ (old : List Node) (pair : Pair) (both : IsNode (shapes_of old) (cross_o
   }
 
   -- the others over the join are all conditions over the product
-  others_same : IsPlan old → (others : List Expr) → others ≡ take found.place conds ++ drop (found.place + 1) conds → (lists : Lists) (doc : Document)
+  others_same : IsPlan old → (others : List Expr) → others ≡ take found.number conds ++ drop (found.number + 1) conds → (lists : Lists) (doc : Document)
       → selected lists doc (map term_of others) (joined_by found.join doc (val lists doc old pair.left) (val lists doc old pair.right))
       ≡ selected lists doc (map term_of conds) (all_pairs doc (val lists doc old pair.left) (val lists doc old pair.right))
   others_same plan others are lists doc =
       let a = val lists doc old pair.left in
       let b = val lists doc old pair.right in
-      ap (λ (cs : List Term). selected lists doc cs (joined_by found.join doc a b)) (terms_left conds others found.place are)
+      ap (λ (cs : List Term). selected lists doc cs (joined_by found.join doc a b)) (terms_left conds others found.number are)
       ∙ (sym (selected-joined_out lists doc (width_at old pair.left) front rest (term_of is.cond) found.join form a b (val-wide lists doc old pair.left plan))
       ∙ ap (λ (cs : List Term). selected lists doc cs (all_pairs doc a b)) (sym split))
 
-  pub found-combines : IsPlan old → (others : List Expr) → others ≡ take found.place conds ++ drop (found.place + 1) conds → (new : List Node) (n : ℕ)
+  pub found-combines : IsPlan old → (others : List Expr) → others ≡ take found.number conds ++ drop (found.number + 1) conds → (new : List Node) (n : ℕ)
       → Combines old new pair n (joined_by found.join) (map term_of others) → Combines old new pair n all_pairs (map term_of conds)
   found-combines plan others are new n combines = record {
     grows = combines.grows;
