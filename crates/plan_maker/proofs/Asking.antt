@@ -18,12 +18,12 @@ asks_moved number node asks = tt
 
 -- a `Dict` node and a part of one are no joins
 part_asks : (node : Node) → IsPart node → IsUnrestricted node
-part_asks (DictPart input place) part = tt
+part_asks (DictPart input number) part = tt
 part_asks node part = absurd part
 
 plain_asks : (node : Node) → (IsPlain node → IsUnrestricted node) → IsUnrestricted node
 plain_asks (Dict input column dicts) plain = tt
-plain_asks (DictPart input place) plain = tt
+plain_asks (DictPart input number) plain = tt
 plain_asks node plain = plain tt
 
 module _ (old new : List Node) (renumbered : IsRenumbered old new) (all : AreUnrestricted old) where

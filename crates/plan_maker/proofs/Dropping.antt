@@ -48,18 +48,18 @@ runs_before : (number : ℕ → ℕ) (before : Node) (source col low high patter
 runs_before number (TokenRegex s c l h p groups) source col low high pattern e = record { s = s; is = cc; source_number = cc }
 runs_before number node source col low high pattern e = absurd (subst is_runs e tt)
 
-record WasPart (number : ℕ → ℕ) (before : Node) (input place : ℕ) : Type 0 where
+record WasPart (number : ℕ → ℕ) (before : Node) (input part : ℕ) : Type 0 where
   pub i : ℕ
-  pub is : before ≡ DictPart i place
+  pub is : before ≡ DictPart i part
   pub input_number : number i ≡ input
 
 abbrev is_part : Node → Type 0
-is_part (DictPart i place) = Unit {0}
+is_part (DictPart i part) = Unit {0}
 is_part node = ⊥
 
-part_before : (number : ℕ → ℕ) (before : Node) (input place : ℕ) → DictPart input place ≡ with_inputs number before → WasPart number before input place
-part_before number (DictPart i p) input place e = record { i = i; is = cc; input_number = cc }
-part_before number node input place e = absurd (subst is_part e tt)
+part_before : (number : ℕ → ℕ) (before : Node) (input part : ℕ) → DictPart input part ≡ with_inputs number before → WasPart number before input part
+part_before number (DictPart i p) input part e = record { i = i; is = cc; input_number = cc }
+part_before number node input part e = absurd (subst is_part e tt)
 
 record WasDict (number : ℕ → ℕ) (before : Node) (source col : ℕ) (dicts : List ℕ) : Type 0 where
   pub s : ℕ

@@ -172,7 +172,7 @@ module _ (old : List Node) (i w : ℕ) (f : Lists → Document → Rows) (gives 
   gives-blocks column low high from upto tokens new n stands =
       record { shape = columns 1; readable = tt; wide = refl; has = has-blocks old i gives.shape f gives.has column low high from upto tokens new n stands }
 
-  -- a `Dict` node of one dictionary, and its one place
+  -- a `Dict` node of one dictionary, and its part
   pub valid-dict : (column : ℕ) (dicts : List ℕ) → column < w → IsNode (shapes_of old) (Dict i column dicts)
   valid-dict column dicts h = node-dict old i gives.shape f gives.has column dicts gives.readable (below column h)
 

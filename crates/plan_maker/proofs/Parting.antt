@@ -82,7 +82,7 @@ holding_more lists doc row conds i cond first before after below at so_far put =
     ∙ (ap (λ (ts : List Term). holding lists doc ts row) (map-append term_of (take i conds) (cond ∷ []))
     ∙ (holding-append lists doc row (map term_of (take i conds)) (term_of cond ∷ []) ∙ ap (λ (b : Bool). front && b) (and_true one)))))))
 
--- the condition at a place reads what all read
+-- the condition with a number reads what all read
 pub reads_at : (width : ℕ) (conds : List Expr) (i : ℕ) (cond : Expr) → i < length conds → cond ≡ get_or conds i cond → All (ReadsBelow width) (map term_of conds) → ReadsBelow width (term_of cond)
 reads_at width conds i cond below at all =
     subst (ReadsBelow width) (get_or-map term_of conds i cond (term_of cond) below ∙ ap term_of (sym at)) (all i (term_of cond) (omega (arith, below, length-map conds term_of)))

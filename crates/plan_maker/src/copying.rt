@@ -87,8 +87,8 @@ pub(crate) fn with_columns(
     let Some(_end) = first.checked_add(count) else {
         return Err(OutOfMemory);
     };
-    for place in 0..count {
-        all.push(Expr::Column(first + place))?;
+    for number in 0..count {
+        all.push(Expr::Column(first + number))?;
     }
     Ok(Exprs::from(all))
 }

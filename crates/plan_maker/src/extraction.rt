@@ -173,7 +173,7 @@ fn found(
     }
 }
 
-/// A node of each row of `input`, followed by a match of a dictionary: the one place of a `Dict` node.
+/// A node of each row of `input`, followed by a match of a dictionary: the only one of a `Dict` node.
 fn entries(
     alloc: Global,
     nodes: &mut Nodes,
