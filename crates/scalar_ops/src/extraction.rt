@@ -34,11 +34,11 @@ impl<'t> Tools<'t> {
         ensures within { All (IsInside (extent_of source)) into.old.items → OnOk result (All (IsInside (extent_of source)) into.new.items) }
         ensures same { self.new ≡ self.old }
     {
-        let place = pattern as usize;
+        let index = pattern as usize;
         let tables = self.tables;
-        match tables.patterns.get(place) {
+        match tables.patterns.get(index) {
             Some(pattern) => {
-                let kept = &mut self.plain[place];
+                let kept = &mut self.plain[index];
                 append_found(self.alloc, kept, pattern, doc, source, groups, into)
             }
             None => Ok(0),
@@ -67,11 +67,11 @@ impl<'t> Tools<'t> {
         ensures within { All (IsInside (extent_of source)) into.old.items → OnOk result (All (IsInside (extent_of source)) into.new.items) }
         ensures same { self.new ≡ self.old }
     {
-        let place = pattern as usize;
+        let index = pattern as usize;
         let tables = self.tables;
-        match tables.patterns.get(place) {
+        match tables.patterns.get(index) {
             Some(pattern) => {
-                let kept = &mut self.whole[place];
+                let kept = &mut self.whole[index];
                 append_runs(
                     self.alloc, kept, pattern, doc, source, low, high, groups, into,
                 )

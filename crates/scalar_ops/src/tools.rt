@@ -41,12 +41,12 @@ impl<'t> Model for Tools<'t> {
     ghost invariant = { λ tools. ArePrepared tools.tables.now.patterns tools.plain.items × ArePrepared tools.tables.now.patterns tools.whole.items };
 }
 
-/// So many places without a searcher.
-fn places<T: Drop>(alloc: Global, number: usize) -> Result<Vec<Option<T>>, OutOfMemory>
+/// So many patterns of which no searcher was made.
+fn unprepared<T: Drop>(alloc: Global, number: usize) -> Result<Vec<Option<T>>, OutOfMemory>
     ensures { IfOk result (λ all. all.items ≡ replicate number None) }
 {
     let mut all = Vec::new(alloc);
-    for _place in 0..number {
+    for _n in 0..number {
         all.push(None)?;
     }
     Ok(all)
@@ -57,8 +57,8 @@ impl<'t> Tools<'t> {
     pub fn new(alloc: Global, tables: &'t Tables) -> Result<Tools<'t>, OutOfMemory>
         ensures { IfOk result (λ tools. tools ≡ tables.now) }
     {
-        let plain = places(alloc, tables.patterns.len())?;
-        let whole = places(alloc, tables.patterns.len())?;
+        let plain = unprepared(alloc, tables.patterns.len())?;
+        let whole = unprepared(alloc, tables.patterns.len())?;
         Ok(Tools {
             tables,
             plain,
@@ -84,10 +84,10 @@ impl<'t> Tools<'t> {
         ensures found { IfOk result (λ found. found ≡ holds_of_pattern self.old pattern (λ p. does_match p text.now)) }
         ensures same { self.new ≡ self.old }
     {
-        let place = pattern as usize;
+        let index = pattern as usize;
         let tables = self.tables;
-        match tables.patterns.get(place) {
-            Some(pattern) => found(self.alloc, &mut self.plain[place], pattern, text),
+        match tables.patterns.get(index) {
+            Some(pattern) => found(self.alloc, &mut self.plain[index], pattern, text),
             None => Ok(false),
         }
     }
@@ -98,10 +98,10 @@ impl<'t> Tools<'t> {
         ensures found { IfOk result (λ found. found ≡ holds_of_pattern self.old pattern (λ p. does_match (whole_form p) text.now)) }
         ensures same { self.new ≡ self.old }
     {
-        let place = pattern as usize;
+        let index = pattern as usize;
         let tables = self.tables;
-        match tables.patterns.get(place) {
-            Some(pattern) => found_whole(self.alloc, &mut self.whole[place], pattern, text),
+        match tables.patterns.get(index) {
+            Some(pattern) => found_whole(self.alloc, &mut self.whole[index], pattern, text),
             None => Ok(false),
         }
     }

@@ -128,7 +128,7 @@ fn is_wanted(value: Value<'_>, want: &Want) -> bool {
     }
 }
 
-/// The place of the first call that isn't worth what its case wants, or the number of calls.
+/// The number of the first call, from 0, that isn't worth what its case wants, or how many calls there are.
 fn first_wrong<'d>(
     tools: &mut Tools<'_>,
     doc: &Document<'d>,
@@ -138,10 +138,10 @@ fn first_wrong<'d>(
 ) -> Result<usize, OutOfMemory>
     requires in_document { All (IsOfDocument doc.now) row.now }
 {
-    for (place, (call, case)) in calls.iter().zip(cases).enumerate() {
+    for (number, (call, case)) in calls.iter().zip(cases).enumerate() {
         let found = eval(tools, doc, row, call)?;
         if !is_wanted(found, &case.2) {
-            return Ok(place);
+            return Ok(number);
         }
     }
     Ok(calls.len())
@@ -284,7 +284,7 @@ fn what_is_read_is_looked_for_in_every_argument(rt: HostRuntime) -> Result<(), F
     Ok(())
 }
 
-/// A worker's own tools, and the place of the first call that was wrong to it.
+/// A worker's own tools, and the number of the first call that was wrong to it.
 #[derive(Drop)]
 struct Worker<'t> {
     tools: Tools<'t>,
