@@ -24,7 +24,7 @@ module _ (plan : Parts) (docs : List Document) (d : ℕ) (is : IsEmptyPlan plan)
 
   result_on : (doc : Document) → slice_get docs d ≡ Some doc → IsResult plan docs (d * 2 + 1) (record { width = 1; rows = [] })
   result_on doc there = record {
-    place = record {
+    of_item = record {
       d = d;
       n = 1;
       doc = doc;
