@@ -20,26 +20,6 @@ pub struct Label<'a> {
     pub at: u32,
 }
 
-/// Adds a name; false where it is there.
-fn add_name<'a>(names: &mut IndexSet<&'a str>, name: &'a str) -> Result<bool, OutOfMemory>
-    ensures { IfOk result (AddsText (has names.old) (has names.new) name.now) }
-{
-    Ok(names.insert(name)?)
-}
-
-/// The first name that an earlier one equals.
-fn first_repeated<'a>(alloc: Global, names: &[Label<'a>]) -> Result<Option<Label<'a>>, OutOfMemory>
-    ensures { IfOk result (λ found. option_map label_of found ≡ spec.first (spec.repeated [] (map label_of names.now))) }
-{
-    let mut seen = IndexSet::new(alloc);
-    for name in names {
-        if !add_name(&mut seen, name.text)? {
-            return Ok(Some(*name));
-        }
-    }
-    Ok(None)
-}
-
 /// Refuses an alias that is given twice: `DuplicateAlias`, at the first that an earlier one equals.
 pub fn refuse_aliases(alloc: Global, names: &[Label<'_>]) -> Result<(), Failure<Breach>>
     ensures ok { OnOk result (spec.duplicate rule.DuplicateAlias (map label_of names.now) ≡ []) }
@@ -60,4 +40,24 @@ pub(crate) fn refuse_columns(alloc: Global, names: &[Label<'_>]) -> Result<(), F
         None => Ok(()),
         Some(name) => Err(duplicate_column(alloc, name.at, name.text)),
     }
+}
+
+/// The first name that an earlier one equals.
+fn first_repeated<'a>(alloc: Global, names: &[Label<'a>]) -> Result<Option<Label<'a>>, OutOfMemory>
+    ensures { IfOk result (λ found. option_map label_of found ≡ spec.first (spec.repeated [] (map label_of names.now))) }
+{
+    let mut seen = IndexSet::new(alloc);
+    for name in names {
+        if !add_name(&mut seen, name.text)? {
+            return Ok(Some(*name));
+        }
+    }
+    Ok(None)
+}
+
+/// Adds a name; false where it is there.
+fn add_name<'a>(names: &mut IndexSet<&'a str>, name: &'a str) -> Result<bool, OutOfMemory>
+    ensures { IfOk result (AddsText (has names.old) (has names.new) name.now) }
+{
+    Ok(names.insert(name)?)
 }

@@ -56,15 +56,13 @@ impl Search<'_> {
     }
 }
 
-/// The span in a column of a row, None where it has no such column.
-fn span_in(row: &Row<'_>, column: u32) -> Option<Span>
-    ensures { option_map extent_of result ≡ span_in column row.now }
+/// The span in a column of a row of the document.
+pub fn source_in<'d>(doc: &Document<'d>, row: &Row<'d>, column: u32) -> Option<Span>
+    requires in_document { All (IsOfDocument doc.now) row.now }
+    ensures source { option_map extent_of result ≡ span_in column row.now }
+    ensures lies { IfSome result (λ s. LiesIn (extent_of s) doc.now) }
 {
-    if column < row.len() {
-        row.get(column).as_span()
-    } else {
-        None
-    }
+    span_in(row, column)
 }
 
 /// Searches a row, in place of what `found` held: for each match one entry for each group, None for one
@@ -110,13 +108,15 @@ pub(crate) fn find<'d>(
     }
 }
 
-/// The span in a column of a row of the document.
-pub fn source_in<'d>(doc: &Document<'d>, row: &Row<'d>, column: u32) -> Option<Span>
-    requires in_document { All (IsOfDocument doc.now) row.now }
-    ensures source { option_map extent_of result ≡ span_in column row.now }
-    ensures lies { IfSome result (λ s. LiesIn (extent_of s) doc.now) }
+/// The span in a column of a row, None where it has no such column.
+fn span_in(row: &Row<'_>, column: u32) -> Option<Span>
+    ensures { option_map extent_of result ≡ span_in column row.now }
 {
-    span_in(row, column)
+    if column < row.len() {
+        row.get(column).as_span()
+    } else {
+        None
+    }
 }
 
 /// The matches of a pattern in a span.

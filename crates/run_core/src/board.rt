@@ -102,6 +102,27 @@ impl<'d> Board<'d> {
     }
 }
 
+/// The board that a legal list of events makes of the one with nothing claimed and nothing published; each
+/// `Publish` has its rows.
+pub fn replay<'d>(
+    alloc: Global,
+    plan: &'d Plan,
+    docs: &'d [Document<'d>],
+    events: Vec<(Event, Option<Arc<Rows<'d>, Global>>)>,
+) -> Result<Board<'d>, OutOfMemory>
+    requires few { item_count plan.now docs.now < 2 ^ 32 }
+    requires legal { AreLegal (fresh plan.now docs.now) (map (happening arc_value) events.items) }
+    ensures after { IfOk result (λ board. board ≡ after_all (fresh plan.now docs.now) (map (happening arc_value) events.entry.items)) }
+    ensures reached { IfOk result (λ board. IsReachedBy board (map (happening arc_value) events.entry.items)) }
+    ensures sound { IfOk result (λ board. IsSound board) }
+{
+    let mut board = Board::new(alloc, plan, docs)?;
+    for (event, rows) in events {
+        board.step(event, rows);
+    }
+    Ok(board)
+}
+
 /// How many nodes the plan has.
 fn nodes_of(plan: &Plan) -> usize
     ensures count { result ≡ length plan.now.nodes }
@@ -133,25 +154,4 @@ fn step_spots<'d>(spots: &mut Vec<Spot<'d>>, event: Event, rows: Option<Arc<Rows
         Event::Publish { item, .. } => spots[item as usize].set_rows(rows),
         Event::Late { .. } => {}
     }
-}
-
-/// The board that a legal list of events makes of the one with nothing claimed and nothing published; each
-/// `Publish` has its rows.
-pub fn replay<'d>(
-    alloc: Global,
-    plan: &'d Plan,
-    docs: &'d [Document<'d>],
-    events: Vec<(Event, Option<Arc<Rows<'d>, Global>>)>,
-) -> Result<Board<'d>, OutOfMemory>
-    requires few { item_count plan.now docs.now < 2 ^ 32 }
-    requires legal { AreLegal (fresh plan.now docs.now) (map (happening arc_value) events.items) }
-    ensures after { IfOk result (λ board. board ≡ after_all (fresh plan.now docs.now) (map (happening arc_value) events.entry.items)) }
-    ensures reached { IfOk result (λ board. IsReachedBy board (map (happening arc_value) events.entry.items)) }
-    ensures sound { IfOk result (λ board. IsSound board) }
-{
-    let mut board = Board::new(alloc, plan, docs)?;
-    for (event, rows) in events {
-        board.step(event, rows);
-    }
-    Ok(board)
 }
