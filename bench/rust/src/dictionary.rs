@@ -27,21 +27,21 @@ fn push_folded(key: &mut String, token: &str) {
 fn for_beginnings(entry: &str, mut put: impl FnMut(&str, bool)) {
     let tokens = tokens_of(entry);
     let mut key = String::new();
-    for (place, token) in tokens.iter().enumerate() {
-        if place > 0 {
+    for (number, token) in tokens.iter().enumerate() {
+        if number > 0 {
             key.push(' ');
         }
         push_folded(&mut key, &entry[token.begin..token.end]);
-        put(&key, place + 1 == tokens.len());
+        put(&key, number + 1 == tokens.len());
     }
 }
 
 /// Gives the runs of tokens that the map has, in order, with what it has for them.
 fn for_runs<T: Copy>(doc: &Document<'_>, runs: &HashMap<String, T>, mut give: impl FnMut(Span, T)) {
     let mut key = String::new();
-    for (place, first) in doc.tokens.iter().enumerate() {
+    for (number, first) in doc.tokens.iter().enumerate() {
         key.clear();
-        for token in &doc.tokens[place..] {
+        for token in &doc.tokens[number..] {
             if !key.is_empty() {
                 key.push(' ');
             }

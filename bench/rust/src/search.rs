@@ -29,9 +29,9 @@ pub fn whole(pattern: &str) -> Regex {
 pub fn token_runs(regex: &Regex, doc: &Document<'_>, low: usize, high: usize) -> Vec<Span> {
     let tokens = &doc.tokens;
     let mut found = Vec::new();
-    for (place, first) in tokens.iter().enumerate() {
-        for count in (low..=high.min(tokens.len() - place)).rev() {
-            let run = Span { begin: first.begin, end: tokens[place + count - 1].end };
+    for (number, first) in tokens.iter().enumerate() {
+        for count in (low..=high.min(tokens.len() - number)).rev() {
+            let run = Span { begin: first.begin, end: tokens[number + count - 1].end };
             if regex.is_match(doc.text_of(run)) {
                 found.push(run);
                 break;
@@ -42,8 +42,8 @@ pub fn token_runs(regex: &Regex, doc: &Document<'_>, low: usize, high: usize) ->
 }
 
 /// From the token with that number the longest run of at most so many tokens that a whole-text pattern matches.
-pub fn token_run(regex: &Regex, doc: &Document<'_>, place: usize, most: usize) -> Option<Span> {
-    let tokens = doc.tokens.get(place..)?;
+pub fn token_run(regex: &Regex, doc: &Document<'_>, number: usize, most: usize) -> Option<Span> {
+    let tokens = doc.tokens.get(number..)?;
     let begin = tokens.first()?.begin;
     let mut runs = tokens.iter().take(most).map(|last| Span { begin, end: last.end }).rev();
     runs.find(|run| regex.is_match(doc.text_of(*run)))

@@ -53,10 +53,10 @@ fn word_bits() -> Vec<u64> {
 /// The class of a character.
 pub fn class_of(c: char) -> Class {
     static WORDS: OnceLock<Vec<u64>> = OnceLock::new();
-    let place = c as usize;
-    if place < 128 {
-        CLASSES[place]
-    } else if WORDS.get_or_init(word_bits)[place / 64] >> (place % 64) & 1 == 1 {
+    let code = c as usize;
+    if code < 128 {
+        CLASSES[code]
+    } else if WORDS.get_or_init(word_bits)[code / 64] >> (code % 64) & 1 == 1 {
         Class::Word
     } else if c.is_whitespace() {
         Class::Space

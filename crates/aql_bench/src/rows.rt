@@ -32,7 +32,7 @@ pub(crate) fn pairs(
     Ok(rising)
 }
 
-/// Swaps each place with one far from it.
+/// Swaps each element with one far from it.
 pub(crate) fn mix<T>(items: &mut Vec<T>) {
     let count = items.len();
     let mut other = 0usize;
@@ -66,7 +66,7 @@ fn pair_row<'d>(alloc: Global, first: Span, second: Span) -> Result<Row<'d>, Out
     Row::copied(alloc, &[Value::Span(first), Value::Span(second)])
 }
 
-/// A sum over the begins of all spans, with their places.
+/// A sum over the begins of all spans, with where they stand.
 fn walked(rows: &Rows<'_>) -> u64 {
     let mut sum = 0u64;
     for row in rows.as_slice() {

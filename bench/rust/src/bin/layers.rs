@@ -206,7 +206,7 @@ fn token_runs(name: &str, text: &str, rounds: u32, pattern: &str) {
     });
 }
 
-/// Swaps each place with one far from it.
+/// Swaps each element with one far from it.
 fn mix<T>(items: &mut [T]) {
     let count = items.len();
     let mut other = 0usize;
@@ -360,16 +360,16 @@ struct Total {
 fn groups(name: &str, text: &str, rounds: u32, number: usize) {
     let rows = numbered_rows(text, number);
     run(name, text.len(), rounds, || {
-        let mut places: HashMap<Value, usize> = HashMap::new();
+        let mut known: HashMap<Value, usize> = HashMap::new();
         let mut totals: Vec<(Value, Total)> = Vec::new();
         for row in &rows {
-            let place = *places.entry(row.values[0]).or_insert(totals.len());
-            if place == totals.len() {
+            let group = *known.entry(row.values[0]).or_insert(totals.len());
+            if group == totals.len() {
                 totals.push((row.values[0], Total::default()));
             }
             if let Value::Int(n) = row.values[1] {
-                totals[place].1.count += 1;
-                totals[place].1.sum += i128::from(n);
+                totals[group].1.count += 1;
+                totals[group].1.sum += i128::from(n);
             }
         }
         let out: Vec<Row> = totals

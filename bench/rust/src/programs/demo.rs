@@ -135,7 +135,7 @@ impl Finders {
         // from a span to the runs of words behind it that begin with at most so many tokens between
         let behind_by = |span: &Span, most, regex, words| {
             let (span, next) = (*span, doc.tokens_before_end(*span));
-            let runs = (next..=next + most).filter_map(move |place| token_run(regex, doc, place, words));
+            let runs = (next..=next + most).filter_map(move |token| token_run(regex, doc, token, words));
             runs.map(move |run| combined((span, run)))
         };
         let before = |end: &Span| {
@@ -193,8 +193,8 @@ fn left_to_right(spans: impl Iterator<Item = Span>) -> Vec<Span> {
 fn number_runs<'d>(doc: &Document<'d>, numbers: &[Span]) -> Vec<Row<'d>> {
     let is_close = within(doc, 30);
     let mut runs = Vec::new();
-    for (place, first) in numbers.iter().enumerate() {
-        let neighbours = numbers[place..].windows(2).take(2).take_while(|two| is_close(two[0], two[1]));
+    for (index, first) in numbers.iter().enumerate() {
+        let neighbours = numbers[index..].windows(2).take(2).take_while(|two| is_close(two[0], two[1]));
         runs.extend(neighbours.map(|two| Row { m: doc.shown(combined((*first, two[1]))) }));
     }
     runs
