@@ -23,7 +23,7 @@ all_rest P xs rest first is all = All-tail P first rest (subst (All P) is all)
 pub shorter : {X : Type 0} (xs rest : List X) (first : X) (t : ℕ) → xs ≡ first ∷ rest → length xs ≡ t → length rest < t
 shorter xs rest first t is long = let more = ap length is in omega (arith, more, long)
 
--- what holds of each row holds of the row at a place
+-- what holds of each row holds of the row at an index
 pub at_row : (P : List Datum → Type 0) (rows items : List (List Datum)) (i : ℕ) (row : List Datum) → items ≡ rows → i < length items → row ≡ get_or items i row → All P rows → P row
 at_row P rows items i row same below is all = subst P (sym is) (subst (All P) (sym same) all i row below)
 

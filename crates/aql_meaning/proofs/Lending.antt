@@ -7,7 +7,7 @@ use Rattle.span_token.specs.Documents.{Doc}
 use Rattle.row_values.specs.Datums.{Datum}
 use Rattle.row_values.specs.Rows.{RowList, RowsLieIn}
 
--- what holds pair by pair holds at each place
+-- what holds pair by pair holds at each index
 pub pair_at : {A B : Type 0} (R : A → B → Type 0) (xs : List A) (ys : List B) (i : ℕ) (d : A) (e : B) → AllZip R xs ys → i < length xs → R (get_or xs i d) (get_or ys i e)
 pair_at R [] ys i d e h l = let no : ⊥ = omega arith in absurd no
 pair_at R (x ∷ xs) [] i d e h l = absurd h
@@ -60,7 +60,7 @@ pairs_more {A} {B} R xs ys after i x y below at put each here =
     subst (λ (zs : List B). AllZip R (take (i + 1) xs) zs) (sym put)
     (subst (λ (some : List A). AllZip R some (ys ++ y ∷ [])) (sym (take_more xs i x below ∙ ap (λ (a : A). take i xs ++ a ∷ []) (sym at))) (pair_more R (take i xs) ys x y each here))
 
--- what holds of all holds of the one at a place
+-- what holds of all holds of the one at an index
 pub at_item : {X : Type 0} (P : X → Type 0) (xs : List X) (i : ℕ) (x : X) → i < length xs → x ≡ get_or xs i x → All P xs → P x
 at_item P xs i x below is all = subst P (sym is) (all i x below)
 

@@ -53,7 +53,7 @@ impl Typed {
         }
     }
 
-    /// The views; a view's number is its place here, from 0.
+    /// The views; a view's number is its index here, from 0.
     pub fn views(&self) -> &[TypedView]
         ensures views { result.now ≡ self.now.0 }
         ensures valid { AreTypedViews self.now.0 }
