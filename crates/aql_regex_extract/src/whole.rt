@@ -8,7 +8,7 @@ ghost use Rattle.aql_regex_extract.specs.TokenRuns.{AreRunRows, run_rows, flat_r
 use crate::pattern::Pattern;
 use crate::runs::push_runs;
 use crate::whole_matcher::WholeMatcher;
-use span_token::{Document, OutOfMemory, SourceTokens, Span, TokenRoom};
+use span_token::{Document, OutOfMemory, SourceTokens, Span};
 use std::alloc::Global;
 use std::marker::Model;
 
@@ -18,7 +18,6 @@ use std::marker::Model;
 pub struct WholeSearcher<'p> {
     pattern: &'p Pattern,
     whole: WholeMatcher<'p>,
-    room: TokenRoom,
 }
 
 impl<'p> Model for WholeSearcher<'p> {
@@ -42,7 +41,6 @@ impl<'p> WholeSearcher<'p> {
         Ok(WholeSearcher {
             pattern,
             whole: WholeMatcher { matcher, admitted },
-            room: TokenRoom::new(alloc),
         })
     }
 
@@ -76,7 +74,7 @@ impl<'p> WholeSearcher<'p> {
             → OnOk result (All (IsInside (extent_of source)) into.new.items) }
         ensures same { self.new ≡ self.old }
     {
-        let tokens = SourceTokens::of(&mut self.room, doc, source)?;
+        let tokens = SourceTokens::of(doc, source);
         let number = push_runs(&mut self.whole, &tokens, low, high, groups, into)?;
         Ok(number)
     }

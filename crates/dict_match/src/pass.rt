@@ -13,7 +13,7 @@ use crate::dict_use::{DictUse, copied_dicts};
 use crate::probe::{has_run, is_entry};
 use crate::trie::Trie;
 use crate::walk::{DictMatch, push_matches};
-use span_token::{Document, OutOfMemory, OwnedList, SourceTokens, Span, TokenRoom};
+use span_token::{Document, OutOfMemory, OwnedList, SourceTokens, Span};
 use std::alloc::Global;
 use std::marker::Model;
 
@@ -44,7 +44,6 @@ impl Model for DictPass {
 /// What a walk needs and a caller keeps from one to the next. What it holds tells nothing.
 #[derive(Drop)]
 pub struct DictScratch {
-    room: TokenRoom,
     folded: String,
     ahead: Ahead,
 }
@@ -53,7 +52,6 @@ impl DictScratch {
     /// Nothing kept yet; takes no memory.
     pub fn new(alloc: Global) -> DictScratch {
         DictScratch {
-            room: TokenRoom::new(alloc),
             folded: String::new(alloc),
             ahead: Ahead::new(alloc),
         }
@@ -128,7 +126,7 @@ impl DictPass {
         requires in_document { LiesIn (extent_of source) doc.now }
         ensures { OnOk result (AppendsMatches self.now doc.now (extent_of source) (map dict_and_extent into.old.items) (map dict_and_extent into.new.items)) }
     {
-        let tokens = SourceTokens::of(&mut scratch.room, doc, source)?;
+        let tokens = SourceTokens::of(doc, source);
         push_matches(
             &self.trie,
             &tokens,
@@ -173,7 +171,7 @@ impl DictPass {
         if dict >= self.dicts.len() {
             return Ok(false);
         }
-        let tokens = SourceTokens::of(&mut scratch.room, doc, source)?;
+        let tokens = SourceTokens::of(doc, source);
         has_run(
             &self.trie,
             dict,
@@ -208,7 +206,7 @@ impl DictPass {
         if dict >= self.dicts.len() {
             return Ok(false);
         }
-        let tokens = SourceTokens::of(&mut scratch.room, doc, source)?;
+        let tokens = SourceTokens::of(doc, source);
         is_entry(&self.trie, dict, &tokens, &mut scratch.folded)
     }
 }

@@ -9,9 +9,7 @@ ghost use Rattle.dict_match.specs.Tries.{Reaches, IsTrie, put_entry, put_dict};
 use crate::dict_use::DictUse;
 use crate::fold::fold_into;
 use crate::marks::{Marks, mark_of};
-use span_token::{
-    Document, OutOfMemory, OwnedList, OwnedText, SourceTokens, TEXT_LIMIT, TokenRoom,
-};
+use span_token::{Document, OutOfMemory, OwnedList, OwnedText, SourceTokens, TEXT_LIMIT};
 use std::alloc::Global;
 use std::collections::HashMap;
 
@@ -132,8 +130,7 @@ impl Trie {
             return Err(OutOfMemory);
         }
         let doc = Document::new(alloc, entry, None)?;
-        let mut room = TokenRoom::new(alloc);
-        let tokens = SourceTokens::all(&mut room, &doc)?;
+        let tokens = SourceTokens::all(&doc);
         let number = tokens.len();
         if number == 0 {
             return Ok(0);

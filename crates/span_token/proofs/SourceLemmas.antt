@@ -4,7 +4,6 @@ use Rattle.std.proofs.lemmas.Bool.{cases_lt}
 use Rattle.std.proofs.lemmas.Bool.Decides.{nat_tests}
 use Rattle.std.proofs.lemmas.List.{length-take, length-drop, get_or-take, get_or-drop}
 use Rattle.std.proofs.lemmas.List.Elements.{filter_passes}
-use Rattle.span_token.specs.Contexts.{AreWithin}
 use Rattle.span_token.specs.Documents.{Doc, characters}
 use Rattle.span_token.specs.Extents.{Extent}
 use Rattle.span_token.specs.Offsets.{nth_bytes}
@@ -34,18 +33,6 @@ pub source_holds : (d : Doc) (source : Extent) → HoldsTokens source (tokens_in
 source_holds d source = λ i lt.
     contains-by_test source (nth_token (tokens_in d source) i)
     (filter_passes (does_contain source) (tokens_of (characters d)) i (record { begin = 0; end = 0 }) lt)
-
--- none of them begins before it
-pub source_ahead : (d : Doc) (source : Extent) (first past k : ℕ) → AreWithin (tokens_of (characters d)) source first past → first ≤ k → k < past →
-    source.begin ≤ (nth_token (tokens_of (characters d)) k).begin
-source_ahead d source first past k h low high =
-    let tokens = tokens_of (characters d) in
-    let n : first + (k - first) ≡ k = omega arith in
-    let there : k - first < length (tokens_in d source) =
-    omega (arith, length-part tokens first past h.ordered h.in_list, ap length h.tokens_are) in
-    let is = ap (λ (ts : List Extent). nth_token ts (k - first)) (sym h.tokens_are) ∙ nth-part tokens first past (k - first) (omega arith)
-    ∙ ap (nth_token tokens) n in
-    subst (λ (e : Extent). source.begin ≤ e.begin) is (source_holds d source (k - first) there).begins
 
 -- ---- what is kept, and what is seen
 

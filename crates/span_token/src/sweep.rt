@@ -1,4 +1,4 @@
-ghost use Rattle.std.specs.Prelude.{◌≡◌, ◌≤◌};
+ghost use Rattle.std.specs.Prelude.{◌≡◌};
 ghost use Rattle.span_token.specs.Sweeps.{is_of_token, do_join, ends_between, begins_between, swept};
 ghost use Rattle.span_token.specs.declared.classes.Class.TheVariants.{Space};
 
