@@ -1,6 +1,6 @@
 -- Where the tokens of a text stand among its bytes.
 use Rattle.std.proofs.Common.{◌≡◌, ◌≤◌, ◌<◌, ◌+◌, ◌-◌, ◌++◌, ◌∷◌, [], ℕ, List, length, inl, inr, slice_get, take, map, set, cond, Bool, true, false, refl, Some, sym, ap, ap₂, subst, ◌∙◌, arith, chars, IsUtf8}
-use Rattle.std.proofs.lemmas.List.{get_or_append_left, length-append, map-append, take-set, take_more_set, get_or-append_right}
+use Rattle.std.proofs.lemmas.List.{get_or_append_left, length-append, map-append, get_or-append_right}
 use Rattle.std.proofs.lemmas.Bool.{cases_lt}
 use Rattle.std.proofs.lemmas.Option.{get_or_from_slice_get}
 use Rattle.span_token.specs.Extents.{Extent, extent_of}
@@ -10,6 +10,7 @@ use Rattle.span_token.specs.Offsets.{AreBytesOf, nth_bytes, AreOffsets, ArePairs
 use Rattle.span_token.specs.declared.offsets.TokenBytes.{TokenBytes}
 use Rattle.span_token.specs.declared.span.Span.{Span}
 use Rattle.span_token.proofs.PlaceLemmas.{IsBetween, between_places}
+use Rattle.span_token.proofs.RoomLemmas.{take-put}
 use Rattle.span_token.specs.TokenLaws.{tokens_of_are, token_not_empty, token_in_list}
 
 -- a token that is there
@@ -72,19 +73,20 @@ AreOffsets-pairs text tokens offsets all h = λ k inside.
     subst (λ (i : ℕ). AreBytesOf text (nth_token (tokens_of (chars text)) i) (nth_bytes offsets k)) zero
     (subst (λ (ts : List Extent). AreBytesOf text (nth_token ts k) (nth_bytes offsets k)) all (h.each k inside))
 
+-- one more of both, where it counts
+ArePairs-more : (text : List ℕ) (ends : Bool) (spans : List Span) (bytes : List TokenBytes) (span : Span) (one : TokenBytes) →
+    AreBytesOf text (extent_of span) one → ArePairs text (map extent_of spans) bytes →
+    ArePairs text (map extent_of (cond ends (spans ++ span ∷ []) spans)) (cond ends (bytes ++ one ∷ []) bytes)
+ArePairs-more text true spans bytes span one h g =
+    subst (λ (ts : List Extent). ArePairs text ts (bytes ++ one ∷ [])) (sym (map-append extent_of spans (span ∷ [])))
+    (ArePairs-append text _ _ _ _ g (ArePairs-one text (extent_of span) one h))
+ArePairs-more text false spans bytes span one h g = g
+
 -- one more in lists with room
 pub ArePairs-put : (text : List ℕ) (ends : Bool) (spans : List Span) (bytes : List TokenBytes) (count n : ℕ) (span : Span) (one : TokenBytes) →
     count < length spans → count < length bytes → n ≡ cond ends 1 0 → AreBytesOf text (extent_of span) one → ArePairs text (map extent_of (take count spans)) (take count bytes) →
     ArePairs text (map extent_of (take (count + n) (set spans count span))) (take (count + n) (set bytes count one))
-ArePairs-put text true spans bytes count n span one short long is h g =
-    let more : map extent_of (take (count + 1) (set spans count span)) ≡ map extent_of (take count spans) ++ extent_of span ∷ [] =
-    ap (map extent_of) (take_more_set spans count span short) ∙ map-append extent_of (take count spans) (span ∷ []) in
-    subst (λ (k : ℕ). ArePairs text (map extent_of (take (count + k) (set spans count span))) (take (count + k) (set bytes count one))) (sym is)
-    (subst (λ (ts : List Extent). ArePairs text ts (take (count + 1) (set bytes count one))) (sym more)
-    (subst (ArePairs text (map extent_of (take count spans) ++ extent_of span ∷ [])) (sym (take_more_set bytes count one long))
-    (ArePairs-append text _ _ _ _ g (ArePairs-one text (extent_of span) one h))))
-ArePairs-put text false spans bytes count n span one short long is h g =
-    let same : count ≡ count + n = omega (arith, is) in
-    subst (λ (k : ℕ). ArePairs text (map extent_of (take k (set spans count span))) (take k (set bytes count one))) same
-    (subst (λ (xs : List Span). ArePairs text (map extent_of xs) (take count (set bytes count one))) (sym (take-set spans count span))
-    (subst (ArePairs text (map extent_of (take count spans))) (sym (take-set bytes count one)) g))
+ArePairs-put text ends spans bytes count n span one short long is h g =
+    subst (λ (xs : List Span). ArePairs text (map extent_of xs) (take (count + n) (set bytes count one))) (sym (take-put ends spans count n span short is))
+    (subst (ArePairs text (map extent_of (cond ends (take count spans ++ span ∷ []) (take count spans)))) (sym (take-put ends bytes count n one long is))
+    (ArePairs-more text ends (take count spans) (take count bytes) span one h g))

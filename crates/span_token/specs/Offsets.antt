@@ -15,11 +15,11 @@ pub record AreBytesOf (text : List ℕ) (token : Extent) (bytes : TokenBytes) : 
 abbrev pub nth_bytes : List TokenBytes → ℕ → TokenBytes
 nth_bytes offsets k = slice_index_or offsets k (record { begin = 0; end = 0 })
 
--- these are the bytes of these tokens, one by one
+-- there are as many as tokens, and the `k`-th are the bytes of the `k`-th token
 pub record ArePairs (text : List ℕ) (tokens : List Extent) (offsets : List TokenBytes) : Type 0 where
   pub number : length offsets ≡ length tokens
   pub each : (k : ℕ) → k < length offsets → AreBytesOf text (nth_token tokens k) (nth_bytes offsets k)
 
--- these are the bytes of the tokens of a text from number `first` on
+-- however many there are, the `k`-th are the bytes of token number `first + k` of a text
 abbrev pub AreOffsets : List ℕ → ℕ → List TokenBytes → Type 0
 AreOffsets text first offsets = (k : ℕ) → k < length offsets → AreBytesOf text (nth_token (tokens_of (chars text)) (first + k)) (nth_bytes offsets k)
