@@ -44,11 +44,11 @@ flat_map-step f front xs i x d lt is =
     ∙ ap (λ (ys : List _). front ++ flat_map f ys) (ap (λ y. take i xs ++ y ∷ []) is ∙ sym (take_more xs i d lt))
 
 -- one more dictionary
-pub put_dicts-snoc : (place : ℕ) (dicts : List DictUse) (dict : DictUse) → put_dicts place (dicts ++ dict ∷ []) ≡ put_dicts place dicts ++ put_dict (place + length dicts) dict
-put_dicts-snoc place [] dict =
-    let here : place ≡ place + 0 = omega arith in
-    append-nil (put_dict place dict) ∙ ap (λ (n : ℕ). put_dict n dict) here
-put_dicts-snoc place (x ∷ xs) dict =
-    let here : place + 1 + length xs ≡ place + length (x ∷ xs) = omega arith in
-    ap (λ (ps : List (List (List ℕ) × End)). put_dict place x ++ ps) (put_dicts-snoc (place + 1) xs dict ∙ ap (λ (n : ℕ). put_dicts (place + 1) xs ++ put_dict n dict) here)
-    ∙ sym (append_assoc (put_dict place x) (put_dicts (place + 1) xs) (put_dict (place + length (x ∷ xs)) dict))
+pub put_dicts-snoc : (first : ℕ) (dicts : List DictUse) (dict : DictUse) → put_dicts first (dicts ++ dict ∷ []) ≡ put_dicts first dicts ++ put_dict (first + length dicts) dict
+put_dicts-snoc first [] dict =
+    let here : first ≡ first + 0 = omega arith in
+    append-nil (put_dict first dict) ∙ ap (λ (n : ℕ). put_dict n dict) here
+put_dicts-snoc first (x ∷ xs) dict =
+    let here : first + 1 + length xs ≡ first + length (x ∷ xs) = omega arith in
+    ap (λ (ps : List (List (List ℕ) × End)). put_dict first x ++ ps) (put_dicts-snoc (first + 1) xs dict ∙ ap (λ (n : ℕ). put_dicts (first + 1) xs ++ put_dict n dict) here)
+    ∙ sym (append_assoc (put_dict first x) (put_dicts (first + 1) xs) (put_dict (first + length (x ∷ xs)) dict))

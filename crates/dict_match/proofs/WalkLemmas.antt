@@ -35,10 +35,10 @@ length-run tokens first past le within =
 range-more : (tokens : List Extent) (first last : ℕ) → first ≤ last → last < length tokens → slice_range tokens first (last + 1) ≡ slice_range tokens first last ++ nth_token tokens last ∷ []
 range-more tokens first last le lt =
     let count : last + 1 - first ≡ last - first + 1 = omega arith in
-    let place : first + (last - first) ≡ last = omega arith in
+    let same_number : first + (last - first) ≡ last = omega arith in
     ap (λ (n : ℕ). take n (drop first tokens)) count
     ∙ take_more (drop first tokens) (last - first) (record { begin = 0; end = 0 }) (omega (arith, length-drop first tokens))
-    ∙ ap (λ (e : Extent). slice_range tokens first last ++ e ∷ []) (get_or-drop first tokens (last - first) _ ∙ ap (nth_token tokens) place)
+    ∙ ap (λ (e : Extent). slice_range tokens first last ++ e ∷ []) (get_or-drop first tokens (last - first) _ ∙ ap (nth_token tokens) same_number)
 
 pub texts-more : (tokens : SomeTokens) (first last : ℕ) → first ≤ last → last < length tokens.tokens →
     run_texts tokens first (last + 1) ≡ run_texts tokens first last ++ text_in tokens.doc (nth_token tokens.tokens last) ∷ []
@@ -111,11 +111,11 @@ pub known-number : (trie : Trie) (tokens : SomeTokens) (ahead : Ahead) (i : ℕ)
 known-number trie tokens ahead i d are le known lt =
     let words = ahead.numbers.items in
     let all = numbers_of trie tokens in
-    let place : ahead.begin + (i - ahead.begin) ≡ i = omega (arith, le) in
+    let same_number : ahead.begin + (i - ahead.begin) ≡ i = omega (arith, le) in
     ap (λ (ws : List (Option ℕ)). get_or ws (i - ahead.begin) d) are
     ∙ get_or-take (length words) (drop ahead.begin all) (i - ahead.begin) d known
     ∙ get_or-drop ahead.begin all (i - ahead.begin) d
-    ∙ ap (λ (n : ℕ). get_or all n d) place
+    ∙ ap (λ (n : ℕ). get_or all n d) same_number
     ∙ number-of trie tokens i d lt
 
 pub more-numbers : (trie : Trie) (tokens : SomeTokens) (ahead : Ahead) (new : List (Option ℕ)) (i : ℕ) (word : Option ℕ) → AreAhead trie tokens ahead → i ≡ ahead.begin + length ahead.numbers.items →

@@ -17,7 +17,7 @@ use std::alloc::Global;
 /// Most tokens begin no entry, so mostly one number is kept, and none of the tokens before it.
 #[derive(Drop)]
 pub(crate) struct Ahead {
-    /// The place of the first of these tokens.
+    /// The number of the first of these tokens.
     pub begin: usize,
     /// For each of them the number of its folding, none where no entry has it.
     pub numbers: Vec<Option<usize>>,
@@ -74,9 +74,9 @@ pub(crate) fn number_at(
     ensures begin { ahead.new.begin ≡ ahead.old.begin }
     ensures past { OnOk result (i < ahead.new.begin + length ahead.new.numbers.items) }
 {
-    let place = i - ahead.begin;
-    if place < ahead.numbers.len() {
-        return Ok(ahead.numbers[place]);
+    let nth = i - ahead.begin;
+    if nth < ahead.numbers.len() {
+        return Ok(ahead.numbers[nth]);
     }
     let word = number_of_folded(trie, tokens.text(i), buffer)?;
     ahead.numbers.push(word)?;

@@ -69,8 +69,8 @@ impl DictPass {
         let mut trie = Trie::new(alloc)?;
         let mut buffer = String::new(alloc);
         let mut most = Vec::new(alloc);
-        for (place, dict) in dicts.iter().enumerate() {
-            let tokens = trie.put_dict(alloc, place, dict, &mut buffer)?;
+        for (dict_number, dict) in dicts.iter().enumerate() {
+            let tokens = trie.put_dict(alloc, dict_number, dict, &mut buffer)?;
             most.push(tokens)?;
         }
         let dicts = copied_dicts(alloc, dicts)?;
@@ -110,7 +110,7 @@ impl DictPass {
 
     /// Puts the matches wholly in `source` of all dictionaries behind what `into` holds.
     ///
-    /// A match is the place of a dictionary in the pass, from 0, with a span. For each dictionary each
+    /// A match is the number of a dictionary in the pass, from 0, with a span. For each dictionary each
     /// span comes once and in span order; the matches of several dictionaries stand among one another.
     /// Takes memory only where `scratch` or `into` has no room; after want of memory no clause says what
     /// `into` holds.
@@ -136,7 +136,7 @@ impl DictPass {
         )
     }
 
-    /// A number of tokens that no match of the dictionary at place `dict` of the pass exceeds: that of its longest
+    /// A number of tokens that no match of dictionary number `dict` of the pass, from 0, exceeds: that of its longest
     /// entry. No clause says that it is the least one, nor what it is where the pass has no such dictionary (0).
     #[tactic(auto, using(crate::proofs::MostLemmas::agree_most))]
     pub fn most_tokens(&self, dict: usize) -> usize
@@ -149,7 +149,7 @@ impl DictPass {
         self.most[dict]
     }
 
-    /// Whether the dictionary at place `dict` of the pass has a match wholly in `source`; false where the
+    /// Whether dictionary number `dict` of the pass, from 0, has a match wholly in `source`; false where the
     /// pass has no such dictionary.
     ///
     /// Ends at the first match. Takes memory only where `scratch` has no room.
@@ -181,8 +181,8 @@ impl DictPass {
         )
     }
 
-    /// Whether the tokens wholly in `source`, all of them together, agree with an entry of the
-    /// dictionary at place `dict` of the pass; false where there is no token, or the pass has no such
+    /// Whether the tokens wholly in `source`, all of them together, agree with an entry of dictionary
+    /// number `dict` of the pass, from 0; false where there is no token, or the pass has no such
     /// dictionary.
     ///
     /// Reads no more tokens than there are, and none behind one with which no entry goes on. Takes

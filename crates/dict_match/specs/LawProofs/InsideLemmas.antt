@@ -53,10 +53,10 @@ pair-listed (x ∷ ms) (suc k) m lt is = later (x.0 == m.0) (pair-listed ms k m 
 
 pub found-inside : (dicts : List DictUse) (d : Doc) (source : Extent) (ms : List (ℕ × Extent)) → All (λ (m : ℕ × Extent). m.0 < length dicts) ms →
     ((i : ℕ) (dict : DictUse) → slice_get dicts i ≡ Some dict → AreMatches dict d source (extents_for i ms)) → All (λ (m : ℕ × Extent). ContainsExtent source m.1) ms
-found-inside dicts d source ms places rows k x lt =
+found-inside dicts d source ms below rows k x lt =
     let m : ℕ × Extent = get_or ms k x in
     let dict : DictUse = get_or dicts m.0 (record { entries = []; exact = true }) in
-    let at : slice_get dicts m.0 ≡ Some dict = slice_get-get_or dicts m.0 (record { entries = []; exact = true }) (places k x lt) in
+    let at : slice_get dicts m.0 ≡ Some dict = slice_get-get_or dicts m.0 (record { entries = []; exact = true }) (below k x lt) in
     let listed = pair-listed ms k m lt (get_or_default ms k m x lt) in
     match-inside dict d source m.1 (((rows m.0 dict at).exactly m.1).0 listed)
 

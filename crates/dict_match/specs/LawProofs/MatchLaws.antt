@@ -76,10 +76,10 @@ module _ (dict : DictUse) (d : Doc) (tokens : List Extent) where
   unfolding matches_from
   matches_from-more first past le =
       let count : past + 1 - first ≡ past - first + 1 = omega arith in
-      let place : first + (past - first) ≡ past = omega arith in
+      let same_number : first + (past - first) ≡ past = omega arith in
       let before = range_with_len first (past - first) in
       ap (λ (n : ℕ). map (run_extent tokens first) (filter (run_agrees first) (range_with_len first n))) count
-      ∙ ap (λ (ks : List ℕ). map (run_extent tokens first) (filter (run_agrees first) ks)) (range-more first (past - first) past place)
+      ∙ ap (λ (ks : List ℕ). map (run_extent tokens first) (filter (run_agrees first) ks)) (range-more first (past - first) past same_number)
       ∙ ap (map (run_extent tokens first)) (filter-append (run_agrees first) before (past ∷ []))
       ∙ map-append (run_extent tokens first) (filter (run_agrees first) before) (filter (run_agrees first) (past ∷ []))
       ∙ ap (λ (es : List Extent). map (run_extent tokens first) (filter (run_agrees first) before) ++ es) (kept-one (run_agrees first past) (run_extent tokens first) past)
@@ -150,7 +150,7 @@ before-run dict tokens first last e order le lt m =
 new-match : (dict : DictUse) (tokens : SomeTokens) (first last : ℕ) → first ≤ last → last < length tokens.tokens → AgreesWith dict (run_texts tokens first (last + 1)) →
     IsMatchUpto dict tokens first (last + 1) (run_extent tokens.tokens first last)
 new-match dict tokens first last le lt agrees =
-    let place : last ≡ last + 1 - 1 = omega arith in
+    let same_number : last ≡ last + 1 - 1 = omega arith in
     record {
       match = record {
         first = first;
@@ -158,7 +158,7 @@ new-match dict tokens first last le lt agrees =
         some = omega (arith, le);
         there = omega (arith, lt);
         agrees = agrees;
-        extent_is = ap (run_extent tokens.tokens first) place;
+        extent_is = ap (run_extent tokens.tokens first) same_number;
       };
       upto = inr (refl, omega arith);
     }
