@@ -9,7 +9,7 @@ use Rattle.span_token.specs.ExtentLaws.{same_extent}
 use Rattle.span_sets.specs.Blocks.{span_at, block_of}
 use Rattle.span_sets.proofs.block_runs.push_blocks.Goals as goal
 
--- what is read at a place
+-- what is read by a number
 read_at : (spans : List Span) (k : ℕ) (read : Span) → k < length spans → span_at (map extent_of spans) k ≡ extent_of (get_or spans k read)
 read_at spans k read short = get_or-map extent_of spans k read (record { begin = 0; end = 0 }) short
 
