@@ -1,7 +1,8 @@
 ghost use Rattle.std.specs.Prelude.{◌≡◌, ◌<◌, ◌≤◌, ◌+◌, [], length, IfOk, OnOk};
 ghost use Rattle.std.specs.HashMap.{get_by_text};
 ghost use Rattle.span_token.specs.Documents.{text_in};
-ghost use Rattle.span_token.specs.SourceTokens.{SomeTokens, nth_token};
+ghost use Rattle.span_token.specs.Extents.{nth_extent};
+ghost use Rattle.span_token.specs.SourceTokens.{SomeTokens};
 ghost use Rattle.dict_match.specs.Dictionaries.{folded};
 ghost use Rattle.dict_match.specs.declared.trie.Trie.{Trie as DeclaredTrie};
 ghost use Rattle.dict_match.specs.Tries.{IsTrie};
@@ -69,7 +70,7 @@ pub(crate) fn number_at(
     requires there { i < length tokens.now.tokens }
     requires numbers { AreAhead trie.now tokens.now ahead.old }
     requires next { IsKnownOrNext i ahead.old }
-    ensures number { IfOk result (λ word. word ≡ get_by_text trie.now.words (folded (text_in tokens.now.doc (nth_token tokens.now.tokens i)))) }
+    ensures number { IfOk result (λ word. word ≡ get_by_text trie.now.words (folded (text_in tokens.now.doc (nth_extent tokens.now.tokens i)))) }
     ensures numbers { OnOk result (AreAhead trie.now tokens.now ahead.new) }
     ensures begin { ahead.new.begin ≡ ahead.old.begin }
     ensures past { OnOk result (i < ahead.new.begin + length ahead.new.numbers.items) }

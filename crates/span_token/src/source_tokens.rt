@@ -1,7 +1,7 @@
 ghost use Rattle.std.specs.Prelude.{◌≡◌, ◌≤◌, ◌<◌, length};
 ghost use Rattle.span_token.specs.Documents.{LiesIn, characters, text_in};
-ghost use Rattle.span_token.specs.Extents.{extent_of};
-ghost use Rattle.span_token.specs.SourceTokens.{InTextOrder, HoldsTokens, tokens_in, nth_token, run_extent};
+ghost use Rattle.span_token.specs.Extents.{extent_of, nth_extent};
+ghost use Rattle.span_token.specs.SourceTokens.{InTextOrder, HoldsTokens, tokens_in, run_extent};
 ghost use Rattle.span_token.specs.Tokens.{tokens_of};
 
 use crate::offsets::TokenBytes;
@@ -87,7 +87,7 @@ impl<'a, 'd> SourceTokens<'a, 'd> {
     #[inline(always)]
     pub fn get(&self, i: usize) -> Span
         requires there { i < length self.now.tokens }
-        ensures token { extent_of result ≡ nth_token self.now.tokens i }
+        ensures token { extent_of result ≡ nth_extent self.now.tokens i }
         ensures order { InTextOrder self.now.tokens }
         ensures in_document { LiesIn (extent_of result) self.now.doc }
     {
@@ -98,7 +98,7 @@ impl<'a, 'd> SourceTokens<'a, 'd> {
     #[inline(always)]
     pub fn text(&self, i: usize) -> &'d str
         requires there { i < length self.now.tokens }
-        ensures text { result.now ≡ text_in self.now.doc (nth_token self.now.tokens i) }
+        ensures text { result.now ≡ text_in self.now.doc (nth_extent self.now.tokens i) }
     {
         self.run_text(i, i)
     }

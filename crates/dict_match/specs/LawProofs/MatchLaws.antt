@@ -14,10 +14,10 @@ use Rattle.std.proofs.lemmas.List.FromFn.{map-range_with_len_more}
 use Rattle.std.proofs.lemmas.List.Kept.{AllPairs-filter}
 use Rattle.std.proofs.lemmas.List.Quantifiers.{all_pairs_push}
 use Rattle.span_token.specs.Documents.{Doc, characters}
-use Rattle.span_token.specs.Extents.{Extent}
+use Rattle.span_token.specs.Extents.{Extent, nth_extent}
 use Rattle.dict_match.specs.declared.dict_use.DictUse.{DictUse}
 use Rattle.span_token.specs.SpanOrderLaws.{in_order_is_unique}
-use Rattle.span_token.specs.SourceTokens.{tokens_in, nth_token, run_extent, SomeTokens, InTextOrder}
+use Rattle.span_token.specs.SourceTokens.{tokens_in, run_extent, SomeTokens, InTextOrder}
 use Rattle.span_token.specs.SpanOrder.{IsBefore, AreInOrder}
 use Rattle.dict_match.specs.Dictionaries.{folded, texts_of, entry_texts, Agree, AgreesWith, IsMatch, AreMatches}
 use Rattle.dict_match.specs.DictMatches.{do_agree, does_agree, matches_from, matches_among, dict_matches, does_match}
@@ -133,8 +133,8 @@ before-run : (dict : DictUse) (tokens : SomeTokens) (first last : ℕ) (e : Exte
     IsMatchUpto dict tokens first last e → IsBefore e (run_extent tokens.tokens first last)
 before-run dict tokens first last e order le lt m =
     let match = m.match in
-    let begins : e.begin ≡ (nth_token tokens.tokens match.first).begin = ap (λ (x : Extent). x.begin) match.extent_is in
-    let ends : e.end ≡ (nth_token tokens.tokens (match.past - 1)).end = ap (λ (x : Extent). x.end) match.extent_is in
+    let begins : e.begin ≡ (nth_extent tokens.tokens match.first).begin = ap (λ (x : Extent). x.begin) match.extent_is in
+    let ends : e.end ≡ (nth_extent tokens.tokens (match.past - 1)).end = ap (λ (x : Extent). x.end) match.extent_is in
     elim m.upto [
       | inl a ↦
           let one = order.filled match.first (omega (arith, a, le, lt)) in
@@ -144,7 +144,7 @@ before-run dict tokens first last e order le lt m =
           let some = match.some in
           let two = order.apart (match.past - 1) last (omega (arith, a.0, a.1, some, le)) lt in
           let three = order.filled last lt in
-          inr (begins ∙ ap (λ (n : ℕ). (nth_token tokens.tokens n).begin) a.0, omega (arith, ends, two, three))
+          inr (begins ∙ ap (λ (n : ℕ). (nth_extent tokens.tokens n).begin) a.0, omega (arith, ends, two, three))
     ]
 
 new-match : (dict : DictUse) (tokens : SomeTokens) (first last : ℕ) → first ≤ last → last < length tokens.tokens → AgreesWith dict (run_texts tokens first (last + 1)) →
