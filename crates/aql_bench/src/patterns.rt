@@ -18,7 +18,7 @@ impl Bench for Matches<'_, '_> {
         for doc in self.docs {
             self.found.clear();
             self.searcher
-                .find_all(doc, doc.whole(), &[0], &mut self.found)?;
+                .append_matches(doc, doc.whole(), &[0], &mut self.found)?;
             count = count.wrapping_add(self.found.len() as u64);
         }
         Ok(count)
@@ -39,7 +39,7 @@ impl Bench for Runs<'_, '_> {
         for doc in self.docs {
             self.found.clear();
             self.searcher
-                .find_token_runs(doc, doc.whole(), 1, 4, &[0], &mut self.found)?;
+                .append_token_runs(doc, doc.whole(), 1, 4, &[0], &mut self.found)?;
             count = count.wrapping_add(self.found.len() as u64);
         }
         Ok(count)

@@ -9,8 +9,8 @@ use Rattle.std.proofs.lemmas.Str.{encodes-append, length-le-encodes}
 use Rattle.std.specs.Option.{option_or}
 use Rattle.regex.specs.Patterns.{Match}
 use Rattle.span_token.specs.Documents.{Doc, characters, text_in}
-use Rattle.span_token.specs.Extents.{Extent}
-use Rattle.span_token.specs.SourceTokens.{InTextOrder, nth_token}
+use Rattle.span_token.specs.Extents.{Extent, nth_extent}
+use Rattle.span_token.specs.SourceTokens.{InTextOrder}
 use Rattle.aql_regex_extract.specs.Bytes.{AdmitsMatches, AreBytes, Begins}
 use Rattle.aql_regex_extract.specs.Matches.{first_match, row_of}
 use Rattle.aql_regex_extract.specs.Patterns.{whole_form}
@@ -47,9 +47,9 @@ lead_lost set (c ∷ cs) (suc n) (suc m) some le lost begins = lead set c (encod
 
 -- ---- runs from a token
 
-ends_rise : (tokens : List Extent) (i j : ℕ) → InTextOrder tokens → i ≤ j → j < length tokens → (nth_token tokens i).end ≤ (nth_token tokens j).end
+ends_rise : (tokens : List Extent) (i j : ℕ) → InTextOrder tokens → i ≤ j → j < length tokens → (nth_extent tokens i).end ≤ (nth_extent tokens j).end
 ends_rise tokens i j order le lt = elim (cases_eq i j) [
-  | inl same ↦ omega (arith, ap (λ (k : ℕ). (nth_token tokens k).end) same)
+  | inl same ↦ omega (arith, ap (λ (k : ℕ). (nth_extent tokens k).end) same)
   | inr other ↦
       let before : i < j = omega (arith, le, other) in
       let apart = order.apart i j before lt in
@@ -62,9 +62,9 @@ module _ (pattern : List ℕ) (d : Doc) (tokens : List Extent) (a : Admitted) (a
   -- no shorter run has a match
   pub none-begins : (groups : List ℕ) (k : ℕ) → 1 ≤ k → k ≤ count → whole_row pattern d groups (run_at tokens first k) ≡ None
   none-begins groups k some le =
-      let begin = (nth_token tokens first).begin in
-      let short = (nth_token tokens (first + k - 1)).end in
-      let long = (nth_token tokens (first + count - 1)).end in
+      let begin = (nth_extent tokens first).begin in
+      let short = (nth_extent tokens (first + k - 1)).end in
+      let long = (nth_extent tokens (first + count - 1)).end in
       let filled = order.filled first (omega (arith, there, some, le)) in
       let from_first = ends_rise tokens first (first + k - 1) order (omega (arith, some)) (omega (arith, there, some, le)) in
       let to_last = ends_rise tokens (first + k - 1) (first + count - 1) order (omega (arith, some, le)) (omega (arith, there, some, le)) in

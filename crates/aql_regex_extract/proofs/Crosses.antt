@@ -37,7 +37,6 @@ use Rattle.regex_tagged.proofs.search.Tagged.TheSendSync as tagged
 use Rattle.regex_bits.proofs.build.Bits.TheSendSync as bits
 use Rattle.regex_vm.proofs.pikevm.PikeVm.TheSendSync as pikevm
 use Rattle.regex_vm.proofs.backtrack.Backtracker.TheSendSync as backtracker
-use Rattle.span_token.proofs.source_tokens.TokenRoom.TheSendSync as token_room
 use Rattle.regex_meta.specs.contracts.branch.Branch as Branch
 use Rattle.regex_meta.specs.contracts.branches.Branches as Branches
 use Rattle.regex_meta.specs.contracts.searcher.apart.Apart as Apart
@@ -134,7 +133,7 @@ pub Searcher-send : (p : NamedLft) → IsSend (Searcher.the_row p)
 Searcher-send p = search (Matcher-send, Pattern-sync, sends) depth 40 fits 20000
 
 pub WholeSearcher-send : (p : NamedLft) → IsSend (WholeSearcher.the_row p)
-WholeSearcher-send p = search (Matcher-send, Pattern-sync, sends, token_room.the_field_send) depth 40 fits 20000
+WholeSearcher-send p = search (Matcher-send, Pattern-sync, sends) depth 40 fits 20000
 
 -- what a caller lists in its `search` where searchers are sent
 pub ruleset searchers = (patterns, Searcher-send, WholeSearcher-send)

@@ -1,7 +1,7 @@
 -- Token-bounded patterns: for each token of an extent the longest run of tokens, from it on, in whose text the
 -- whole-text form of the pattern has a match.
 use Rattle.std.specs.Prelude.{◌≡◌, ℕ, zero, suc, ◌+◌, ◌-◌, ◌<◌, ◌≤◌, min, List, length, slice_index_or, Option, Some, None, option_map, IsTrue}
-use Rattle.std.specs.List.{filter_map, flat_map, range_with_len}
+use Rattle.std.specs.List.{filter_map, range_with_len}
 use Rattle.std.specs.Option.{option_or}
 use Rattle.span_token.specs.Documents.{Doc, text_in}
 use Rattle.span_token.specs.Extents.{Extent}
@@ -71,7 +71,3 @@ unfoldable pub run_rows : List ℕ → Doc → Extent → ℕ → ℕ → List �
 run_rows pattern d source low high groups =
     let tokens = tokens_in d source in
     filter_map (run_row pattern d tokens low high groups) (range_with_len 0 (length tokens))
-
--- the same rows, one after another
-abbrev pub flat_run_rows : List ℕ → Doc → Extent → ℕ → ℕ → List ℕ → List (Option Extent)
-flat_run_rows pattern d source low high groups = flat_map (λ row. row) (run_rows pattern d source low high groups)

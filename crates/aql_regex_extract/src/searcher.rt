@@ -74,27 +74,6 @@ impl<'p> Searcher<'p> {
         push_found(&mut self.matcher, &sought, text, into)
     }
 
-    /// `append_matches` by its former name, without the number.
-    ///
-    /// Meaning: `flat_rows`, `specs/Matches.antt`.
-    pub fn find_all(
-        &mut self,
-        doc: &Document<'_>,
-        source: Span,
-        groups: &[u32],
-        into: &mut Vec<Option<Span>>,
-    ) -> Result<(), OutOfMemory>
-        requires in_document { LiesIn (extent_of source) doc.now }
-        ensures matches { OnOk result (extents_of into.new.items ≡ extents_of into.old.items
-            ++ flat_rows self.old doc.now (extent_of source) groups.now) }
-        ensures within { All (IsInside (extent_of source)) into.old.items
-            → OnOk result (All (IsInside (extent_of source)) into.new.items) }
-        ensures same { self.new ≡ self.old }
-    {
-        self.append_matches(doc, source, groups, into)?;
-        Ok(())
-    }
-
     /// Whether the pattern matches somewhere in `text`.
     pub fn has_match(&mut self, text: &str) -> bool
         ensures found { result ≡ has_match self.old text.now }

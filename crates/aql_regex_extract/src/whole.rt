@@ -1,14 +1,14 @@
-ghost use Rattle.std.specs.Prelude.{◌≡◌, ◌++◌, ◌≤◌, List, Option, IfOk, OnOk, All};
+ghost use Rattle.std.specs.Prelude.{◌≡◌, ◌≤◌, List, Option, IfOk, OnOk, All};
 ghost use Rattle.span_token.specs.Documents.{LiesIn};
 ghost use Rattle.span_token.specs.Extents.{Extent, extent_of};
 ghost use Rattle.aql_regex_extract.specs.Matches.{has_match, PutsRows, extents_of, IsInside};
 ghost use Rattle.aql_regex_extract.specs.Patterns.{whole_form};
-ghost use Rattle.aql_regex_extract.specs.TokenRuns.{AreRunRows, run_rows, flat_run_rows};
+ghost use Rattle.aql_regex_extract.specs.TokenRuns.{AreRunRows, run_rows};
 
 use crate::pattern::Pattern;
 use crate::runs::push_runs;
 use crate::whole_matcher::WholeMatcher;
-use span_token::{Document, OutOfMemory, SourceTokens, Span, TokenRoom};
+use span_token::{Document, OutOfMemory, SourceTokens, Span};
 use std::alloc::Global;
 use std::marker::Model;
 
@@ -18,7 +18,6 @@ use std::marker::Model;
 pub struct WholeSearcher<'p> {
     pattern: &'p Pattern,
     whole: WholeMatcher<'p>,
-    room: TokenRoom,
 }
 
 impl<'p> Model for WholeSearcher<'p> {
@@ -42,7 +41,6 @@ impl<'p> WholeSearcher<'p> {
         Ok(WholeSearcher {
             pattern,
             whole: WholeMatcher { matcher, admitted },
-            room: TokenRoom::new(alloc),
         })
     }
 
@@ -76,33 +74,9 @@ impl<'p> WholeSearcher<'p> {
             → OnOk result (All (IsInside (extent_of source)) into.new.items) }
         ensures same { self.new ≡ self.old }
     {
-        let tokens = SourceTokens::of(&mut self.room, doc, source)?;
+        let tokens = SourceTokens::of(doc, source);
         let number = push_runs(&mut self.whole, &tokens, low, high, groups, into)?;
         Ok(number)
-    }
-
-    /// `append_token_runs` by its former name, without the number.
-    ///
-    /// Meaning: `flat_run_rows`, `specs/TokenRuns.antt`.
-    pub fn find_token_runs(
-        &mut self,
-        doc: &Document<'_>,
-        source: Span,
-        low: u32,
-        high: u32,
-        groups: &[u32],
-        into: &mut Vec<Option<Span>>,
-    ) -> Result<(), OutOfMemory>
-        requires in_document { LiesIn (extent_of source) doc.now }
-        requires at_least_one { 1 ≤ low }
-        ensures runs { OnOk result (extents_of into.new.items ≡ extents_of into.old.items
-            ++ flat_run_rows self.old doc.now (extent_of source) low high groups.now) }
-        ensures within { All (IsInside (extent_of source)) into.old.items
-            → OnOk result (All (IsInside (extent_of source)) into.new.items) }
-        ensures same { self.new ≡ self.old }
-    {
-        self.append_token_runs(doc, source, low, high, groups, into)?;
-        Ok(())
     }
 
     /// Whether the pattern matches `text` from end to end: whether its whole-text form has a match.

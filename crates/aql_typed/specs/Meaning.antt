@@ -10,7 +10,7 @@ use Rattle.aql_regex_extract.specs.Matches.{match_rows}
 use Rattle.aql_regex_extract.specs.TokenRuns.{run_rows}
 use Rattle.dict_match.specs.DictMatches.{dict_matches}
 use Rattle.span_sets.specs.Blocks.{is_neighbour, blocks_of}
-use Rattle.span_sets.specs.KeptPlaces.{consolidated}
+use Rattle.span_sets.specs.KeptRows.{consolidated}
 use Rattle.group_agg.specs.Groups.{grouped}
 use Rattle.group_agg.specs.Limits.{limited}
 use Rattle.scalar_ops.specs.Expressions.{Term}

@@ -27,12 +27,12 @@ module _ (dicts : List DictUse) (d : Doc) (source : Extent) (old new : List Dict
       (sym (ap (extents_for i) after ∙ extents-append i (map dict_and_extent old) added) ∙ found i dict at) in
       let each : (i : ℕ) (dict : DictUse) → slice_get dicts i ≡ Some dict → AreMatches dict d source (extents_for i added) =
       λ i dict at. subst (AreMatches dict d source) (sym (listed i dict at)) (dict_matches-are dict d source) in
-      let places : All (λ (m : ℕ × Extent). m.0 < length dicts) added = All-map (λ (m : ℕ × Extent). m.0 < length dicts) dict_and_extent extends.added extends.places in
+      let below : All (λ (m : ℕ × Extent). m.0 < length dicts) added = All-map (λ (m : ℕ × Extent). m.0 < length dicts) dict_and_extent extends.added extends.below in
       record {
         added = added;
         after = after;
-        places = places;
-        within = found-inside dicts d source added places each;
+        below = below;
+        within = found-inside dicts d source added below each;
         each = each;
         listed = listed;
       }

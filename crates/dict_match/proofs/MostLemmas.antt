@@ -22,7 +22,7 @@ agree-within dict texts most h agrees =
     let within = All-contains (λ (entry : List ℕ). length (entry_texts entry) ≤ most) dict.entries a.entry h a.listed in
     omega (arith, agree-long dict.exact texts (entry_texts a.entry) a.agree, within)
 
--- so is one that agrees with an entry of the dictionary at a place
+-- so is one that agrees with an entry of the dictionary with that number
 pub agree_most : (dicts : List DictUse) (most : List ℕ) (i : ℕ) (dict : DictUse) (texts : List (List ℕ)) → AreMost (entries_of dicts) most →
     slice_get dicts i ≡ Some dict → does_agree dict texts ≡ true → length texts ≤ get_or most i 0
 agree_most dicts most i dict texts are is agrees =

@@ -43,12 +43,12 @@ flat_map-in f (z ∷ xs) x y (suc k, lt, e) d = Contains-append_right (f z) (fla
 
 -- ---- what is put in
 
--- an entry of one of the dictionaries, the first of which is at `place`
-pub record IsPut (place : ℕ) (dicts : List DictUse) (path : List Text) (end : End) : Type 0 where
+-- an entry of one of the dictionaries, the first of which has number `first`
+pub record IsPut (first : ℕ) (dicts : List DictUse) (path : List Text) (end : End) : Type 0 where
   pub number : ℕ
   pub dict : DictUse
   pub at : slice_get dicts number ≡ Some dict
-  pub dict_is : end.dict ≡ place + number
+  pub dict_is : end.dict ≡ first + number
   pub entry : Text
   pub listed : Contains dict.entries entry
   pub path_is : path ≡ map folded (entry_texts entry)
@@ -62,50 +62,50 @@ put-texts : (dict : ℕ) (exact : Bool) (texts : List Text) → 0 < length texts
 put-texts dict exact [] lt = absurd (omega arith)
 put-texts dict exact (x ∷ xs) lt = (0, suc-le-suc zero-le, refl)
 
-pub put-cases : (place : ℕ) (dicts : List DictUse) (path : List Text) (end : End) → Contains (put_dicts place dicts) (path, end) → IsPut place dicts path end
-put-cases place [] path end c = absurd (nothing_in _ c)
-put-cases place (dict ∷ dicts) path end c = elim (Contains-append_cases (put_dict place dict) (put_dicts (place + 1) dicts) (path, end) c) [
+pub put-cases : (first : ℕ) (dicts : List DictUse) (path : List Text) (end : End) → Contains (put_dicts first dicts) (path, end) → IsPut first dicts path end
+put-cases first [] path end c = absurd (nothing_in _ c)
+put-cases first (dict ∷ dicts) path end c = elim (Contains-append_cases (put_dict first dict) (put_dicts (first + 1) dicts) (path, end) c) [
   | inl a ↦
-      let one = flat_map-cases (put_entry place dict.exact) dict.entries (path, end) a in
-      let is = texts-put place dict.exact (entry_texts one.0) (path, end) one.2 in
+      let one = flat_map-cases (put_entry first dict.exact) dict.entries (path, end) a in
+      let is = texts-put first dict.exact (entry_texts one.0) (path, end) one.2 in
       record {
         number = 0;
         dict = dict;
         at = refl;
-        dict_is = ap (λ (p : Put). p.1.dict) (sym is) ∙ place_itself place;
+        dict_is = ap (λ (p : Put). p.1.dict) (sym is) ∙ itself first;
         entry = one.0;
         listed = one.1;
         path_is = ap (λ (p : Put). p.0) (sym is);
         spelled_is = ap (λ (p : Put). p.1.spelled) (sym is);
       }
   | inr a ↦
-      let rest = put-cases (place + 1) dicts path end a in
+      let rest = put-cases (first + 1) dicts path end a in
       record {
         number = suc rest.number;
         dict = rest.dict;
         at = rest.at;
-        dict_is = rest.dict_is ∙ place_later place rest.number;
+        dict_is = rest.dict_is ∙ later first rest.number;
         entry = rest.entry;
         listed = rest.listed;
         path_is = rest.path_is;
         spelled_is = rest.spelled_is;
       }
 ] where
-  place_itself : (n : ℕ) → n ≡ n + 0
-  place_itself n = omega arith
+  itself : (n : ℕ) → n ≡ n + 0
+  itself n = omega arith
 
-  place_later : (n k : ℕ) → n + 1 + k ≡ n + suc k
-  place_later n k = omega arith
+  later : (n k : ℕ) → n + 1 + k ≡ n + suc k
+  later n k = omega arith
 
-in-dicts : (place : ℕ) (dicts : List DictUse) (i : ℕ) (dict : DictUse) (p : Put) → slice_get dicts i ≡ Some dict → Contains (put_dict (place + i) dict) p → Contains (put_dicts place dicts) p
-in-dicts place [] i dict p h c = let none : None ≡ Some dict = h in cc
-in-dicts place (x ∷ xs) zero dict p h c =
+in-dicts : (first : ℕ) (dicts : List DictUse) (i : ℕ) (dict : DictUse) (p : Put) → slice_get dicts i ≡ Some dict → Contains (put_dict (first + i) dict) p → Contains (put_dicts first dicts) p
+in-dicts first [] i dict p h c = let none : None ≡ Some dict = h in cc
+in-dicts first (x ∷ xs) zero dict p h c =
     let same : x ≡ dict = some_same x dict h in
-    let here : place + 0 ≡ place = omega arith in
-    Contains-append_left (put_dict place x) (put_dicts (place + 1) xs) p (subst (λ (y : DictUse). Contains (put_dict place y) p) (sym same) (subst (λ (n : ℕ). Contains (put_dict n dict) p) here c))
-in-dicts place (x ∷ xs) (suc i) dict p h c =
-    let here : place + suc i ≡ place + 1 + i = omega arith in
-    Contains-append_right (put_dict place x) (put_dicts (place + 1) xs) p (in-dicts (place + 1) xs i dict p h (subst (λ (n : ℕ). Contains (put_dict n dict) p) here c))
+    let here : first + 0 ≡ first = omega arith in
+    Contains-append_left (put_dict first x) (put_dicts (first + 1) xs) p (subst (λ (y : DictUse). Contains (put_dict first y) p) (sym same) (subst (λ (n : ℕ). Contains (put_dict n dict) p) here c))
+in-dicts first (x ∷ xs) (suc i) dict p h c =
+    let here : first + suc i ≡ first + 1 + i = omega arith in
+    Contains-append_right (put_dict first x) (put_dicts (first + 1) xs) p (in-dicts (first + 1) xs i dict p h (subst (λ (n : ℕ). Contains (put_dict n dict) p) here c))
 
 -- ---- agreement and spelling
 

@@ -78,11 +78,11 @@ has-cases i texts ends k end lt is has = elim (Contains-push_cases (take k ends)
 none-before : (i : ℕ) (texts : List (List ℕ)) (ends : List End) (k : ℕ) (end : End) → HasOneEach texts ends → k < length ends → end ≡ get_or ends k end → end.dict ≡ i → IsSpelled texts end.spelled →
     HasEndFor i texts (take k ends) → ⊥
 none-before i texts ends k end each lt is same spelled has =
-    let place = has.listed in
-    let low : place.0 < k = omega (arith, place.1, length-take k ends) in
-    let there : get_or ends place.0 has.end ≡ has.end = sym (get_or-take k ends place.0 has.end low) ∙ place.2 in
+    let at = has.listed in
+    let low : at.0 < k = omega (arith, at.1, length-take k ends) in
+    let there : get_or ends at.0 has.end ≡ has.end = sym (get_or-take k ends at.0 has.end low) ∙ at.2 in
     let here : get_or ends k has.end ≡ end = get_or_default ends k has.end end lt ∙ sym is in
-    each place.0 k has.end low lt
+    each at.0 k has.end low lt
     (ap (λ (e : End). e.dict) there ∙ has.dict_is ∙ sym same ∙ ap (λ (e : End). e.dict) (sym here))
     (subst (λ (e : End). IsSpelled texts e.spelled) (sym there) has.spelled)
     (subst (λ (e : End). IsSpelled texts e.spelled) (sym here) spelled)
@@ -131,18 +131,18 @@ puts-cond P false e old new means (inl put) = let no : false ≡ true = means.1 
 puts-cond P false e old new means (inr kept) = kept.1 ∙ sym (append-nil old)
 
 pub extends-none : (n : ℕ) (ms : List DictMatch) → Extends n ms ms
-extends-none n ms = record { added = []; after = sym (append-nil ms); places = λ k d lt. absurd (omega (arith, lt)) }
+extends-none n ms = record { added = []; after = sym (append-nil ms); below = λ k d lt. absurd (omega (arith, lt)) }
 
 pub extends-more : (n : ℕ) (one two three : List DictMatch) → Extends n one two → Extends n two three → Extends n one three
 extends-more n one two three first second = record {
   added = first.added ++ second.added;
   after = second.after ∙ ap (λ (ms : List DictMatch). ms ++ second.added) first.after ∙ append_assoc one first.added second.added;
-  places = All-append (λ (m : DictMatch). m.dict < n) first.added second.added first.places second.places;
+  below = All-append (λ (m : DictMatch). m.dict < n) first.added second.added first.below second.below;
 }
 
 pub extends-push : (n : ℕ) (old now new : List DictMatch) (m : DictMatch) → m.dict < n → Extends n old now → new ≡ now ++ m ∷ [] → Extends n old new
 extends-push n old now new m low so_far pushed =
-    extends-more n old now new so_far (record { added = m ∷ []; after = pushed; places = All-push (λ (x : DictMatch). x.dict < n) [] m (λ k d lt. absurd (omega (arith, lt))) low })
+    extends-more n old now new so_far (record { added = m ∷ []; after = pushed; below = All-push (λ (x : DictMatch). x.dict < n) [] m (λ k d lt. absurd (omega (arith, lt))) low })
 
 -- the extents of lists one behind the other
 pub extents-append : (i : ℕ) (ms ns : List Pair) → extents_for i (ms ++ ns) ≡ extents_for i ms ++ extents_for i ns

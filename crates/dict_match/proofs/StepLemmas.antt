@@ -87,7 +87,7 @@ pub run-match : (dict : DictUse) (tokens : SomeTokens) (first : ℕ) → HasRun 
 run-match dict tokens first run =
     let le = run.from in
     let lt = run.before in
-    let place : run.last ≡ run.last + 1 - 1 = omega arith in (
+    let same_number : run.last ≡ run.last + 1 - 1 = omega arith in (
       run_extent tokens.tokens first run.last,
       record {
         first = first;
@@ -95,7 +95,7 @@ run-match dict tokens first run =
         some = omega (arith, le);
         there = omega (arith, lt);
         agrees = run.agrees;
-        extent_is = ap (run_extent tokens.tokens first) place;
+        extent_is = ap (run_extent tokens.tokens first) same_number;
       },
     )
 

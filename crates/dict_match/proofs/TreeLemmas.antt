@@ -9,7 +9,7 @@ use Rattle.std.proofs.Math.ListN.{set, length-set}
 use Rattle.dict_match.specs.declared.trie.End.{End}
 use Rattle.dict_match.specs.Tries.{LeadsOn, IsTree, HasEnds}
 
--- ---- a list to which one element is added, by places
+-- ---- a list to which one element is added, by numbers
 
 pub at_front : {X : Type 0} (xs ys : List X) (n : ℕ) (x : X) → slice_get xs n ≡ Some x → slice_get (xs ++ ys) n ≡ Some x
 at_front [] ys n x h = cc
@@ -92,11 +92,11 @@ module _ (old new : ℕ → Text → Option ℕ) (paths : List (List Text)) (p :
   leads_to node u next h = elim (adds node u) [
     | inl same ↦
         let arrived : Some next ≡ Some (length paths) = sym h ∙ ap₂ new same.0 same.1 ∙ some in
-        let place : next ≡ length paths = some_same next (length paths) arrived in
+        let same_node : next ≡ length paths = some_same next (length paths) arrived in
         record {
           path = path;
           «from» = ap (slice_get more) same.0 ∙ at_front paths (added ∷ []) p path here;
-          to = ap (slice_get more) place ∙ at_end paths added ∙ ap (λ (v : Text). Some (path ++ v ∷ [])) (sym same.1);
+          to = ap (slice_get more) same_node ∙ at_end paths added ∙ ap (λ (v : Text). Some (path ++ v ∷ [])) (sym same.1);
         }
     | inr other ↦
         let led = (tree.leads node u next).0 (sym other.1 ∙ h) in
@@ -119,8 +119,8 @@ module _ (old new : ℕ → Text → Option ℕ) (paths : List (List Text)) (p :
       | inl b ↦ kept_step node u next ((tree.leads node u next).1 (record { path = led.path; «from» = a; to = b }))
       | inr b ↦
           let same = snoc_same path led.path t u b.1 in
-          let place = tree.once node p path (a ∙ ap Some (sym same.0)) here in
-          ap₂ new place (sym same.1) ∙ some ∙ ap Some (sym b.0)
+          let same_node = tree.once node p path (a ∙ ap Some (sym same.0)) here in
+          ap₂ new same_node (sym same.1) ∙ some ∙ ap Some (sym b.0)
     ]
     | inr a ↦ elim (at_cases paths added next (led.path ++ u ∷ []) led.to) [
       | inl b ↦
@@ -192,8 +192,8 @@ HasEnds-again ends paths put node path end one here there has = record {
       | inr a ↦
           let same_path : path ≡ x = ap (λ (p : List Text × End). p.0) a in
           let same_end : end ≡ e = ap (λ (p : List Text × End). p.1) a in
-          let place = one node n x (here ∙ ap Some same_path) h in
-          subst (λ (v : End). Contains (get_or ends n []) v) same_end (subst (λ (m : ℕ). Contains (get_or ends m []) end) place there)
+          let same_node = one node n x (here ∙ ap Some same_path) h in
+          subst (λ (v : End). Contains (get_or ends n []) v) same_end (subst (λ (m : ℕ). Contains (get_or ends m []) end) same_node there)
     ],
   );
   once = has.once;

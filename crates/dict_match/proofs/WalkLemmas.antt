@@ -4,11 +4,10 @@ use Rattle.std.specs.Cmp.Lexicographic.{pointwise, same_text, other_text}
 use Rattle.std.specs.HashMap.{get_by_text}
 use Rattle.std.proofs.lemmas.List.{length-map, length-take, length-drop, take_more, take-map, take_all, get_or-map, get_or-drop, get_or-take, map-append, length-append}
 use Rattle.span_token.specs.Documents.{text_in}
-use Rattle.span_token.specs.Extents.{Extent}
+use Rattle.span_token.specs.Extents.{Extent, nth_extent}
 use Rattle.dict_match.specs.declared.dict_use.DictUse.{DictUse}
 use Rattle.dict_match.specs.declared.ahead.Ahead.{Ahead}
 use Rattle.dict_match.specs.declared.trie.Trie.{Trie}
-use Rattle.span_token.specs.SourceTokens.{nth_token}
 use Rattle.dict_match.specs.Dictionaries.{folded, entry_texts, texts_of, AgreesWith}
 use Rattle.span_token.specs.SourceTokens.{SomeTokens}
 use Rattle.dict_match.specs.Tries.{end_of, put_dicts, step, edge_from, Reaches}
@@ -20,7 +19,7 @@ Text = List ℕ
 
 -- the folding of token number `i`
 abbrev pub key : SomeTokens → ℕ → Text
-key tokens i = folded (text_in tokens.doc (nth_token tokens.tokens i))
+key tokens i = folded (text_in tokens.doc (nth_extent tokens.tokens i))
 
 -- the foldings of a run
 abbrev pub keys : SomeTokens → ℕ → ℕ → List Text
@@ -32,22 +31,22 @@ pub length-run : (tokens : SomeTokens) (first past : ℕ) → first ≤ past →
 length-run tokens first past le within =
     omega (arith, length-map (take (past - first) (drop first tokens.tokens)) (text_in tokens.doc), length-take (past - first) (drop first tokens.tokens), length-drop first tokens.tokens)
 
-range-more : (tokens : List Extent) (first last : ℕ) → first ≤ last → last < length tokens → slice_range tokens first (last + 1) ≡ slice_range tokens first last ++ nth_token tokens last ∷ []
+range-more : (tokens : List Extent) (first last : ℕ) → first ≤ last → last < length tokens → slice_range tokens first (last + 1) ≡ slice_range tokens first last ++ nth_extent tokens last ∷ []
 range-more tokens first last le lt =
     let count : last + 1 - first ≡ last - first + 1 = omega arith in
-    let place : first + (last - first) ≡ last = omega arith in
+    let same_number : first + (last - first) ≡ last = omega arith in
     ap (λ (n : ℕ). take n (drop first tokens)) count
     ∙ take_more (drop first tokens) (last - first) (record { begin = 0; end = 0 }) (omega (arith, length-drop first tokens))
-    ∙ ap (λ (e : Extent). slice_range tokens first last ++ e ∷ []) (get_or-drop first tokens (last - first) _ ∙ ap (nth_token tokens) place)
+    ∙ ap (λ (e : Extent). slice_range tokens first last ++ e ∷ []) (get_or-drop first tokens (last - first) _ ∙ ap (nth_extent tokens) same_number)
 
 pub texts-more : (tokens : SomeTokens) (first last : ℕ) → first ≤ last → last < length tokens.tokens →
-    run_texts tokens first (last + 1) ≡ run_texts tokens first last ++ text_in tokens.doc (nth_token tokens.tokens last) ∷ []
+    run_texts tokens first (last + 1) ≡ run_texts tokens first last ++ text_in tokens.doc (nth_extent tokens.tokens last) ∷ []
 texts-more tokens first last le lt =
-    ap (texts_of tokens.doc) (range-more tokens.tokens first last le lt) ∙ map-append (text_in tokens.doc) (slice_range tokens.tokens first last) (nth_token tokens.tokens last ∷ [])
+    ap (texts_of tokens.doc) (range-more tokens.tokens first last le lt) ∙ map-append (text_in tokens.doc) (slice_range tokens.tokens first last) (nth_extent tokens.tokens last ∷ [])
 
 pub keys-more : (tokens : SomeTokens) (first last : ℕ) → first ≤ last → last < length tokens.tokens → keys tokens first (last + 1) ≡ keys tokens first last ++ key tokens last ∷ []
 keys-more tokens first last le lt =
-    ap (map folded) (texts-more tokens first last le lt) ∙ map-append folded (run_texts tokens first last) (text_in tokens.doc (nth_token tokens.tokens last) ∷ [])
+    ap (map folded) (texts-more tokens first last le lt) ∙ map-append folded (run_texts tokens first last) (text_in tokens.doc (nth_extent tokens.tokens last) ∷ [])
 
 take-shorter : {X : Type 0} (xs : List X) (k n : ℕ) → k ≤ n → take k (take n xs) ≡ take k xs
 take-shorter [] zero n le = refl
@@ -83,7 +82,7 @@ none-longer trie dicts node tokens first last past i dict r none at le lt within
 -- ---- steps of loops
 
 -- the text of a run's token
-pub run_texts-nth : (tokens : SomeTokens) (first past i : ℕ) → i < past - first → past ≤ length tokens.tokens → get_or (run_texts tokens first past) i [] ≡ text_in tokens.doc (nth_token tokens.tokens (first + i))
+pub run_texts-nth : (tokens : SomeTokens) (first past i : ℕ) → i < past - first → past ≤ length tokens.tokens → get_or (run_texts tokens first past) i [] ≡ text_in tokens.doc (nth_extent tokens.tokens (first + i))
 run_texts-nth tokens first past i lt within =
     get_or-map (text_in tokens.doc) (slice_range tokens.tokens first past) i (record { begin = 0; end = 0 }) []
     (omega (arith, lt, within, length-take (past - first) (drop first tokens.tokens), length-drop first tokens.tokens))
@@ -111,11 +110,11 @@ pub known-number : (trie : Trie) (tokens : SomeTokens) (ahead : Ahead) (i : ℕ)
 known-number trie tokens ahead i d are le known lt =
     let words = ahead.numbers.items in
     let all = numbers_of trie tokens in
-    let place : ahead.begin + (i - ahead.begin) ≡ i = omega (arith, le) in
+    let same_number : ahead.begin + (i - ahead.begin) ≡ i = omega (arith, le) in
     ap (λ (ws : List (Option ℕ)). get_or ws (i - ahead.begin) d) are
     ∙ get_or-take (length words) (drop ahead.begin all) (i - ahead.begin) d known
     ∙ get_or-drop ahead.begin all (i - ahead.begin) d
-    ∙ ap (λ (n : ℕ). get_or all n d) place
+    ∙ ap (λ (n : ℕ). get_or all n d) same_number
     ∙ number-of trie tokens i d lt
 
 pub more-numbers : (trie : Trie) (tokens : SomeTokens) (ahead : Ahead) (new : List (Option ℕ)) (i : ℕ) (word : Option ℕ) → AreAhead trie tokens ahead → i ≡ ahead.begin + length ahead.numbers.items →

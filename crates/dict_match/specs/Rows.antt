@@ -11,7 +11,7 @@ use Rattle.dict_match.specs.declared.walk.DictMatch.{DictMatch}
 use Rattle.dict_match.specs.Dictionaries.{AreMatches}
 use Rattle.dict_match.specs.DictMatches.{dict_matches}
 
--- a match as the place of its dictionary and its extent
+-- a match as the number of its dictionary and its extent
 abbrev pub dict_and_extent : DictMatch → ℕ × Extent
 dict_and_extent m = (m.dict, extent_of m.span)
 
@@ -32,7 +32,7 @@ pub record AreRowsOfEach (dicts : List DictUse) (d : Doc) (source : Extent) (row
 pub record AppendsMatches (dicts : List DictUse) (d : Doc) (source : Extent) (old new : List (ℕ × Extent)) : Type 0 where
   pub added : List (ℕ × Extent)
   pub after : new ≡ old ++ added
-  pub places : All (λ (m : ℕ × Extent). m.0 < length dicts) added
+  pub below : All (λ (m : ℕ × Extent). m.0 < length dicts) added
   pub within : All (λ (m : ℕ × Extent). ContainsExtent source m.1) added
   pub each : (i : ℕ) (dict : DictUse) → slice_get dicts i ≡ Some dict → AreMatches dict d source (extents_for i added)
   pub listed : (i : ℕ) (dict : DictUse) → slice_get dicts i ≡ Some dict → extents_for i added ≡ dict_matches dict d source

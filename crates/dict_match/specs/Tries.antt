@@ -23,14 +23,14 @@ put_texts dict exact (x ∷ xs) = (map folded (x ∷ xs), end_of dict exact (x �
 abbrev pub put_entry : ℕ → Bool → List ℕ → List (List (List ℕ) × End)
 put_entry dict exact entry = put_texts dict exact (entry_texts entry)
 
--- all entries of the dictionary at a place
+-- all entries of the dictionary with that number
 abbrev pub put_dict : ℕ → DictUse → List (List (List ℕ) × End)
-put_dict place dict = flat_map (put_entry place dict.exact) dict.entries
+put_dict number dict = flat_map (put_entry number dict.exact) dict.entries
 
--- all entries of dictionaries, the first of them at a place
+-- all entries of dictionaries, the first of which has that number
 abbrev pub put_dicts : ℕ → List DictUse → List (List (List ℕ) × End)
-put_dicts place [] = []
-put_dicts place (dict ∷ dicts) = put_dict place dict ++ put_dicts (place + 1) dicts
+put_dicts first [] = []
+put_dicts first (dict ∷ dicts) = put_dict first dict ++ put_dicts (first + 1) dicts
 
 -- ---- the tree
 

@@ -58,8 +58,8 @@ pub record IsKnownOrNext (i : ℕ) (ahead : Ahead) : Type 0 where
   pub «from» : ahead.begin ≤ i
   pub to : i ≤ ahead.begin + length ahead.numbers.items
 
--- a list goes on after another, with matches of dictionaries before place `n`
+-- a list goes on after another, with matches of dictionaries whose numbers are below `n`
 pub record Extends (n : ℕ) (old new : List DictMatch) : Type 0 where
   pub added : List DictMatch
   pub after : new ≡ old ++ added
-  pub places : All (λ (m : DictMatch). m.dict < n) added
+  pub below : All (λ (m : DictMatch). m.dict < n) added

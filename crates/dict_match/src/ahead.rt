@@ -1,7 +1,8 @@
 ghost use Rattle.std.specs.Prelude.{◌≡◌, ◌<◌, ◌≤◌, ◌+◌, [], length, IfOk, OnOk};
 ghost use Rattle.std.specs.HashMap.{get_by_text};
 ghost use Rattle.span_token.specs.Documents.{text_in};
-ghost use Rattle.span_token.specs.SourceTokens.{SomeTokens, nth_token};
+ghost use Rattle.span_token.specs.Extents.{nth_extent};
+ghost use Rattle.span_token.specs.SourceTokens.{SomeTokens};
 ghost use Rattle.dict_match.specs.Dictionaries.{folded};
 ghost use Rattle.dict_match.specs.declared.trie.Trie.{Trie as DeclaredTrie};
 ghost use Rattle.dict_match.specs.Tries.{IsTrie};
@@ -17,7 +18,7 @@ use std::alloc::Global;
 /// Most tokens begin no entry, so mostly one number is kept, and none of the tokens before it.
 #[derive(Drop)]
 pub(crate) struct Ahead {
-    /// The place of the first of these tokens.
+    /// The number of the first of these tokens.
     pub begin: usize,
     /// For each of them the number of its folding, none where no entry has it.
     pub numbers: Vec<Option<usize>>,
@@ -69,14 +70,14 @@ pub(crate) fn number_at(
     requires there { i < length tokens.now.tokens }
     requires numbers { AreAhead trie.now tokens.now ahead.old }
     requires next { IsKnownOrNext i ahead.old }
-    ensures number { IfOk result (λ word. word ≡ get_by_text trie.now.words (folded (text_in tokens.now.doc (nth_token tokens.now.tokens i)))) }
+    ensures number { IfOk result (λ word. word ≡ get_by_text trie.now.words (folded (text_in tokens.now.doc (nth_extent tokens.now.tokens i)))) }
     ensures numbers { OnOk result (AreAhead trie.now tokens.now ahead.new) }
     ensures begin { ahead.new.begin ≡ ahead.old.begin }
     ensures past { OnOk result (i < ahead.new.begin + length ahead.new.numbers.items) }
 {
-    let place = i - ahead.begin;
-    if place < ahead.numbers.len() {
-        return Ok(ahead.numbers[place]);
+    let nth = i - ahead.begin;
+    if nth < ahead.numbers.len() {
+        return Ok(ahead.numbers[nth]);
     }
     let word = number_of_folded(trie, tokens.text(i), buffer)?;
     ahead.numbers.push(word)?;

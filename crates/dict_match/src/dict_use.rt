@@ -3,7 +3,7 @@ ghost use Rattle.std.specs.Prelude.{◌≡◌, IfOk};
 use span_token::{OutOfMemory, OwnedList, OwnedText};
 use std::alloc::Global;
 
-/// A dictionary as a place uses it: its entries, and whether case counts.
+/// A use of a dictionary: its entries, and whether case counts.
 ///
 /// With `exact` two tokens agree where their texts are equal; without it where their full case
 /// foldings are. The tokens of an entry are those of its text by the rule of a document's tokens, and

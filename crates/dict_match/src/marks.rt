@@ -47,9 +47,9 @@ impl Marks {
         ensures set { HasMark self.new mark }
         ensures kept { (other : ℕ) → HasMark self.old other → HasMark self.new other }
     {
-        let place = (mark / 8) as usize;
-        let byte = self.bytes[place];
-        self.bytes[place] = byte | 1 << (mark % 8);
+        let at = (mark / 8) as usize;
+        let byte = self.bytes[at];
+        self.bytes[at] = byte | 1 << (mark % 8);
     }
 }
 

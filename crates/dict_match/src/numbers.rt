@@ -21,15 +21,15 @@ pub(crate) fn number_of_folded(
     requires trie { IsTrie trie.now }
     ensures { IfOk result (λ number. number ≡ get_by_text trie.now.words (folded text.now)) }
 {
-    if let Some(mark) = mark_where_ascii(text) {
-        if !trie.marks.has(mark) {
-            return Ok(None);
-        }
+    if !may_be_word(trie, text) {
+        return Ok(None);
     }
     number_by_words(trie, text, buffer)
 }
 
 /// Whether some entry may have a token with this text: most that none has are told by their mark.
+///
+/// The clause is met by yes for each text too, which only the time rests on.
 #[inline(always)]
 pub(crate) fn may_be_word(trie: &Trie, text: &str) -> bool
     requires trie { IsTrie trie.now }
@@ -43,7 +43,7 @@ pub(crate) fn may_be_word(trie: &Trie, text: &str) -> bool
     true
 }
 
-/// The same by a look at the words.
+/// What the words have for the folding, by a look at them.
 fn number_by_words(
     trie: &Trie,
     text: &str,

@@ -13,7 +13,7 @@ use crate::dict_use::{DictUse, copied_dicts};
 use crate::probe::{has_run, is_entry};
 use crate::trie::Trie;
 use crate::walk::{DictMatch, push_matches};
-use span_token::{Document, OutOfMemory, OwnedList, SourceTokens, Span, TokenRoom};
+use span_token::{Document, OutOfMemory, OwnedList, SourceTokens, Span};
 use std::alloc::Global;
 use std::marker::Model;
 
@@ -44,7 +44,6 @@ impl Model for DictPass {
 /// What a walk needs and a caller keeps from one to the next. What it holds tells nothing.
 #[derive(Drop)]
 pub struct DictScratch {
-    room: TokenRoom,
     folded: String,
     ahead: Ahead,
 }
@@ -53,7 +52,6 @@ impl DictScratch {
     /// Nothing kept yet; takes no memory.
     pub fn new(alloc: Global) -> DictScratch {
         DictScratch {
-            room: TokenRoom::new(alloc),
             folded: String::new(alloc),
             ahead: Ahead::new(alloc),
         }
@@ -71,8 +69,8 @@ impl DictPass {
         let mut trie = Trie::new(alloc)?;
         let mut buffer = String::new(alloc);
         let mut most = Vec::new(alloc);
-        for (place, dict) in dicts.iter().enumerate() {
-            let tokens = trie.put_dict(alloc, place, dict, &mut buffer)?;
+        for (dict_number, dict) in dicts.iter().enumerate() {
+            let tokens = trie.put_dict(alloc, dict_number, dict, &mut buffer)?;
             most.push(tokens)?;
         }
         let dicts = copied_dicts(alloc, dicts)?;
@@ -112,7 +110,7 @@ impl DictPass {
 
     /// Puts the matches wholly in `source` of all dictionaries behind what `into` holds.
     ///
-    /// A match is the place of a dictionary in the pass, from 0, with a span. For each dictionary each
+    /// A match is the number of a dictionary in the pass, from 0, with a span. For each dictionary each
     /// span comes once and in span order; the matches of several dictionaries stand among one another.
     /// Takes memory only where `scratch` or `into` has no room; after want of memory no clause says what
     /// `into` holds.
@@ -128,7 +126,7 @@ impl DictPass {
         requires in_document { LiesIn (extent_of source) doc.now }
         ensures { OnOk result (AppendsMatches self.now doc.now (extent_of source) (map dict_and_extent into.old.items) (map dict_and_extent into.new.items)) }
     {
-        let tokens = SourceTokens::of(&mut scratch.room, doc, source)?;
+        let tokens = SourceTokens::of(doc, source);
         push_matches(
             &self.trie,
             &tokens,
@@ -138,7 +136,7 @@ impl DictPass {
         )
     }
 
-    /// A number of tokens that no match of the dictionary at place `dict` of the pass exceeds: that of its longest
+    /// A number of tokens that no match of dictionary number `dict` of the pass, from 0, exceeds: that of its longest
     /// entry. No clause says that it is the least one, nor what it is where the pass has no such dictionary (0).
     #[tactic(auto, using(crate::proofs::MostLemmas::agree_most))]
     pub fn most_tokens(&self, dict: usize) -> usize
@@ -151,7 +149,7 @@ impl DictPass {
         self.most[dict]
     }
 
-    /// Whether the dictionary at place `dict` of the pass has a match wholly in `source`; false where the
+    /// Whether dictionary number `dict` of the pass, from 0, has a match wholly in `source`; false where the
     /// pass has no such dictionary.
     ///
     /// Ends at the first match. Takes memory only where `scratch` has no room.
@@ -173,7 +171,7 @@ impl DictPass {
         if dict >= self.dicts.len() {
             return Ok(false);
         }
-        let tokens = SourceTokens::of(&mut scratch.room, doc, source)?;
+        let tokens = SourceTokens::of(doc, source);
         has_run(
             &self.trie,
             dict,
@@ -183,8 +181,8 @@ impl DictPass {
         )
     }
 
-    /// Whether the tokens wholly in `source`, all of them together, agree with an entry of the
-    /// dictionary at place `dict` of the pass; false where there is no token, or the pass has no such
+    /// Whether the tokens wholly in `source`, all of them together, agree with an entry of dictionary
+    /// number `dict` of the pass, from 0; false where there is no token, or the pass has no such
     /// dictionary.
     ///
     /// Reads no more tokens than there are, and none behind one with which no entry goes on. Takes
@@ -208,7 +206,7 @@ impl DictPass {
         if dict >= self.dicts.len() {
             return Ok(false);
         }
-        let tokens = SourceTokens::of(&mut scratch.room, doc, source)?;
+        let tokens = SourceTokens::of(doc, source);
         is_entry(&self.trie, dict, &tokens, &mut scratch.folded)
     }
 }

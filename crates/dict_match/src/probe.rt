@@ -11,7 +11,7 @@ use crate::trie::{End, Trie};
 use crate::walk::{does_agree, follow};
 use span_token::{OutOfMemory, SourceTokens};
 
-/// Whether some run of these tokens agrees with an entry of the dictionary at a place.
+/// Whether some run of these tokens agrees with an entry of the dictionary with that number.
 ///
 /// Ends at the first such run. Tokens are folded as far as runs are followed, each once.
 pub(crate) fn has_run(
@@ -35,7 +35,7 @@ pub(crate) fn has_run(
     Ok(false)
 }
 
-/// Whether some run from token `first` on agrees with an entry of the dictionary at a place.
+/// Whether some run from token `first` on agrees with an entry of the dictionary with that number.
 fn has_run_from(
     trie: &Trie,
     dict: usize,
@@ -67,7 +67,7 @@ fn has_run_from(
     Ok(false)
 }
 
-/// Whether these tokens, taken together, agree with an entry of the dictionary at a place.
+/// Whether these tokens, taken together, agree with an entry of the dictionary with that number.
 ///
 /// Ends at the first token with which no entry goes on.
 pub(crate) fn is_entry(
@@ -94,7 +94,7 @@ pub(crate) fn is_entry(
     Ok(has_end(trie.ends[node].as_slice(), dict, tokens, 0, tokens.len()))
 }
 
-/// Whether one of these ends is of the dictionary at a place and agrees with the run of tokens from
+/// Whether one of these ends is of the dictionary with that number and agrees with the run of tokens from
 /// `first` to before `past`.
 fn has_end(
     ends: &[End],
@@ -115,7 +115,7 @@ fn has_end(
     false
 }
 
-/// Whether an end is of the dictionary at a place and agrees with a run.
+/// Whether an end is of the dictionary with that number and agrees with a run.
 fn is_end_for(
     end: &End,
     dict: usize,

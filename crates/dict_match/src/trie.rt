@@ -9,13 +9,11 @@ ghost use Rattle.dict_match.specs.Tries.{Reaches, IsTrie, put_entry, put_dict};
 use crate::dict_use::DictUse;
 use crate::fold::fold_into;
 use crate::marks::{Marks, mark_of};
-use span_token::{
-    Document, OutOfMemory, OwnedList, OwnedText, SourceTokens, TEXT_LIMIT, TokenRoom,
-};
+use span_token::{Document, OutOfMemory, OwnedList, OwnedText, SourceTokens, TEXT_LIMIT};
 use std::alloc::Global;
 use std::collections::HashMap;
 
-/// An entry of a dictionary that ends at a node: the dictionary's place, and the texts of the entry's
+/// An entry of a dictionary that ends at a node: the dictionary's number, and the texts of the entry's
 /// tokens where case counts.
 #[derive(Debug, Drop)]
 pub(crate) struct End {
@@ -132,8 +130,7 @@ impl Trie {
             return Err(OutOfMemory);
         }
         let doc = Document::new(alloc, entry, None)?;
-        let mut room = TokenRoom::new(alloc);
-        let tokens = SourceTokens::all(&mut room, &doc)?;
+        let tokens = SourceTokens::all(&doc);
         let number = tokens.len();
         if number == 0 {
             return Ok(0);
@@ -153,18 +150,18 @@ impl Trie {
     pub(crate) fn put_dict(
         &mut self,
         alloc: Global,
-        place: usize,
+        dict_number: usize,
         dict: &DictUse,
         buffer: &mut String,
     ) -> Result<usize, OutOfMemory>
         requires trie { IsTrie self.old }
         ensures put { (put : List (List (List ℕ) × End)) → Reaches self.old put 0 []
-            → OnOk result (Reaches self.new (put ++ put_dict place dict.now) 0 []) }
+            → OnOk result (Reaches self.new (put ++ put_dict dict_number dict.now) 0 []) }
         ensures most { IfOk result (λ most. HaveAtMost most dict.now.entries) }
     {
         let mut most = 0;
         for entry in dict.entries.as_slice() {
-            let number = self.put_entry(alloc, place, dict.exact, entry.as_str(), buffer)?;
+            let number = self.put_entry(alloc, dict_number, dict.exact, entry.as_str(), buffer)?;
             most = most.max(number);
         }
         Ok(most)

@@ -11,7 +11,7 @@ use crate::numbers::may_be_word;
 use crate::trie::{End, Trie};
 use span_token::{OutOfMemory, OwnedText, SourceTokens, Span};
 
-/// A match: the dictionary's place in the pass, from 0, and the span.
+/// A match: the dictionary's number in the pass, from 0, and the span.
 #[derive(Clone, Copy, Debug)]
 pub struct DictMatch {
     pub dict: usize,

@@ -5,8 +5,8 @@ use Rattle.std.specs.Option.{option_or}
 use Rattle.std.proofs.lemmas.List.{length-take, length-drop, get_or-take, get_or-drop, drop-take, drop-drop, take-take}
 use Rattle.span_token.specs.Contexts.{AreWithin}
 use Rattle.span_token.specs.Documents.{Doc, characters}
-use Rattle.span_token.specs.Extents.{Extent}
-use Rattle.span_token.specs.SourceTokens.{nth_token, run_extent, tokens_in}
+use Rattle.span_token.specs.Extents.{Extent, nth_extent}
+use Rattle.span_token.specs.SourceTokens.{run_extent, tokens_in}
 use Rattle.span_token.specs.Tokens.{tokens_of}
 use Rattle.row_values.specs.Datums.{Datum}
 use Rattle.row_values.specs.Rows.{span_in}
@@ -29,7 +29,7 @@ use Rattle.plan_operators.proofs.Numbers.{flat_map-shift, map-filter-shift, filt
 pub part-long : (tokens : List Extent) (first past : ℕ) → first ≤ past → past ≤ length tokens → length (slice_range tokens first past) ≡ past - first
 part-long tokens first past le within = omega (arith, length-take (past - first) (drop first tokens), length-drop first tokens)
 
-pub part-nth : (tokens : List Extent) (first past i : ℕ) → i < past - first → nth_token (slice_range tokens first past) i ≡ nth_token tokens (first + i)
+pub part-nth : (tokens : List Extent) (first past i : ℕ) → i < past - first → nth_extent (slice_range tokens first past) i ≡ nth_extent tokens (first + i)
 part-nth tokens first past i lt = get_or-take (past - first) (drop first tokens) i _ lt ∙ get_or-drop first tokens i _
 
 cut-part : (xs : List Extent) (n a b : ℕ) → a ≤ b → b ≤ n → take (b - a) (drop a (take n xs)) ≡ take (b - a) (drop a xs)
@@ -53,7 +53,7 @@ module _ (doc : Doc) (tokens : List Extent) (first past : ℕ) (le : first ≤ p
   run-same i k some there =
       let n : first + (i + k - 1) ≡ first + i + k - 1 = omega (arith, some) in
       ap₂ (λ (a b : Extent). pair a b) (part-nth tokens first past i (omega (arith, some, there)))
-      (part-nth tokens first past (i + k - 1) (omega (arith, some, there)) ∙ ap (nth_token tokens) n)
+      (part-nth tokens first past (i + k - 1) (omega (arith, some, there)) ∙ ap (nth_extent tokens) n)
     where
       pair : Extent → Extent → Extent
       pair a b = record { begin = a.begin; end = b.end }
@@ -89,7 +89,7 @@ module _ (doc : Doc) (tokens : List Extent) (first past : ℕ) (le : first ≤ p
       ∙ map-filter-shift (run_extent part i) (run_extent tokens (first + i)) (λ last. does_agree dict (texts_of doc (slice_range part i (last + 1))))
       (λ last. does_agree dict (texts_of doc (slice_range tokens (first + i) (last + 1)))) i (first + i) (past - (first + i))
       (λ j lt. let m : first + (i + j) ≡ first + i + j = omega arith in
-      ap₂ (λ (a b : Extent). pair a b) (part-nth tokens first past i (omega (arith, lt))) (part-nth tokens first past (i + j) (omega (arith, lt)) ∙ ap (nth_token tokens) m))
+      ap₂ (λ (a b : Extent). pair a b) (part-nth tokens first past i (omega (arith, lt))) (part-nth tokens first past (i + j) (omega (arith, lt)) ∙ ap (nth_extent tokens) m))
       (λ j lt. let m : first + (i + j + 1) ≡ first + i + j + 1 = omega arith in
       ap (λ (ts : List Extent). does_agree dict (texts_of doc ts))
       (part-part tokens first past i (i + j + 1) (omega arith) (omega (arith, lt)) ∙ ap (slice_range tokens (first + i)) m))

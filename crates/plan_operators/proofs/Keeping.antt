@@ -13,7 +13,7 @@ use Rattle.row_values.specs.Rows.{RowsLieIn, sorted}
 use Rattle.row_values.specs.RowBags.{RowsLieIn-SameBag}
 use Rattle.row_values.specs.SortedRows.{SameBag-sorted}
 use Rattle.span_sets.specs.declared.policy.Policy.{Policy}
-use Rattle.span_sets.specs.KeptPlaces.{consolidated}
+use Rattle.span_sets.specs.KeptRows.{consolidated}
 use Rattle.span_sets.specs.Laws.{consolidated-among}
 
 -- what holds of the images holds of each through the function

@@ -4,9 +4,9 @@ use Rattle.std.proofs.lemmas.Bool.{cases_lt, and_parts, and_from, le-leb}
 use Rattle.std.proofs.lemmas.Bool.Decides.{nat_tests}
 use Rattle.std.proofs.lemmas.List.{get_or_default}
 use Rattle.span_token.specs.Contexts.{how_many}
-use Rattle.span_token.specs.Extents.{Extent}
+use Rattle.span_token.specs.Extents.{Extent, nth_extent}
 use Rattle.span_token.specs.Relations.{does_follow, does_follow_tok, do_overlap, does_contain, tokens_between}
-use Rattle.span_token.specs.SourceTokens.{InTextOrder, nth_token}
+use Rattle.span_token.specs.SourceTokens.{InTextOrder}
 use Rattle.plan_operators.specs.Neighbourhoods.{AreBegun, IsInRun}
 use Rattle.plan_operators.proofs.Counting.{count-most, count-least}
 
@@ -53,7 +53,7 @@ contain-bounds a b h = (grind (arith, nat_tests, h), grind (arith, nat_tests, h)
 
 module _ (tokens : List Extent) (order : InTextOrder tokens) (first past : ℕ) (e : Extent) (run : IsInRun tokens first past e) where
   -- a run that reaches to a place has all tokens that begin before it among its tokens and those in front
-  pub ends-late : (place number x : ℕ) → AreBegun tokens place number → place ≤ x → x ≤ (nth_token tokens (past - 1)).end → number ≤ past
+  pub ends-late : (place number x : ℕ) → AreBegun tokens place number → place ≤ x → x ≤ (nth_extent tokens (past - 1)).end → number ≤ past
   ends-late place number x begun le reached = elim (cases_lt past number) [
     | inr ok ↦ ok
     | inl short ↦
@@ -65,7 +65,7 @@ module _ (tokens : List Extent) (order : InTextOrder tokens) (first past : ℕ) 
   ]
 
   -- one that begins before a place begins with a token that does
-  pub begins-early : (place number y : ℕ) → AreBegun tokens place number → (nth_token tokens first).begin ≤ y → y < place → first < number
+  pub begins-early : (place number y : ℕ) → AreBegun tokens place number → (nth_extent tokens first).begin ≤ y → y < place → first < number
   begins-early place number y begun reached lt = elim (cases_lt first number) [
     | inl ok ↦ ok
     | inr late ↦
@@ -112,17 +112,17 @@ module _ (tokens : List Extent) (order : InTextOrder tokens) (first past : ℕ) 
         only k d lt is =
             let same = get_or_default tokens k d (record { begin = 0; end = 0 }) lt in
             let parts = and_parts (nat_le from (get_or tokens k d).begin) (nat_le (get_or tokens k d).end e.begin) is in
-            let late : from ≤ (nth_token tokens k).begin = let it : from ≤ (get_or tokens k d).begin = grind (arith, nat_tests, parts.0) in omega (arith, it, ap (λ (t : Extent). t.begin) same) in
-            let early : (nth_token tokens k).end ≤ e.begin = let it : (get_or tokens k d).end ≤ e.begin = grind (arith, nat_tests, parts.1) in omega (arith, it, ap (λ (t : Extent). t.end) same) in
+            let late : from ≤ (nth_extent tokens k).begin = let it : from ≤ (get_or tokens k d).begin = grind (arith, nat_tests, parts.0) in omega (arith, it, ap (λ (t : Extent). t.begin) same) in
+            let early : (nth_extent tokens k).end ≤ e.begin = let it : (get_or tokens k d).end ≤ e.begin = grind (arith, nat_tests, parts.1) in omega (arith, it, ap (λ (t : Extent). t.end) same) in
             (not_before k late, not_behind k lt early)
           where
-            not_before : (k : ℕ) → from ≤ (nth_token tokens k).begin → number ≤ k
+            not_before : (k : ℕ) → from ≤ (nth_extent tokens k).begin → number ≤ k
             not_before k late = elim (cases_lt k number) [
               | inr ok ↦ ok
               | inl lt ↦ let before = begun.before k lt in absurd (omega (arith, before, late))
             ]
 
-            not_behind : (k : ℕ) → k < length tokens → (nth_token tokens k).end ≤ e.begin → k < past
+            not_behind : (k : ℕ) → k < length tokens → (nth_extent tokens k).end ≤ e.begin → k < past
             not_behind k lt early = elim (cases_lt k past) [
               | inl ok ↦ ok
               | inr late ↦
@@ -160,11 +160,11 @@ module _ (tokens : List Extent) (order : InTextOrder tokens) (first past : ℕ) 
         only k d lt is =
             let same = get_or_default tokens k d (record { begin = 0; end = 0 }) lt in
             let parts = and_parts (nat_le e.end (get_or tokens k d).begin) (nat_le (get_or tokens k d).end to) is in
-            let late : e.end ≤ (nth_token tokens k).begin = let it : e.end ≤ (get_or tokens k d).begin = grind (arith, nat_tests, parts.0) in omega (arith, it, ap (λ (t : Extent). t.begin) same) in
-            let early : (nth_token tokens k).end ≤ to = let it : (get_or tokens k d).end ≤ to = grind (arith, nat_tests, parts.1) in omega (arith, it, ap (λ (t : Extent). t.end) same) in
+            let late : e.end ≤ (nth_extent tokens k).begin = let it : e.end ≤ (get_or tokens k d).begin = grind (arith, nat_tests, parts.0) in omega (arith, it, ap (λ (t : Extent). t.begin) same) in
+            let early : (nth_extent tokens k).end ≤ to = let it : (get_or tokens k d).end ≤ to = grind (arith, nat_tests, parts.1) in omega (arith, it, ap (λ (t : Extent). t.end) same) in
             (not_before k lt late, not_behind k lt early)
           where
-            not_before : (k : ℕ) → k < length tokens → e.end ≤ (nth_token tokens k).begin → first ≤ k
+            not_before : (k : ℕ) → k < length tokens → e.end ≤ (nth_extent tokens k).begin → first ≤ k
             not_before k lt late = elim (cases_lt k first) [
               | inr ok ↦ ok
               | inl before ↦
@@ -176,7 +176,7 @@ module _ (tokens : List Extent) (order : InTextOrder tokens) (first past : ℕ) 
                   absurd (omega (arith, apart, filled, inside, late))
             ]
 
-            not_behind : (k : ℕ) → k < length tokens → (nth_token tokens k).end ≤ to → k < number
+            not_behind : (k : ℕ) → k < length tokens → (nth_extent tokens k).end ≤ to → k < number
             not_behind k lt early = elim (cases_lt k number) [
               | inl ok ↦ ok
               | inr late ↦

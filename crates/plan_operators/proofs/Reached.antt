@@ -11,8 +11,8 @@ use Rattle.std.proofs.lemmas.List.Elements.{filter-append}
 use Rattle.std.proofs.lemmas.Option.{none-some, same_Some}
 use Rattle.std.proofs.lemmas.Str.{chars-encodes, scalars-chars}
 use Rattle.span_token.specs.Documents.{Doc, characters, text_in, moved}
-use Rattle.span_token.specs.Extents.{Extent}
-use Rattle.span_token.specs.SourceTokens.{nth_token, run_extent}
+use Rattle.span_token.specs.Extents.{Extent, nth_extent}
+use Rattle.span_token.specs.SourceTokens.{run_extent}
 use Rattle.span_token.specs.Tokens.{tokens_of}
 use Rattle.aql_regex_extract.specs.Matches.{first_match, group_in, row_by, row_of}
 use Rattle.aql_regex_extract.specs.Patterns.{whole_form}
@@ -95,7 +95,7 @@ longest-one rows low (suc n) row is = by (rows (low + n)) refl is (λ rest. long
 
 module _ (doc : Doc) (utf8 : IsUtf8 doc.text) where
   run-ordered : (first last : ℕ) → first ≤ last → last < length (tokens_of (characters doc))
-      → (nth_token (tokens_of (characters doc)) first).begin ≤ (nth_token (tokens_of (characters doc)) last).end
+      → (nth_extent (tokens_of (characters doc)) first).begin ≤ (nth_extent (tokens_of (characters doc)) last).end
   run-ordered first last le lt =
       let order = tokens-in-order (characters doc) in
       let rise = begins-rise (tokens_of (characters doc)) order first last le lt in

@@ -7,9 +7,9 @@ use Rattle.std.proofs.lemmas.List.{append-nil, get_or_default, length-append, ta
 use Rattle.std.proofs.lemmas.List.Elements.{filter-append}
 use Rattle.span_token.specs.Contexts.{AreWithin}
 use Rattle.span_token.specs.Documents.{Doc, characters}
-use Rattle.span_token.specs.Extents.{Extent}
+use Rattle.span_token.specs.Extents.{Extent, nth_extent}
 use Rattle.span_token.specs.Relations.{does_contain}
-use Rattle.span_token.specs.SourceTokens.{nth_token, run_extent}
+use Rattle.span_token.specs.SourceTokens.{run_extent}
 use Rattle.span_token.specs.Tokens.{tokens_of}
 use Rattle.row_values.specs.Datums.{Datum, span}
 use Rattle.row_values.specs.Rows.{RowList, span_in}
@@ -54,7 +54,7 @@ part-passing p (x ∷ xs) (suc first) past le low mid high =
     ∙ ap (λ m. take m (drop first xs)) n
 
 module _ (cs : List ℕ) (first past : ℕ) (some : first < past) (there : past ≤ length (tokens_of cs)) where
-  in-run : (k : ℕ) (d : Extent) → k < length (tokens_of cs) → get_or (tokens_of cs) k d ≡ nth_token (tokens_of cs) k
+  in-run : (k : ℕ) (d : Extent) → k < length (tokens_of cs) → get_or (tokens_of cs) k d ≡ nth_extent (tokens_of cs) k
   in-run k d lt = get_or_default (tokens_of cs) k d (record { begin = 0; end = 0 }) lt
 
   too-early : (k : ℕ) (d : Extent) → k < first → k < length (tokens_of cs) → does_contain (run_extent (tokens_of cs) first (past - 1)) (get_or (tokens_of cs) k d) ≡ false
@@ -63,7 +63,7 @@ module _ (cs : List ℕ) (first past : ℕ) (some : first < past) (there : past 
       let filled = order.filled k lt in
       let apart = order.apart k first low (omega (arith, some, there)) in
       let same = in-run k d lt in
-      let before : (get_or (tokens_of cs) k d).begin < (nth_token (tokens_of cs) first).begin = omega (arith, filled, apart, ap (λ (e : Extent). e.begin) same) in
+      let before : (get_or (tokens_of cs) k d).begin < (nth_extent (tokens_of cs) first).begin = omega (arith, filled, apart, ap (λ (e : Extent). e.begin) same) in
       grind (arith, nat_tests, before)
 
   within-run : (k : ℕ) (d : Extent) → first ≤ k → k < past → k < length (tokens_of cs) → does_contain (run_extent (tokens_of cs) first (past - 1)) (get_or (tokens_of cs) k d) ≡ true
@@ -72,8 +72,8 @@ module _ (cs : List ℕ) (first past : ℕ) (some : first < past) (there : past 
       let same = in-run k d lt in
       let begins = begins-rise (tokens_of cs) order first k low lt in
       let ends = ends-rise (tokens_of cs) order k (past - 1) (omega (arith, high)) (omega (arith, some, there)) in
-      let a : (nth_token (tokens_of cs) first).begin ≤ (get_or (tokens_of cs) k d).begin = omega (arith, begins, ap (λ (e : Extent). e.begin) same) in
-      let b : (get_or (tokens_of cs) k d).end ≤ (nth_token (tokens_of cs) (past - 1)).end = omega (arith, ends, ap (λ (e : Extent). e.end) same) in
+      let a : (nth_extent (tokens_of cs) first).begin ≤ (get_or (tokens_of cs) k d).begin = omega (arith, begins, ap (λ (e : Extent). e.begin) same) in
+      let b : (get_or (tokens_of cs) k d).end ≤ (nth_extent (tokens_of cs) (past - 1)).end = omega (arith, ends, ap (λ (e : Extent). e.end) same) in
       grind (arith, nat_tests, a, b)
 
   too-late : (k : ℕ) (d : Extent) → past ≤ k → k < length (tokens_of cs) → does_contain (run_extent (tokens_of cs) first (past - 1)) (get_or (tokens_of cs) k d) ≡ false
@@ -82,7 +82,7 @@ module _ (cs : List ℕ) (first past : ℕ) (some : first < past) (there : past 
       let filled = order.filled k lt in
       let apart = order.apart (past - 1) k (omega (arith, low, some)) lt in
       let same = in-run k d lt in
-      let behind : (nth_token (tokens_of cs) (past - 1)).end < (get_or (tokens_of cs) k d).end = omega (arith, filled, apart, ap (λ (e : Extent). e.end) same) in
+      let behind : (nth_extent (tokens_of cs) (past - 1)).end < (get_or (tokens_of cs) k d).end = omega (arith, filled, apart, ap (λ (e : Extent). e.end) same) in
       grind (arith, nat_tests, behind)
 
   -- the tokens of a run are those from its first to its last

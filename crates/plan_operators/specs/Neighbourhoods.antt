@@ -3,8 +3,8 @@ use Rattle.std.specs.Prelude.{ℕ, ◌+◌, ◌-◌, ◌<◌, ◌≤◌, ◌≡�
 use Rattle.std.specs.List.{cons_option, flat_map, list_any, range_with_len}
 use Rattle.std.specs.List.Sorted.{IsNonDecreasingBy}
 use Rattle.span_token.specs.Documents.{Doc, characters}
-use Rattle.span_token.specs.Extents.{Extent}
-use Rattle.span_token.specs.SourceTokens.{nth_token, run_extent}
+use Rattle.span_token.specs.Extents.{Extent, nth_extent}
+use Rattle.span_token.specs.SourceTokens.{run_extent}
 use Rattle.span_token.specs.Tokens.{tokens_of}
 use Rattle.row_values.specs.Datums.{Datum, span}
 use Rattle.row_values.specs.Rows.{RowList, span_in}
@@ -28,8 +28,8 @@ use Rattle.plan_operators.specs.declared.stretches.Stretch.{Stretch}
 -- just so many tokens begin before a place: those with lower numbers
 pub record AreBegun (tokens : List Extent) (place number : ℕ) : Type 0 where
   pub there : number ≤ length tokens
-  pub before : (i : ℕ) → i < number → (nth_token tokens i).begin < place
-  pub behind : (i : ℕ) → number ≤ i → i < length tokens → place ≤ (nth_token tokens i).begin
+  pub before : (i : ℕ) → i < number → (nth_extent tokens i).begin < place
+  pub behind : (i : ℕ) → number ≤ i → i < length tokens → place ≤ (nth_extent tokens i).begin
 
 -- both ends of an extent are in another
 pub record EndsIn (wide e : Extent) : Type 0 where

@@ -37,7 +37,7 @@ module _ (dicts : List DictUse) (d : Doc) (source : Extent) (new : List (ℕ × 
           → extents_for i new ≡ of_some (λ dict. dict_matches dict d source) (slice_get dicts i)
       there (inl at) = ap (extents_for i) appends.after ∙ (appends.listed i at.0 at.2 ∙ ap (of_some (λ dict. dict_matches dict d source)) (sym at.2))
       there (inr past) =
-          ap (extents_for i) appends.after ∙ (none_for (length dicts) i appends.added past.0 appends.places ∙ ap (of_some (λ dict. dict_matches dict d source)) (sym past.1))
+          ap (extents_for i) appends.after ∙ (none_for (length dicts) i appends.added past.0 appends.below ∙ ap (of_some (λ dict. dict_matches dict d source)) (sym past.1))
 
   -- and lie in the source
   pub all_within : All (λ (m : ℕ × Extent). ContainsExtent source m.1) new

@@ -18,7 +18,7 @@ use Rattle.row_values.specs.Rows.{RowList, row_cmp, IsInOrder, sorted}
 use Rattle.row_values.specs.SortedRows.{IsInOrder-sorted, SameBag-sorted}
 use Rattle.span_token.specs.Extents.{Extent}
 use Rattle.span_sets.specs.Consolidation.{IsKept, in_row_order, rows_in_order, targets_in_order, IsConsolidated}
-use Rattle.span_sets.specs.KeptPlaces.{consolidated_by, consolidated}
+use Rattle.span_sets.specs.KeptRows.{consolidated_by, consolidated}
 use Rattle.span_sets.specs.declared.policy.Policy.{Policy}
 use Rattle.span_sets.specs.LawProofs.ConsolidationLaws.{IsConsolidated-only, consolidated-SameBag}
 
@@ -34,27 +34,27 @@ module _ {X : Type 0} {cmp : X → X → Ordering} (order : IsTotalOrder cmp) wh
   stays_in_order [] h = refl
   stays_in_order (x ∷ xs) h = ap (put_in_order cmp x) (stays_in_order xs (IsSorted-tail order x xs h)) ∙ put_in_front x xs (IsSorted-head order x xs h)
 
-abbrev Placed : Type 0
-Placed = List Datum × Option Extent
+abbrev WithTarget : Type 0
+WithTarget = List Datum × Option Extent
 
-by_row : IsTotalOrder (λ (p q : Placed). row_cmp p.0 q.0)
-by_row = on_total (λ (p : Placed). p.0) row_cmp_total
+by_row : IsTotalOrder (λ (p q : WithTarget). row_cmp p.0 q.0)
+by_row = on_total (λ (p : WithTarget). p.0) row_cmp_total
 
-placed_in_order : (ps : List Placed) → IsInOrder (map (λ (p : Placed). p.0) ps) → IsSorted (λ (p q : Placed). row_cmp p.0 q.0) ps
-placed_in_order ps h = λ k d low high.
-    let f : Placed → List Datum = λ p. p.0 in
+pairs_in_order : (ps : List WithTarget) → IsInOrder (map (λ (p : WithTarget). p.0) ps) → IsSorted (λ (p q : WithTarget). row_cmp p.0 q.0) ps
+pairs_in_order ps h = λ k d low high.
+    let f : WithTarget → List Datum = λ p. p.0 in
     (λ i. is_lt (row_cmp (sym (get_or-map f ps (k + 1) d) i) (sym (get_or-map f ps k d) i))) ∙ h k d.0 low (omega (arith, high, length-map ps f))
 
 module _ (rows : List (List Datum)) (targets : List (Option Extent)) (up : IsInOrder rows) (each : length targets ≡ length rows) where
   as_they_are : in_row_order rows targets ≡ zip rows targets
   unfolding in_row_order
-  as_they_are = stays_in_order by_row (zip rows targets) (placed_in_order (zip rows targets) (subst IsInOrder (sym (firsts-zip rows targets each)) up))
+  as_they_are = stays_in_order by_row (zip rows targets) (pairs_in_order (zip rows targets) (subst IsInOrder (sym (firsts-zip rows targets each)) up))
 
   pub rows_as_they_are : rows_in_order rows targets ≡ rows
-  rows_as_they_are = ap (λ (ps : List Placed). map (λ (p : Placed). p.0) ps) as_they_are ∙ firsts-zip rows targets each
+  rows_as_they_are = ap (λ (ps : List WithTarget). map (λ (p : WithTarget). p.0) ps) as_they_are ∙ firsts-zip rows targets each
 
   pub targets_as_they_are : targets_in_order rows targets ≡ targets
-  targets_as_they_are = ap (λ (ps : List Placed). map (λ (p : Placed). p.1) ps) as_they_are ∙ seconds-zip rows targets each
+  targets_as_they_are = ap (λ (ps : List WithTarget). map (λ (p : WithTarget). p.1) ps) as_they_are ∙ seconds-zip rows targets each
 
 pub sorted_long : (rows : List (List Datum)) → length (sorted rows) ≡ length rows
 sorted_long rows = length_permutation rows (sorted rows) (SameBag-sorted rows)
@@ -62,7 +62,7 @@ sorted_long rows = length_permutation rows (sorted rows) (SameBag-sorted rows)
 pub sorted_all : (P : List Datum → Type 0) (rows : List (List Datum)) → All P rows → All P (sorted rows)
 sorted_all P rows all = All-permutation P rows (sorted rows) (SameBag-sorted rows) all
 
--- the rows at the places that stay, of rows in row order
+-- the rows that stay, of rows in row order
 pub IsConsolidated-picked : (policy : Policy) (width : ℕ) (rows : List (List Datum)) (targets : List (Option Extent)) (kept : List ℕ) (out : RowList) → length targets ≡ length rows → IsKept policy targets kept
     → out ≡ record { width = width; rows = map (λ i. get_or (sorted rows) i []) kept } → IsConsolidated policy (record { width = width; rows = sorted rows }) targets out
 IsConsolidated-picked policy width rows targets kept out each stay is =

@@ -1,4 +1,4 @@
--- The rows at the places whose marks are true, and those with one more mark.
+-- The rows whose marks are true, and those with one more mark.
 use Rattle.std.proofs.Common.{◌≡◌, ℕ, ◌+◌, List, [], ◌∷◌, ◌++◌, Bool, true, false, cond, map, filter, refl, sym, ap, ap₂, ◌∙◌, arith}
 use Rattle.std.specs.List.{range_with_len}
 use Rattle.std.proofs.lemmas.List.{map_push, map-id}

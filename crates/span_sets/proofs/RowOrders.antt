@@ -93,8 +93,8 @@ pub length-row_order_of : (rows : List (List Datum)) → length (row_order_of ro
 length-row_order_of rows = length_permutation (numbered_from 0 rows) (row_order_of rows) (SameBag-sorted_by numbered_cmp_total (numbered_from 0 rows)) ∙ length-numbered_from 0 rows
 
 -- rows with their targets, by rows alone
-abbrev placed_cmp : (List Datum × Option Extent) → (List Datum × Option Extent) → Ordering
-placed_cmp p q = row_cmp p.0 q.0
+abbrev with_target_cmp : (List Datum × Option Extent) → (List Datum × Option Extent) → Ordering
+with_target_cmp p q = row_cmp p.0 q.0
 
 module _ (targets : List (Option Extent)) where
   -- a numbered row with its target
@@ -109,26 +109,26 @@ module _ (targets : List (Option Extent)) where
   same_test Equal p h = h
   same_test Greater p h = refl
 
-  put : (row : List Datum) (i : ℕ) (ps : List (List Datum × ℕ)) → All (λ p. i < p.1) ps → map with_target (put_in_order numbered_cmp (row, i) ps) ≡ put_in_order placed_cmp (with_target (row, i)) (map with_target ps)
+  put : (row : List Datum) (i : ℕ) (ps : List (List Datum × ℕ)) → All (λ p. i < p.1) ps → map with_target (put_in_order numbered_cmp (row, i) ps) ≡ put_in_order with_target_cmp (with_target (row, i)) (map with_target ps)
   unfolding put_in_order
   put row i [] all = refl
   put row i (p ∷ ps) all =
       let test : is_lt (numbered_cmp p (row, i)) ≡ is_lt (row_cmp p.0 row) = same_test (row_cmp p.0 row) (nat_cmp p.1 i) (greater i p.1 (all 0 p (omega arith))) in
       rw test (by (is_lt (row_cmp p.0 row)) (put row i ps (λ k d h. all (suc k) d (omega (arith, h)))))
     where
-      by : (b : Bool) → map with_target (put_in_order numbered_cmp (row, i) ps) ≡ put_in_order placed_cmp (with_target (row, i)) (map with_target ps)
-          → map with_target (cond b (p ∷ put_in_order numbered_cmp (row, i) ps) ((row, i) ∷ p ∷ ps)) ≡ cond b (with_target p ∷ put_in_order placed_cmp (with_target (row, i)) (map with_target ps)) (with_target (row, i) ∷ with_target p ∷ map with_target ps)
+      by : (b : Bool) → map with_target (put_in_order numbered_cmp (row, i) ps) ≡ put_in_order with_target_cmp (with_target (row, i)) (map with_target ps)
+          → map with_target (cond b (p ∷ put_in_order numbered_cmp (row, i) ps) ((row, i) ∷ p ∷ ps)) ≡ cond b (with_target p ∷ put_in_order with_target_cmp (with_target (row, i)) (map with_target ps)) (with_target (row, i) ∷ with_target p ∷ map with_target ps)
       by true h = ap (λ qs. with_target p ∷ qs) h
       by false h = refl
 
-  sort_with : (i : ℕ) (rows : List (List Datum)) → map with_target (sorted_by numbered_cmp (numbered_from i rows)) ≡ sorted_by placed_cmp (map with_target (numbered_from i rows))
+  sort_with : (i : ℕ) (rows : List (List Datum)) → map with_target (sorted_by numbered_cmp (numbered_from i rows)) ≡ sorted_by with_target_cmp (map with_target (numbered_from i rows))
   unfolding sorted_by numbered_from
   sort_with i [] = refl
   sort_with i (row ∷ rows) =
       let above : All (λ p. i < p.1) (sorted_by numbered_cmp (numbered_from (i + 1) rows)) =
       All-permutation (λ p. i < p.1) (numbered_from (i + 1) rows) (sorted_by numbered_cmp (numbered_from (i + 1) rows)) (SameBag-sorted_by numbered_cmp_total (numbered_from (i + 1) rows))
       (All-weaker (λ p. Unit {0} × (i + 1 ≤ p.1) × (p.1 < (i + 1) + length rows)) (λ p. i < p.1) (λ p h. omega (arith, h.1)) (numbered_from (i + 1) rows) (numbers_from (λ r. Unit {0}) (i + 1) rows (λ k d h. tt))) in
-      put row i (sorted_by numbered_cmp (numbered_from (i + 1) rows)) above ∙ ap (put_in_order placed_cmp (with_target (row, i))) (sort_with (i + 1) rows)
+      put row i (sorted_by numbered_cmp (numbered_from (i + 1) rows)) above ∙ ap (put_in_order with_target_cmp (with_target (row, i))) (sort_with (i + 1) rows)
 
   zipped : (i : ℕ) (rows : List (List Datum)) → i + length rows ≡ length targets → map with_target (numbered_from i rows) ≡ zip rows (drop i targets)
   unfolding numbered_from
@@ -141,7 +141,7 @@ module _ (targets : List (Option Extent)) where
   -- the numbered rows in row order, with their targets, are the rows with their targets in row order
   pub in_row_order-numbered : (rows : List (List Datum)) → length targets ≡ length rows → map with_target (row_order_of rows) ≡ in_row_order rows targets
   unfolding in_row_order
-  in_row_order-numbered rows e = sort_with 0 rows ∙ ap (sorted_by placed_cmp) (zipped 0 rows (omega (arith, e)))
+  in_row_order-numbered rows e = sort_with 0 rows ∙ ap (sorted_by with_target_cmp) (zipped 0 rows (omega (arith, e)))
 
 -- what holds of what a list shows holds of what is shown
 pub All-shown : {R X : Type 0} (Q : X → Type 0) (shown : R → X) (xs : List R) → All Q (map shown xs) → All (λ r. Q (shown r)) xs
@@ -172,16 +172,16 @@ pub rows_in_order-sorted : (rows : List (List Datum)) (targets : List (Option Ex
 unfolding in_row_order
 rows_in_order-sorted rows targets each =
     let first : List Datum × Option Extent → List Datum = λ p. p.0 in
-    let by_row : IsTotalOrder placed_cmp = on_total first row_cmp_total in
+    let by_row : IsTotalOrder with_target_cmp = on_total first row_cmp_total in
     let bag : IsPermutation (map first (zip rows targets)) (map first (in_row_order rows targets)) = IsPermutation-map first (zip rows targets) (in_row_order rows targets) (SameBag-sorted_by by_row (zip rows targets)) in
     sorted-unique rows (map first (in_row_order rows targets)) (IsSorted-map row_cmp first (in_row_order rows targets) (IsSorted-sorted_by by_row (zip rows targets)))
     (subst (λ (rs : List (List Datum)). IsPermutation rs (map first (in_row_order rows targets))) (firsts-zip rows targets each) bag)
 
 -- some of the rows of a list in order, from the first to the last, are in order
-pub IsInOrder-picked : (rows : List (List Datum)) (places : List ℕ) → IsInOrder rows → IsStrictlyIncreasing places → All (λ i. i < length rows) places → IsInOrder (map (λ i. get_or rows i []) places)
-IsInOrder-picked rows places up rising all = λ k d low high.
+pub IsInOrder-picked : (rows : List (List Datum)) (numbers : List ℕ) → IsInOrder rows → IsStrictlyIncreasing numbers → All (λ i. i < length rows) numbers → IsInOrder (map (λ i. get_or rows i []) numbers)
+IsInOrder-picked rows numbers up rising all = λ k d low high.
     let f : ℕ → List Datum = λ i. get_or rows i [] in
-    let short : k + 1 < length places = omega (arith, high, length-map places f) in
-    let here = get_or-map f places k 0 d (omega (arith, short)) in
-    let next = get_or-map f places (k + 1) 0 d short in
-    rw (here, next) (sorted_far (λ a b. is_lt (row_cmp a b)) (ranks_by row_cmp_total (λ (r : List Datum). r)) rows up (get_or places k 0) (get_or places (k + 1) 0) [] (omega (arith, rising k short)) (all (k + 1) 0 short))
+    let short : k + 1 < length numbers = omega (arith, high, length-map numbers f) in
+    let here = get_or-map f numbers k 0 d (omega (arith, short)) in
+    let next = get_or-map f numbers (k + 1) 0 d short in
+    rw (here, next) (sorted_far (λ a b. is_lt (row_cmp a b)) (ranks_by row_cmp_total (λ (r : List Datum). r)) rows up (get_or numbers k 0) (get_or numbers (k + 1) 0) [] (omega (arith, rising k short)) (all (k + 1) 0 short))

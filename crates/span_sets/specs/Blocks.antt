@@ -1,10 +1,10 @@
 -- Blocks: runs of neighbours among the distinct spans of a column.
-use Rattle.std.specs.Prelude.{ℕ, zero, suc, ℤ, ◌+◌, ◌-◌, ◌≡◌, ◌<◌, ◌≤◌, nat_le, ◌↔◌, ◌⊎◌, Bool, true, false, ◌&&◌, List, [], ◌++◌, length, map, filter, slice_index_or, Contains}
+use Rattle.std.specs.Prelude.{ℕ, zero, suc, ℤ, ◌+◌, ◌-◌, ◌≡◌, ◌<◌, ◌≤◌, nat_le, ◌↔◌, ◌⊎◌, Bool, true, false, ◌&&◌, List, [], ◌++◌, length, map, filter, Contains}
 use Rattle.std.specs.List.{AllPairs, dedup, list_all, range_with_len}
 use Rattle.std.specs.Ordering.{eq_by_cmp}
 use Rattle.aql_base.specs.Sorting.{sorted_by}
 use Rattle.span_token.specs.Documents.{Doc, characters}
-use Rattle.span_token.specs.Extents.{Extent}
+use Rattle.span_token.specs.Extents.{Extent, nth_extent}
 use Rattle.span_token.specs.Relations.{Follows, FollowsTok, does_follow, does_follow_tok}
 use Rattle.span_token.specs.SpanOrder.{AreInOrder, extent_cmp}
 use Rattle.span_token.specs.Tokens.{tokens_of}
@@ -18,21 +18,17 @@ IsNeighbour doc true low high a b = FollowsTok (tokens_of (characters doc)) a b 
 abbrev pub AreDistinct : List Extent → List Extent → Type 0
 AreDistinct spans distinct = AreInOrder (Contains spans) distinct
 
--- span k of a list
-abbrev pub span_at : List Extent → ℕ → Extent
-span_at spans k = slice_index_or spans k (record { begin = 0; end = 0 })
-
 -- spans i to j of a list are a run: from low to high of them, each a neighbour of the one before
 pub record IsRun (IsNext : Extent → Extent → Type 0) (low high : ℕ) (spans : List Extent) (i j : ℕ) : Type 0 where
   pub ordered : i ≤ j
   pub there : j < length spans
   pub at_least : low ≤ (j - i) + 1
   pub at_most : (j - i) + 1 ≤ high
-  pub neighbours : (k : ℕ) → i ≤ k → k < j → IsNext (span_at spans k) (span_at spans (k + 1))
+  pub neighbours : (k : ℕ) → i ≤ k → k < j → IsNext (nth_extent spans k) (nth_extent spans (k + 1))
 
 -- from the first span's begin to the last one's end
 abbrev pub block_of : List Extent → ℕ → ℕ → Extent
-block_of spans i j = record { begin = (span_at spans i).begin; end = (span_at spans j).end }
+block_of spans i j = record { begin = (nth_extent spans i).begin; end = (nth_extent spans j).end }
 
 -- the blocks of a list of spans that rises: one for each run, by its first and then its last span
 pub record AreBlocksOf (IsNext : Extent → Extent → Type 0) (low high : ℕ) (spans blocks : List Extent) : Type 0 where
@@ -55,7 +51,7 @@ is_neighbour doc true low high a b = does_follow_tok (tokens_of (characters doc)
 -- `IsRun` as a test, of spans i and j of the list
 abbrev pub is_run : (Extent → Extent → Bool) → ℕ → ℕ → List Extent → ℕ → ℕ → Bool
 is_run is_next low high spans i j =
-    nat_le i j && (nat_le low ((j - i) + 1) && (nat_le ((j - i) + 1) high && list_all (λ k. is_next (span_at spans k) (span_at spans (k + 1))) (range_with_len i (j - i))))
+    nat_le i j && (nat_le low ((j - i) + 1) && (nat_le ((j - i) + 1) high && list_all (λ k. is_next (nth_extent spans k) (nth_extent spans (k + 1))) (range_with_len i (j - i))))
 
 -- the last spans of the runs that begin with span i
 abbrev pub ends_of : (Extent → Extent → Bool) → ℕ → ℕ → List Extent → ℕ → List ℕ

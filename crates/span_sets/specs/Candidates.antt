@@ -1,4 +1,4 @@
--- What a sweep works on: the spans of one column with their places, sorted.
+-- What a sweep works on: the spans of one column with the numbers of their rows, sorted.
 use Rattle.std.specs.Prelude.{ℕ, ◌+◌, ◌≡◌, ◌<◌, ◌≤◌, ◌⊎◌, Bool, true, false, List, [], ◌∷◌, Option, Some, None, length, slice_index_or, filter}
 use Rattle.std.specs.List.{range_with_len}
 use Rattle.span_token.specs.Extents.{Extent}
@@ -17,11 +17,11 @@ abbrev pub facing : Bool → Extent → Extent
 facing false t = t
 facing true t = mirrored t
 
--- the candidate of a target and its place
+-- the candidate of a target and its row's number
 abbrev pub candidate_of : Extent → ℕ → Candidate
-candidate_of t i = record { near = t.begin; far = record { 0 = t.end }; place = i }
+candidate_of t i = record { near = t.begin; far = record { 0 = t.end }; row_number = i }
 
--- those of all targets that aren't Null, the first of which has the place i
+-- those of all targets that aren't Null, the first of which is that of row i
 unfoldable pub candidates_from : Bool → ℕ → List (Option Extent) → List Candidate
 candidates_from mirror i [] = []
 candidates_from mirror i (None ∷ targets) = candidates_from mirror (i + 1) targets
@@ -29,7 +29,7 @@ candidates_from mirror i (Some t ∷ targets) = candidate_of (facing mirror t) i
 
 -- past the end of a list of candidates
 abbrev pub nobody : Candidate
-nobody = record { near = 0; far = record { 0 = 0 }; place = 0 }
+nobody = record { near = 0; far = record { 0 = 0 }; row_number = 0 }
 
 -- candidate k
 abbrev pub nth : List Candidate → ℕ → Candidate
@@ -43,18 +43,18 @@ near_of sorted k = (nth sorted k).near
 abbrev pub far_of : List Candidate → ℕ → ℕ
 far_of sorted k = (nth sorted k).far.0
 
--- the place of its row
-abbrev pub place_of : List Candidate → ℕ → ℕ
-place_of sorted k = (nth sorted k).place
+-- the number of its row
+abbrev pub row_number_of : List Candidate → ℕ → ℕ
+row_number_of sorted k = (nth sorted k).row_number
 
 -- its two ends
 abbrev pub extent_at : List Candidate → ℕ → Extent
 extent_at sorted k = record { begin = near_of sorted k; end = far_of sorted k }
 
--- each comes before the later ones: by the nearer end, then the farther end downwards, then place
+-- each comes before the later ones: by the nearer end, then the farther end downwards, then row number
 abbrev pub AreSorted : List Candidate → Type 0
 AreSorted sorted = (j k : ℕ) → j < k → k < length sorted →
-    (near_of sorted j < near_of sorted k) ⊎ ((near_of sorted j ≡ near_of sorted k) × ((far_of sorted k < far_of sorted j) ⊎ ((far_of sorted j ≡ far_of sorted k) × (place_of sorted j < place_of sorted k))))
+    (near_of sorted j < near_of sorted k) ⊎ ((near_of sorted j ≡ near_of sorted k) × ((far_of sorted k < far_of sorted j) ⊎ ((far_of sorted j ≡ far_of sorted k) × (row_number_of sorted j < row_number_of sorted k))))
 
 -- two candidates have one span
 abbrev pub AreAlike : List Candidate → ℕ → ℕ → Type 0
@@ -82,14 +82,14 @@ Passes LeftToRight sorted answers k = IsClear sorted answers k
 
 -- the candidates are those of the targets that aren't Null, each once
 pub record AreCandidatesOf (mirror : Bool) (targets : List (Option Extent)) (candidates : List Candidate) : Type 0 where
-  pub of_target : (k : ℕ) → k < length candidates → (t : Extent) × HasTarget targets (place_of candidates k) t × (extent_at candidates k ≡ facing mirror t)
-  pub each : (i : ℕ) (t : Extent) → HasTarget targets i t → (k : ℕ) × (k < length candidates) × (place_of candidates k ≡ i)
+  pub of_target : (k : ℕ) → k < length candidates → (t : Extent) × HasTarget targets (row_number_of candidates k) t × (extent_at candidates k ≡ facing mirror t)
+  pub each : (i : ℕ) (t : Extent) → HasTarget targets i t → (k : ℕ) × (k < length candidates) × (row_number_of candidates k ≡ i)
 
 -- only under this policy the end is the nearer of a target's two ends
 abbrev pub is_mirrored : Policy → Bool
 is_mirrored NotContainedWithin = true
 is_mirrored policy = false
 
--- the places whose marks are true
-abbrev pub marked_places : List Bool → List ℕ
-marked_places marks = filter (λ i. slice_index_or marks i false) (range_with_len 0 (length marks))
+-- the numbers whose marks are true
+abbrev pub marked_numbers : List Bool → List ℕ
+marked_numbers marks = filter (λ i. slice_index_or marks i false) (range_with_len 0 (length marks))

@@ -15,7 +15,7 @@ use Rattle.span_sets.specs.declared.policy.Policy.TheVariants.{ContainedWithin, 
 abbrev pub target_of : Option Span → Option Extent
 target_of target = option_map extent_of target
 
--- the target at place i is t, and not Null
+-- row i has the target t, which isn't Null
 abbrev pub HasTarget : List (Option Extent) → ℕ → Extent → Type 0
 HasTarget targets i t = slice_index_or targets i None ≡ Some t
 
@@ -27,19 +27,19 @@ IsOutermost targets t = (j : ℕ) (u : Extent) → HasTarget targets j u → Con
 abbrev pub IsInnermost : List (Option Extent) → Extent → Type 0
 IsInnermost targets t = (j : ℕ) (u : Extent) → HasTarget targets j u → ContainsExtent t u → u ≡ t
 
--- no place before i has the target t too
+-- no row before row i has the target t too
 abbrev pub IsFirstOfEqual : List (Option Extent) → ℕ → Extent → Type 0
 IsFirstOfEqual targets i t = (j : ℕ) → j < i → ¬ (HasTarget targets j t)
 
--- the place j of the target u comes before the place i of the target t: by lesser begin, then greater end, then place
+-- row j with the target u comes before row i with the target t: by lesser begin, then greater end, then row number
 abbrev pub ComesBefore : ℕ → Extent → ℕ → Extent → Type 0
 ComesBefore j u i t = (u.begin < t.begin) ⊎ ((u.begin ≡ t.begin) × ((t.end < u.end) ⊎ ((u.end ≡ t.end) × (j < i))))
 
--- no target of a kept place that comes before overlaps t
+-- no target of a kept row that comes before overlaps t
 abbrev pub IsFree : List (Option Extent) → List ℕ → ℕ → Extent → Type 0
 IsFree targets kept i t = (j : ℕ) (u : Extent) → Contains kept j → HasTarget targets j u → ComesBefore j u i t → ¬ (Overlaps u t)
 
--- what a policy asks of a place i and its target t, where `kept` are the places that stay
+-- what a policy asks of row i and its target t, where `kept` are the numbers of the rows that stay
 abbrev pub Allows : Policy → List (Option Extent) → List ℕ → ℕ → Extent → Type 0
 Allows ContainedWithin targets kept i t = IsOutermost targets t × IsFirstOfEqual targets i t
 Allows ContainsButNotEqual targets kept i t = IsOutermost targets t
@@ -47,12 +47,12 @@ Allows NotContainedWithin targets kept i t = IsInnermost targets t × IsFirstOfE
 Allows ExactMatch targets kept i t = IsFirstOfEqual targets i t
 Allows LeftToRight targets kept i t = IsFree targets kept i t
 
--- a place stays where its target is Null, or the policy allows it
+-- row i stays where its target is Null, or the policy allows it
 pub record Stays (policy : Policy) (targets : List (Option Extent)) (kept : List ℕ) (i : ℕ) : Type 0 where
   pub there : i < length targets
   pub allowed : (t : Extent) → HasTarget targets i t → Allows policy targets kept i t
 
--- kept are exactly the places that stay, from the first to the last
+-- kept are exactly the numbers of the rows that stay, from the first to the last
 pub record IsKept (policy : Policy) (targets : List (Option Extent)) (kept : List ℕ) : Type 0 where
   pub rising : IsStrictlyIncreasing kept
   pub exactly : (i : ℕ) → Contains kept i ↔ Stays policy targets kept i
@@ -69,7 +69,7 @@ rows_in_order rows targets = map (λ p. p.0) (in_row_order rows targets)
 abbrev pub targets_in_order : List (List Datum) → List (Option Extent) → List (Option Extent)
 targets_in_order rows targets = map (λ p. p.1) (in_row_order rows targets)
 
--- out has, in row order, the rows at the places that stay
+-- out has, in row order, the rows that stay
 pub record IsConsolidated (policy : Policy) (rows : RowList) (targets : List (Option Extent)) (out : RowList) : Type 0 where
   pub kept : List ℕ
   pub stay : IsKept policy (targets_in_order rows.rows targets) kept

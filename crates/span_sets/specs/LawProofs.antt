@@ -1,5 +1,5 @@
 -- What the laws of `Laws.antt` rest on: a file of `specs` names nothing of `proofs`, so their proofs stand here.
--- sorted candidates, what the policies ask of them, and the places that stay
+-- sorted candidates, what the policies ask of them, and the rows that stay
 pub mod Sweeps
 pub mod Policies
 pub mod Keeping

@@ -9,7 +9,7 @@ use Rattle.span_token.specs.Documents.{Doc}
 use Rattle.span_token.specs.Extents.{Extent}
 use Rattle.span_sets.specs.Blocks.{IsNeighbour, AreBlocks, is_neighbour, blocks_of}
 use Rattle.span_sets.specs.Consolidation.{in_row_order, IsConsolidated}
-use Rattle.span_sets.specs.KeptPlaces.{consolidated_by, consolidated}
+use Rattle.span_sets.specs.KeptRows.{consolidated_by, consolidated}
 use Rattle.span_sets.specs.declared.policy.Policy.{Policy}
 use Rattle.span_sets.specs.LawProofs.BlockEnds as ends
 use Rattle.span_sets.specs.LawProofs.BlockLaws as relations

@@ -2,7 +2,7 @@
 -- which rows stay
 pub mod Consolidation
 -- the same as a function
-pub mod KeptPlaces
+pub mod KeptRows
 -- runs of neighbouring spans
 pub mod Blocks
 -- ---- words of private clauses

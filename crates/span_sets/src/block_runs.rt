@@ -2,9 +2,9 @@ ghost use Rattle.std.specs.Prelude.{ℕ, List, ◌≡◌, ◌+◌, ◌-◌, ◌<
 ghost use Rattle.std.specs.List.{AllPairs, range_with_len};
 ghost use Rattle.aql_base.specs.Bags.{SameBag};
 ghost use Rattle.span_token.specs.Documents.{Doc, LiesIn};
-ghost use Rattle.span_token.specs.Extents.{Extent, extent_of};
+ghost use Rattle.span_token.specs.Extents.{Extent, extent_of, nth_extent};
 ghost use Rattle.span_token.specs.SpanOrder.{IsBefore};
-ghost use Rattle.span_sets.specs.Blocks.{IsNeighbour, AreDistinct, AreBlocks, AreBlocksOf, span_at, block_of, is_neighbour, blocks_of};
+ghost use Rattle.span_sets.specs.Blocks.{IsNeighbour, AreDistinct, AreBlocks, AreBlocksOf, block_of, is_neighbour, blocks_of};
 
 use span_token::{Document, OutOfMemory, Span, follows, follows_tok};
 use std::alloc::Global;
@@ -102,8 +102,8 @@ fn chain_end(spans: &[Span], doc: &Document<'_>, from: usize, separation: Separa
     requires there { from ≤ length spans.now }
     ensures after { from ≤ result }
     ensures within { result ≤ length spans.now }
-    ensures chained { (k : ℕ) → from ≤ k + 1 → k + 1 < result → IsNeighbour doc.now separation.tokens separation.low separation.high (span_at (map extent_of spans.now) k) (span_at (map extent_of spans.now) (k + 1)) }
-    ensures stopped { result < length spans.now → (k : ℕ) → k + 1 ≡ result → ¬ (IsNeighbour doc.now separation.tokens separation.low separation.high (span_at (map extent_of spans.now) k) (span_at (map extent_of spans.now) (k + 1))) }
+    ensures chained { (k : ℕ) → from ≤ k + 1 → k + 1 < result → IsNeighbour doc.now separation.tokens separation.low separation.high (nth_extent (map extent_of spans.now) k) (nth_extent (map extent_of spans.now) (k + 1)) }
+    ensures stopped { result < length spans.now → (k : ℕ) → k + 1 ≡ result → ¬ (IsNeighbour doc.now separation.tokens separation.low separation.high (nth_extent (map extent_of spans.now) k) (nth_extent (map extent_of spans.now) (k + 1))) }
 {
     for i in from..spans.len() {
         if !are_neighbours(spans, doc, i - 1, i, separation) {
@@ -124,7 +124,7 @@ fn are_neighbours(
     requires in_document { All (λ s. LiesIn (extent_of s) doc.now) spans.now }
     requires a_there { a < length spans.now }
     requires b_there { b < length spans.now }
-    ensures { IsTrue result ↔ IsNeighbour doc.now separation.tokens separation.low separation.high (span_at (map extent_of spans.now) a) (span_at (map extent_of spans.now) b) }
+    ensures { IsTrue result ↔ IsNeighbour doc.now separation.tokens separation.low separation.high (nth_extent (map extent_of spans.now) a) (nth_extent (map extent_of spans.now) b) }
 {
     gap_fits(doc, spans[a], spans[b], separation)
 }
@@ -153,7 +153,7 @@ fn push_blocks(
 ) -> Result<(), OutOfMemory>
     requires first { first < length spans.now }
     requires to { to ≤ length spans.now }
-    requires ordered { (j : ℕ) → from ≤ j → j < to → (span_at (map extent_of spans.now) first).begin ≤ (span_at (map extent_of spans.now) j).end }
+    requires ordered { (j : ℕ) → from ≤ j → j < to → (nth_extent (map extent_of spans.now) first).begin ≤ (nth_extent (map extent_of spans.now) j).end }
     ensures blocks { OnOk result (map extent_of found.new.items ≡ map extent_of found.old.items ++ map (block_of (map extent_of spans.now) first) (range_with_len from (to - from))) }
 {
     for j in from..to {

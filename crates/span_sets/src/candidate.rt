@@ -7,16 +7,16 @@ use span_token::{OutOfMemory, Span};
 use std::alloc::Global;
 use std::cmp::Reverse;
 
-/// A target with the place of its row, as a sweep meets it.
+/// A target with the number of its row, as a sweep meets it.
 ///
-/// Ordered by `near`, then by `far` downwards, then by place. Where `near` is the begin and `far` the
+/// Ordered by `near`, then by `far` downwards, then by row number. Where `near` is the begin and `far` the
 /// end, a span that contains another comes before it; where `near` is the end and `far` the begin, one
 /// that lies in another does.
 #[derive(Clone, Copy, Debug, PartialEq, Eq, PartialOrd, Ord)]
 pub(crate) struct Candidate {
     pub(crate) near: u32,
     pub(crate) far: Reverse<u32>,
-    pub(crate) place: u32,
+    pub(crate) row_number: u32,
 }
 
 /// The candidates of all targets that aren't Null, by their order; `mirror` makes the end the nearer.
@@ -34,7 +34,7 @@ pub(crate) fn sorted_candidates(
     Ok(candidates)
 }
 
-/// The candidates of all targets that aren't Null, by their places.
+/// The candidates of all targets that aren't Null, by their row numbers.
 fn candidates(
     alloc: Global,
     targets: &[Option<Span>],
@@ -46,27 +46,27 @@ fn candidates(
     let mut found = Vec::with_capacity(alloc, targets.len())?;
     for (i, target) in targets.iter().enumerate() {
         if let Some(span) = *target {
-            found.push(at_place(span, i as u32, mirror))?;
+            found.push(candidate_for(span, i as u32, mirror))?;
         }
     }
     Ok(found)
 }
 
-/// The candidate of a span.
-fn at_place(span: Span, place: u32, mirror: bool) -> Candidate
-    ensures { result ≡ candidate_of (facing mirror (extent_of span)) place }
+/// The candidate of the span of a row.
+fn candidate_for(span: Span, row_number: u32, mirror: bool) -> Candidate
+    ensures { result ≡ candidate_of (facing mirror (extent_of span)) row_number }
 {
     if mirror {
         Candidate {
             near: span.end,
             far: Reverse(span.begin),
-            place,
+            row_number,
         }
     } else {
         Candidate {
             near: span.begin,
             far: Reverse(span.end),
-            place,
+            row_number,
         }
     }
 }

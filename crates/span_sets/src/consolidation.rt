@@ -4,11 +4,11 @@ ghost use Rattle.row_values.specs.Datums.{Datum};
 ghost use Rattle.row_values.specs.Rows.{RowList, IsInOrder};
 ghost use Rattle.span_token.specs.Extents.{Extent};
 ghost use Rattle.span_sets.specs.Consolidation.{target_of, targets_in_order, IsKept, IsConsolidated};
-ghost use Rattle.span_sets.specs.KeptPlaces.{consolidated};
-ghost use Rattle.span_sets.specs.Candidates.{marked_places};
+ghost use Rattle.span_sets.specs.KeptRows.{consolidated};
+ghost use Rattle.span_sets.specs.Candidates.{marked_numbers};
 
 use crate::Policy;
-use crate::placed::{PlacedRow, row_order, targets_of};
+use crate::numbered::{NumberedRow, row_order, targets_of};
 use crate::stays::stays;
 use row_values::{Row, Rows};
 use span_token::{OutOfMemory, Span};
@@ -17,8 +17,8 @@ use std::alloc::Global;
 /// The rows that `policy` keeps, in row order; `targets` has the span of each row, in the order of
 /// `rows`, None for Null: such a row stays, and counts for no other row.
 ///
-/// `rows` may stand in any order. Places are those in row order, where equal rows keep their order. Of
-/// rows with equal targets at most the first in row order stays, but `ContainsButNotEqual` keeps all
+/// `rows` may stand in any order. Their numbers are those in row order, where equal rows keep their
+/// order. Of rows with equal targets at most the first in row order stays, but `ContainsButNotEqual` keeps all
 /// of them or none. `LeftToRight` goes by lesser begin, then greater end, then row order, and compares
 /// with rows that stay, so a row that overlaps only dropped rows stays. Spans that touch don't overlap,
 /// and each span contains itself.
@@ -26,7 +26,7 @@ use std::alloc::Global;
 /// Takes one sort of the rows, one of their targets, and one pass. Rows are moved, never copied.
 ///
 /// Meaning: `IsConsolidated`, `specs/Consolidation.antt`, and as a list, where the target is told by the
-/// row, `consolidated`, `specs/KeptPlaces.antt`; docs/LANGUAGE.md, "Consolidation".
+/// row, `consolidated`, `specs/KeptRows.antt`; docs/LANGUAGE.md, "Consolidation".
 pub fn consolidate<'d>(
     alloc: Global,
     rows: Rows<'d>,
@@ -56,18 +56,18 @@ pub fn consolidate<'d>(
 fn marked<'d>(
     alloc: Global,
     width: u32,
-    order: Vec<PlacedRow<'d>>,
+    order: Vec<NumberedRow<'d>>,
     marks: &[bool],
 ) -> Result<Rows<'d>, OutOfMemory>
     requires few { vec_len order < 2 ^ 32 }
     requires one_each { length marks.now ≡ vec_len order }
     requires width { All (λ p. length p.row ≡ width) order.items }
-    ensures { IfOk result (λ out. out ≡ record { width = width; rows = map (λ i. slice_index_or (map (λ p. p.row) order.entry.items) i []) (marked_places marks.now) }) }
+    ensures { IfOk result (λ out. out ≡ record { width = width; rows = map (λ i. slice_index_or (map (λ p. p.row) order.entry.items) i []) (marked_numbers marks.now) }) }
 {
     let mut out = Vec::with_capacity(alloc, number_of_true(marks))?;
     let mut i = 0;
-    for placed in order {
-        push_marked(&mut out, placed.row, marks[i])?;
+    for numbered in order {
+        push_marked(&mut out, numbered.row, marks[i])?;
         i += 1;
     }
     Ok(Rows::from_vec(width, out))

@@ -2,9 +2,9 @@ ghost use Rattle.std.specs.Prelude.{ℕ, List, ◌≡◌, ◌<◌, ◌++◌, ◌
 ghost use Rattle.row_values.specs.Datums.{Datum};
 ghost use Rattle.row_values.specs.Rows.{RowList, sorted};
 ghost use Rattle.span_token.specs.Extents.{Extent};
-ghost use Rattle.span_sets.specs.Candidates.{marked_places};
+ghost use Rattle.span_sets.specs.Candidates.{marked_numbers};
 ghost use Rattle.span_sets.specs.Consolidation.{target_of, IsConsolidated};
-ghost use Rattle.span_sets.specs.KeptPlaces.{consolidated};
+ghost use Rattle.span_sets.specs.KeptRows.{consolidated};
 
 use crate::Policy;
 use crate::stays::stays;
@@ -19,7 +19,7 @@ use std::alloc::Global;
 /// Takes one sort of the targets and one pass. Only rows that stay are copied.
 ///
 /// Meaning: `IsConsolidated`, `specs/Consolidation.antt`, and as a list, where the target is told by the
-/// row, `consolidated`, `specs/KeptPlaces.antt`; docs/LANGUAGE.md, "Consolidation".
+/// row, `consolidated`, `specs/KeptRows.antt`; docs/LANGUAGE.md, "Consolidation".
 pub fn consolidated<'d>(
     alloc: Global,
     rows: &Rows<'d>,
@@ -47,7 +47,7 @@ fn copies<'d>(
 ) -> Result<Rows<'d>, OutOfMemory>
     requires one_each { length marks.now ≡ length rows.now }
     requires width { All (λ row. length row.now ≡ width) rows.now }
-    ensures { IfOk result (λ out. out ≡ record { width = width; rows = map (λ i. slice_index_or (map (λ row. row.now) rows.now) i []) (marked_places marks.now) }) }
+    ensures { IfOk result (λ out. out ≡ record { width = width; rows = map (λ i. slice_index_or (map (λ row. row.now) rows.now) i []) (marked_numbers marks.now) }) }
 {
     let mut out = Rows::new(alloc, width);
     for i in 0..rows.len() {

@@ -11,7 +11,7 @@ mod consolidation;
 mod containment;
 mod left_to_right;
 mod lent;
-mod placed;
+mod numbered;
 mod policy;
 mod stays;
 

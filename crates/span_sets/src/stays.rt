@@ -1,7 +1,7 @@
 ghost use Rattle.std.specs.Prelude.{ℕ, List, ◌≡◌, ◌≢◌, ◌<◌, ◌≤◌, ◌^◌, ◌↔◌, IfOk, length, map, false, true, slice_index_or, is_none};
 ghost use Rattle.span_token.specs.Extents.{Extent};
 ghost use Rattle.span_sets.specs.Consolidation.{target_of, HasTarget, IsKept};
-ghost use Rattle.span_sets.specs.Candidates.{AreSorted, Passes, near_of, far_of, place_of, is_mirrored, marked_places};
+ghost use Rattle.span_sets.specs.Candidates.{AreSorted, Passes, near_of, far_of, row_number_of, is_mirrored, marked_numbers};
 
 use crate::Policy;
 use crate::candidate::{Candidate, sorted_candidates};
@@ -10,7 +10,7 @@ use crate::left_to_right::left_to_right;
 use span_token::{OutOfMemory, Span};
 use std::alloc::Global;
 
-/// Which places stay.
+/// Which rows stay, a mark for each.
 pub(crate) fn stays(
     alloc: Global,
     targets: &[Option<Span>],
@@ -18,8 +18,8 @@ pub(crate) fn stays(
 ) -> Result<Vec<bool>, OutOfMemory>
     requires { length targets.now < 2 ^ 32 }
     ensures number { IfOk result (λ marks. length marks.items ≡ length targets.now) }
-    ensures kept { IfOk result (λ marks. IsKept policy (map target_of targets.now) (marked_places marks.items)) }
-    ensures only { IfOk result (λ marks. (other : List ℕ) → IsKept policy (map target_of targets.now) other → other ≡ marked_places marks.items) }
+    ensures kept { IfOk result (λ marks. IsKept policy (map target_of targets.now) (marked_numbers marks.items)) }
+    ensures only { IfOk result (λ marks. (other : List ℕ) → IsKept policy (map target_of targets.now) other → other ≡ marked_numbers marks.items) }
 {
     let sorted = sorted_candidates(alloc, targets, goes_by_end(policy))?;
     let answers = answers(alloc, sorted.as_slice(), policy)?;
@@ -58,15 +58,15 @@ fn marks(
     answers: &[bool],
 ) -> Result<Vec<bool>, OutOfMemory>
     requires one_each { length answers.now ≡ length sorted.now }
-    requires known { (k : ℕ) → k < length sorted.now → (t : Extent) × HasTarget (map target_of targets.now) (place_of sorted.now k) t }
-    requires apart { (j k : ℕ) → j < k → k < length sorted.now → place_of sorted.now j ≢ place_of sorted.now k }
+    requires known { (k : ℕ) → k < length sorted.now → (t : Extent) × HasTarget (map target_of targets.now) (row_number_of sorted.now k) t }
+    requires apart { (j k : ℕ) → j < k → k < length sorted.now → row_number_of sorted.now j ≢ row_number_of sorted.now k }
     ensures number { IfOk result (λ marks. length marks.items ≡ length targets.now) }
     ensures null { IfOk result (λ marks. (i : ℕ) → i < length targets.now → slice_index_or (map target_of targets.now) i None ≡ None → slice_index_or marks.items i false ≡ true) }
-    ensures answered { IfOk result (λ marks. (k : ℕ) → k < length sorted.now → slice_index_or marks.items (place_of sorted.now k) false ≡ slice_index_or answers.now k false) }
+    ensures answered { IfOk result (λ marks. (k : ℕ) → k < length sorted.now → slice_index_or marks.items (row_number_of sorted.now k) false ≡ slice_index_or answers.now k false) }
 {
     let mut marks = nulls(alloc, targets)?;
     for i in 0..sorted.len() {
-        marks[sorted[i].place as usize] = answers[i];
+        marks[sorted[i].row_number as usize] = answers[i];
     }
     Ok(marks)
 }

@@ -17,7 +17,7 @@ take_none : {X : Type 0} (n : ℕ) → take n (let none : List X = [] in none) �
 take_none zero = refl
 take_none (suc n) = refl
 
--- a filter that passes the places from `i` to `i + n` and no other
+-- a filter that passes the elements with numbers from `i` to `i + n`, not that one, and no other
 pub filter_middle : {X : Type 0} (p : X → Bool) (xs : List X) (i n : ℕ) → AllWithin (λ x. p x ≡ false) xs 0 i → AllWithin (λ x. p x ≡ true) xs i (min (i + n) (length xs))
     → AllWithin (λ x. p x ≡ false) xs (i + n) (length xs) → filter p xs ≡ take n (drop i xs)
 filter_middle p [] zero n low mid high = sym (take_none n)

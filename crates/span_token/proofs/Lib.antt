@@ -11,5 +11,6 @@ pub mod BlockLemmas
 pub mod OffsetLemmas
 pub mod SourceLemmas
 pub mod StepLemmas
+mod RoomLemmas
 mod SweepLemmas
 pub mod ScanLemmas

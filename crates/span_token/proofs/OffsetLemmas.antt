@@ -1,76 +1,41 @@
 -- Where the tokens of a text stand among its bytes.
-use Rattle.std.proofs.Common.{◌≡◌, ◌≤◌, ◌<◌, ◌+◌, ◌-◌, ◌++◌, ◌∷◌, [], ℕ, List, length, inl, inr, slice_get, slice_range, drop, take, map, set, cond, Bool, true, false, refl, Some, sym, ap, ap₂, subst, ◌∙◌, arith, chars, IsUtf8}
-use Rattle.std.proofs.lemmas.List.{get_or_append_left, get_or_push, length_push, length-take, length-drop, length-append, map-append, take-set, take_more_set, get_or-take, get_or-drop, get_or-append_right}
+use Rattle.std.proofs.Common.{◌≡◌, ◌≤◌, ◌<◌, ◌+◌, ◌-◌, ◌++◌, ◌∷◌, [], ℕ, List, length, inl, inr, slice_get, take, map, set, cond, Bool, true, false, refl, Some, sym, ap, ap₂, subst, ◌∙◌, arith, chars, IsUtf8}
+use Rattle.std.proofs.lemmas.List.{get_or_append_left, length-append, map-append, get_or-append_right}
 use Rattle.std.proofs.lemmas.Bool.{cases_lt}
 use Rattle.std.proofs.lemmas.Option.{get_or_from_slice_get}
-use Rattle.span_token.specs.Extents.{Extent, extent_of}
-use Rattle.span_token.specs.Leads.{IsPlace}
+use Rattle.span_token.specs.Extents.{Extent, extent_of, nth_extent}
 use Rattle.span_token.specs.Tokens.{tokens_of}
-use Rattle.span_token.specs.SourceTokens.{nth_token}
 use Rattle.span_token.specs.Offsets.{AreBytesOf, nth_bytes, AreOffsets, ArePairs}
 use Rattle.span_token.specs.declared.offsets.TokenBytes.{TokenBytes}
 use Rattle.span_token.specs.declared.span.Span.{Span}
 use Rattle.span_token.proofs.PlaceLemmas.{IsBetween, between_places}
+use Rattle.span_token.proofs.RoomLemmas.{take-put}
 use Rattle.span_token.specs.TokenLaws.{tokens_of_are, token_not_empty, token_in_list}
 
 -- a token that is there
-pub nth-is : (tokens : List Extent) (i : ℕ) (e : Extent) → slice_get tokens i ≡ Some e → nth_token tokens i ≡ e
+pub nth-is : (tokens : List Extent) (i : ℕ) (e : Extent) → slice_get tokens i ≡ Some e → nth_extent tokens i ≡ e
 nth-is tokens i e h = get_or_from_slice_get tokens i e (record { begin = 0; end = 0 }) h
 
 -- a token begins at or before the end of a later one
 pub begins-le-end : (cs : List ℕ) (first last : ℕ) → first ≤ last → last < length (tokens_of cs) →
-    (nth_token (tokens_of cs) first).begin ≤ (nth_token (tokens_of cs) last).end
+    (nth_extent (tokens_of cs) first).begin ≤ (nth_extent (tokens_of cs) last).end
 begins-le-end cs first last le lt =
     let nil : Extent = record { begin = 0; end = 0 } in
-    let filled = token_not_empty cs (nth_token (tokens_of cs) last) (token_in_list cs last nil lt) in
+    let filled = token_not_empty cs (nth_extent (tokens_of cs) last) (token_in_list cs last nil lt) in
     elim (cases_lt first last) [
       | inl before ↦ let rises = (tokens_of_are cs).rising first last nil before lt in omega (arith, rises, filled)
       | inr after ↦ let same : first ≡ last = omega arith in
-          let begins = ap (λ i. (nth_token (tokens_of cs) i).begin) same in omega (arith, begins, filled)
+          let begins = ap (λ i. (nth_extent (tokens_of cs) i).begin) same in omega (arith, begins, filled)
     ]
 
 -- the bytes of a run are those from the begin of its first token to the end of its last
 pub run_bytes : (text : List ℕ) (start first last : ℕ) (offsets : List TokenBytes) → IsUtf8 text → first ≤ last → last < length offsets →
     start + last < length (tokens_of (chars text)) → AreOffsets text start offsets →
-    IsBetween text (nth_token (tokens_of (chars text)) (start + first)).begin (nth_token (tokens_of (chars text)) (start + last)).end
+    IsBetween text (nth_extent (tokens_of (chars text)) (start + first)).begin (nth_extent (tokens_of (chars text)) (start + last)).end
     (nth_bytes offsets first).begin (nth_bytes offsets last).end
 run_bytes text start first last offsets u le within there are =
     between_places text _ _ _ _ u (are first (omega arith)).begins (are last within).ends
     (begins-le-end (chars text) (start + first) (start + last) (omega arith) there)
-
--- one more token
-pub AreOffsets-push : (text : List ℕ) (first token : ℕ) (offsets : List TokenBytes) (bytes : TokenBytes) → length offsets ≡ token - first → first ≤ token →
-    AreBytesOf text (nth_token (tokens_of (chars text)) token) bytes → AreOffsets text first offsets → AreOffsets text first (offsets ++ bytes ∷ [])
-AreOffsets-push text first token offsets bytes long from here are = λ k inside.
-    let tokens = tokens_of (chars text) in
-    let nil : TokenBytes = record { begin = 0; end = 0 } in
-    elim (cases_lt k (length offsets)) [
-      | inl lt ↦ subst (AreBytesOf text (nth_token tokens (first + k))) (sym (get_or_append_left offsets (bytes ∷ []) nil k lt)) (are k lt)
-      | inr ge ↦ let last : length offsets ≡ k = omega (arith, length_push offsets bytes) in
-          let n : token ≡ first + k = omega arith in
-          let P : ℕ → Type 0 = λ i. AreBytesOf text (nth_token tokens i) (nth_bytes (offsets ++ bytes ∷ []) k) in
-          subst P n (subst (AreBytesOf text (nth_token tokens token)) (sym (get_or_push offsets bytes nil k last)) here)
-    ]
-
--- the bytes of a token, by its number
-pub bytes_of_token : (text : List ℕ) (token e : Extent) (bytes : TokenBytes) → token ≡ e →
-    IsPlace text e.begin bytes.begin → IsPlace text e.end bytes.end → AreBytesOf text token bytes
-bytes_of_token text token e bytes is begins ends =
-    subst (λ (t : Extent). AreBytesOf text t bytes) (sym is) (record { begins = begins; ends = ends })
-
--- those of some of the tokens, by their numbers
-pub AreOffsets-range : (text : List ℕ) (first past : ℕ) (offsets : List TokenBytes) → first ≤ past → past ≤ length offsets →
-    AreOffsets text 0 offsets → AreOffsets text first (slice_range offsets first past)
-AreOffsets-range text first past offsets le within are = λ k inside.
-    let nil : TokenBytes = record { begin = 0; end = 0 } in
-    let long : length (slice_range offsets first past) ≡ past - first =
-    omega (arith, length-take (past - first) (drop first offsets), length-drop first offsets) in
-    let is : nth_bytes (slice_range offsets first past) k ≡ nth_bytes offsets (first + k) =
-    get_or-take (past - first) (drop first offsets) k nil (omega (arith, inside, long)) ∙ get_or-drop first offsets k nil in
-    let zero : 0 + (first + k) ≡ first + k = omega arith in
-    let there : AreBytesOf text (nth_token (tokens_of (chars text)) (first + k)) (nth_bytes offsets (first + k)) =
-    subst (λ (i : ℕ). AreBytesOf text (nth_token (tokens_of (chars text)) i) (nth_bytes offsets (first + k))) zero (are (first + k) (omega (arith, inside, long))) in
-    subst (AreBytesOf text (nth_token (tokens_of (chars text)) (first + k))) (sym is) there
 
 -- ---- tokens and their bytes, one by one
 
@@ -85,11 +50,11 @@ ArePairs-append text ts us os ps h g = record {
       let no_bytes : TokenBytes = record { begin = 0; end = 0 } in
       elim (cases_lt k (length os)) [
         | inl lt ↦ subst (λ (t : Extent). AreBytesOf text t (nth_bytes (os ++ ps) k)) (sym (get_or_append_left ts us no_token k (omega (arith, lt, h.number))))
-            (subst (AreBytesOf text (nth_token ts k)) (sym (get_or_append_left os ps no_bytes k lt)) (h.each k lt))
+            (subst (AreBytesOf text (nth_extent ts k)) (sym (get_or_append_left os ps no_bytes k lt)) (h.each k lt))
         | inr ge ↦ let first = get_or-append_right ts us (length os) k no_token (sym h.number) (omega arith) in
             let second = get_or-append_right os ps (length os) k no_bytes refl (omega arith) in
             subst (λ (t : Extent). AreBytesOf text t (nth_bytes (os ++ ps) k)) (sym first)
-            (subst (AreBytesOf text (nth_token us (k - length os))) (sym second) (g.each (k - length os) (omega (arith, inside, length-append os ps))))
+            (subst (AreBytesOf text (nth_extent us (k - length os))) (sym second) (g.each (k - length os) (omega (arith, inside, length-append os ps))))
       ];
 }
 
@@ -97,29 +62,30 @@ pub ArePairs-one : (text : List ℕ) (token : Extent) (bytes : TokenBytes) → A
 ArePairs-one text token bytes h = record {
   number = refl;
   each = λ k inside. let first : 0 ≡ k = omega (arith, inside) in
-      subst (λ (i : ℕ). AreBytesOf text (nth_token (token ∷ []) i) (nth_bytes (bytes ∷ []) i)) first h;
+      subst (λ (i : ℕ). AreBytesOf text (nth_extent (token ∷ []) i) (nth_bytes (bytes ∷ []) i)) first h;
 }
 
 -- of all tokens of a text
 pub AreOffsets-pairs : (text : List ℕ) (tokens : List Extent) (offsets : List TokenBytes) → tokens ≡ tokens_of (chars text) → ArePairs text tokens offsets → AreOffsets text 0 offsets
 AreOffsets-pairs text tokens offsets all h = λ k inside.
     let zero : k ≡ 0 + k = omega arith in
-    subst (λ (i : ℕ). AreBytesOf text (nth_token (tokens_of (chars text)) i) (nth_bytes offsets k)) zero
-    (subst (λ (ts : List Extent). AreBytesOf text (nth_token ts k) (nth_bytes offsets k)) all (h.each k inside))
+    subst (λ (i : ℕ). AreBytesOf text (nth_extent (tokens_of (chars text)) i) (nth_bytes offsets k)) zero
+    (subst (λ (ts : List Extent). AreBytesOf text (nth_extent ts k) (nth_bytes offsets k)) all (h.each k inside))
+
+-- one more of both, where it counts
+ArePairs-more : (text : List ℕ) (ends : Bool) (spans : List Span) (bytes : List TokenBytes) (span : Span) (one : TokenBytes) →
+    AreBytesOf text (extent_of span) one → ArePairs text (map extent_of spans) bytes →
+    ArePairs text (map extent_of (cond ends (spans ++ span ∷ []) spans)) (cond ends (bytes ++ one ∷ []) bytes)
+ArePairs-more text true spans bytes span one h g =
+    subst (λ (ts : List Extent). ArePairs text ts (bytes ++ one ∷ [])) (sym (map-append extent_of spans (span ∷ [])))
+    (ArePairs-append text _ _ _ _ g (ArePairs-one text (extent_of span) one h))
+ArePairs-more text false spans bytes span one h g = g
 
 -- one more in lists with room
 pub ArePairs-put : (text : List ℕ) (ends : Bool) (spans : List Span) (bytes : List TokenBytes) (count n : ℕ) (span : Span) (one : TokenBytes) →
     count < length spans → count < length bytes → n ≡ cond ends 1 0 → AreBytesOf text (extent_of span) one → ArePairs text (map extent_of (take count spans)) (take count bytes) →
     ArePairs text (map extent_of (take (count + n) (set spans count span))) (take (count + n) (set bytes count one))
-ArePairs-put text true spans bytes count n span one short long is h g =
-    let more : map extent_of (take (count + 1) (set spans count span)) ≡ map extent_of (take count spans) ++ extent_of span ∷ [] =
-    ap (map extent_of) (take_more_set spans count span short) ∙ map-append extent_of (take count spans) (span ∷ []) in
-    subst (λ (k : ℕ). ArePairs text (map extent_of (take (count + k) (set spans count span))) (take (count + k) (set bytes count one))) (sym is)
-    (subst (λ (ts : List Extent). ArePairs text ts (take (count + 1) (set bytes count one))) (sym more)
-    (subst (ArePairs text (map extent_of (take count spans) ++ extent_of span ∷ [])) (sym (take_more_set bytes count one long))
-    (ArePairs-append text _ _ _ _ g (ArePairs-one text (extent_of span) one h))))
-ArePairs-put text false spans bytes count n span one short long is h g =
-    let same : count ≡ count + n = omega (arith, is) in
-    subst (λ (k : ℕ). ArePairs text (map extent_of (take k (set spans count span))) (take k (set bytes count one))) same
-    (subst (λ (xs : List Span). ArePairs text (map extent_of xs) (take count (set bytes count one))) (sym (take-set spans count span))
-    (subst (ArePairs text (map extent_of (take count spans))) (sym (take-set bytes count one)) g))
+ArePairs-put text ends spans bytes count n span one short long is h g =
+    subst (λ (xs : List Span). ArePairs text (map extent_of xs) (take (count + n) (set bytes count one))) (sym (take-put ends spans count n span short is))
+    (subst (ArePairs text (map extent_of (cond ends (take count spans ++ span ∷ []) (take count spans)))) (sym (take-put ends bytes count n one long is))
+    (ArePairs-more text ends (take count spans) (take count bytes) span one h g))

@@ -4,13 +4,12 @@ use Rattle.std.proofs.lemmas.Bool.{cases_lt}
 use Rattle.std.proofs.lemmas.Bool.Decides.{nat_tests}
 use Rattle.std.proofs.lemmas.List.{length-take, length-drop, get_or-take, get_or-drop}
 use Rattle.std.proofs.lemmas.List.Elements.{filter_passes}
-use Rattle.span_token.specs.Contexts.{AreWithin}
 use Rattle.span_token.specs.Documents.{Doc, characters}
-use Rattle.span_token.specs.Extents.{Extent}
+use Rattle.span_token.specs.Extents.{Extent, nth_extent}
 use Rattle.span_token.specs.Offsets.{nth_bytes}
 use Rattle.span_token.specs.Relations.{ContainsExtent, does_contain}
 use Rattle.span_token.specs.SourceLayout.{tokens_seen, AreKept}
-use Rattle.span_token.specs.SourceTokens.{SomeTokens, InTextOrder, HoldsTokens, tokens_in, nth_token, run_extent}
+use Rattle.span_token.specs.SourceTokens.{SomeTokens, InTextOrder, HoldsTokens, tokens_in, run_extent}
 use Rattle.span_token.specs.Tokens.{tokens_of}
 use Rattle.span_token.specs.declared.source_tokens.SourceTokens.TheInside.{Inside}
 use Rattle.span_token.proofs.OffsetLemmas.{nth-is, run_bytes}
@@ -21,7 +20,7 @@ pub length-part : (tokens : List Extent) (first past : ℕ) → first ≤ past �
 length-part tokens first past le within =
     omega (arith, length-take (past - first) (drop first tokens), length-drop first tokens)
 
-pub nth-part : (tokens : List Extent) (first past i : ℕ) → i < past - first → nth_token (slice_range tokens first past) i ≡ nth_token tokens (first + i)
+pub nth-part : (tokens : List Extent) (first past i : ℕ) → i < past - first → nth_extent (slice_range tokens first past) i ≡ nth_extent tokens (first + i)
 nth-part tokens first past i lt =
     get_or-take (past - first) (drop first tokens) i _ lt ∙ get_or-drop first tokens i _
 
@@ -32,20 +31,8 @@ contains-by_test a b h = record { begins = grind (arith, nat_tests); ends = grin
 
 pub source_holds : (d : Doc) (source : Extent) → HoldsTokens source (tokens_in d source)
 source_holds d source = λ i lt.
-    contains-by_test source (nth_token (tokens_in d source) i)
+    contains-by_test source (nth_extent (tokens_in d source) i)
     (filter_passes (does_contain source) (tokens_of (characters d)) i (record { begin = 0; end = 0 }) lt)
-
--- none of them begins before it
-pub source_ahead : (d : Doc) (source : Extent) (first past k : ℕ) → AreWithin (tokens_of (characters d)) source first past → first ≤ k → k < past →
-    source.begin ≤ (nth_token (tokens_of (characters d)) k).begin
-source_ahead d source first past k h low high =
-    let tokens = tokens_of (characters d) in
-    let n : first + (k - first) ≡ k = omega arith in
-    let there : k - first < length (tokens_in d source) =
-    omega (arith, length-part tokens first past h.ordered h.in_list, ap length h.tokens_are) in
-    let is = ap (λ (ts : List Extent). nth_token ts (k - first)) (sym h.tokens_are) ∙ nth-part tokens first past (k - first) (omega arith)
-    ∙ ap (nth_token tokens) n in
-    subst (λ (e : Extent). source.begin ≤ e.begin) is (source_holds d source (k - first) there).begins
 
 -- ---- what is kept, and what is seen
 
@@ -54,13 +41,13 @@ seen-length s now seen kept =
     ap (λ (t : SomeTokens). length t.tokens) (sym seen) ∙ length-part (tokens_of (characters s.doc.now)) s.first s.past kept.ordered kept.in_list
 
 pub seen-nth : (s : Inside) (now : SomeTokens) (i : ℕ) → tokens_seen s ≡ now → AreKept s → i < length now.tokens →
-    nth_token now.tokens i ≡ nth_token (tokens_of (characters s.doc.now)) (s.first + i)
+    nth_extent now.tokens i ≡ nth_extent (tokens_of (characters s.doc.now)) (s.first + i)
 seen-nth s now i seen kept lt =
-    ap (λ (t : SomeTokens). nth_token t.tokens i) (sym seen)
+    ap (λ (t : SomeTokens). nth_extent t.tokens i) (sym seen)
     ∙ nth-part (tokens_of (characters s.doc.now)) s.first s.past i (omega (arith, lt, seen-length s now seen kept))
 
 pub seen-get : (s : Inside) (now : SomeTokens) (i : ℕ) (e : Extent) → tokens_seen s ≡ now → AreKept s → i < length now.tokens →
-    slice_get (tokens_of (characters s.doc.now)) (s.first + i) ≡ Some e → e ≡ nth_token now.tokens i
+    slice_get (tokens_of (characters s.doc.now)) (s.first + i) ≡ Some e → e ≡ nth_extent now.tokens i
 seen-get s now i e seen kept lt h = sym (seen-nth s now i seen kept lt ∙ nth-is (tokens_of (characters s.doc.now)) (s.first + i) e h)
 
 -- ---- the order of tokens
@@ -71,7 +58,7 @@ InTextOrder-part cs first past le within =
     record {
       filled = λ i lt.
           let here = nth-part (tokens_of cs) first past i (omega (arith, lt, long)) in
-          let filled = token_not_empty cs (nth_token (tokens_of cs) (first + i)) (token_in_list cs (first + i) (record { begin = 0; end = 0 }) (omega (arith, lt, long))) in
+          let filled = token_not_empty cs (nth_extent (tokens_of cs) (first + i)) (token_in_list cs (first + i) (record { begin = 0; end = 0 }) (omega (arith, lt, long))) in
           subst (λ (e : Extent). e.begin < e.end) (sym here) filled;
       apart = λ i j lt low.
           let one = nth-part (tokens_of cs) first past i (omega (arith, lt, low, long)) in
@@ -86,11 +73,11 @@ seen-order s now seen kept =
 
 -- a token begins at or before the end of a later one
 pub begin-le-end : (tokens : List Extent) (first last : ℕ) → InTextOrder tokens → first ≤ last → last < length tokens →
-    (nth_token tokens first).begin ≤ (nth_token tokens last).end
+    (nth_extent tokens first).begin ≤ (nth_extent tokens last).end
 begin-le-end tokens first last order le lt = elim (cases_lt first last) [
   | inl before ↦ omega (arith, order.filled first (omega (arith, before, lt)), order.apart first last before lt, order.filled last lt)
   | inr after ↦ let same : first ≡ last = omega arith in
-      omega (arith, order.filled last lt, ap (λ n. (nth_token tokens n).begin) same)
+      omega (arith, order.filled last lt, ap (λ n. (nth_extent tokens n).begin) same)
 ]
 
 -- ---- the bytes of a run
@@ -108,6 +95,6 @@ seen_run s now first last seen kept u le lt inside =
     let two = seen-nth s now last seen kept lt in
     let between = run_bytes s.doc.now.text s.first first last s.offsets.now u le inside
     (omega (arith, lt, long, kept.in_list)) kept.offsets in
-    let P : Extent → Type 0 = λ x. IsBetween s.doc.now.text x.begin (nth_token tokens (s.first + last)).end b e in
-    let Q : Extent → Type 0 = λ x. IsBetween s.doc.now.text (nth_token now.tokens first).begin x.end b e in
+    let P : Extent → Type 0 = λ x. IsBetween s.doc.now.text x.begin (nth_extent tokens (s.first + last)).end b e in
+    let Q : Extent → Type 0 = λ x. IsBetween s.doc.now.text (nth_extent now.tokens first).begin x.end b e in
     subst Q (sym two) (subst P (sym one) between)

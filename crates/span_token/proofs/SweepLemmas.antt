@@ -1,7 +1,7 @@
 -- A sweep over the characters of a text, one character on.
 use Rattle.std.proofs.Common.{◌≡◌, ◌<◌, ◌≤◌, ◌+◌, ◌∙◌, ℕ, Bool, true, false, cond, List, [], ◌∷◌, ◌++◌, length, get_or, set, map, take, refl, sym, ap, subst, arith}
 use mir.Val.{bool_byte}
-use Rattle.std.proofs.lemmas.List.{append_assoc, append-nil, map-append, take-set, take_more_set}
+use Rattle.std.proofs.lemmas.List.{append_assoc, append-nil, map-append}
 use Rattle.span_token.specs.Classes.{class_of}
 use Rattle.span_token.specs.Extents.{Extent, extent_of}
 use Rattle.span_token.specs.Sweeps.{is_of_token, do_join, ends_between, begins_between, IsSplit, with_token, word_end, IsSwept}
@@ -11,6 +11,7 @@ use Rattle.span_token.specs.declared.classes.Class.{Class}
 use Rattle.span_token.specs.declared.span.Span.{Span}
 use Rattle.span_token.specs.declared.classes.Class.TheVariants.{Word, Space, Mark}
 use Rattle.span_token.proofs.ClassLemmas.{word_class, space_class, mark_class}
+use Rattle.span_token.proofs.RoomLemmas.{take-put}
 use Rattle.span_token.proofs.ScanLemmas.{IsFoundToken, IsPassed, run_more, run_stops, run_ends, from_start, from_end, word_found, mark_found, space_found}
 
 -- the class of character `at`
@@ -19,8 +20,8 @@ class_at cs at = class_of (get_or cs at 0)
 
 -- ---- before the first character
 
-pub swept_none : (cs : List ℕ) → IsSplit cs [] 0
-swept_none cs = record { split = from_start cs; seam = record { between = λ there word. refl } }
+pub IsSwept-none : (cs : List ℕ) → IsSplit cs [] 0
+IsSwept-none cs = record { split = from_start cs; seam = record { between = λ there word. refl } }
 
 -- ---- a split, one token or one other character on
 
@@ -68,19 +69,19 @@ abbrev pub found_with : Bool → List Extent → ℕ → ℕ → List Extent
 found_with ends found begin at = cond ends (with_token found begin at) found
 
 -- one character on
-pub swept_more : (cs : List ℕ) (found : List Extent) (at begin : ℕ) (last next : Class) → at < length cs → next ≡ class_at cs at → IsSwept cs found at begin last →
+pub IsSwept-more : (cs : List ℕ) (found : List Extent) (at begin : ℕ) (last next : Class) → at < length cs → next ≡ class_at cs at → IsSwept cs found at begin last →
     IsSwept cs (found_with (ends_between last next) found begin at) (at + 1) (cond (begins_between last next) at begin) next
-swept_more cs found at begin Space Space short is h = begun cs found at begin Space short is h
-swept_more cs found at begin Space Mark short is h = begun cs found at begin Mark short is h
-swept_more cs found at begin Space Word short is h = begun cs found at begin Word short is h
-swept_more cs found at begin Mark Space short is h = begun cs (with_token found begin at) at begin Space short is h
-swept_more cs found at begin Mark Mark short is h = begun cs (with_token found begin at) at begin Mark short is h
-swept_more cs found at begin Mark Word short is h = begun cs (with_token found begin at) at begin Word short is h
-swept_more cs found at begin Word Word short is h = word_goes_on cs found at begin short is h
-swept_more cs found at begin Word Space short is h =
+IsSwept-more cs found at begin Space Space short is h = begun cs found at begin Space short is h
+IsSwept-more cs found at begin Space Mark short is h = begun cs found at begin Mark short is h
+IsSwept-more cs found at begin Space Word short is h = begun cs found at begin Word short is h
+IsSwept-more cs found at begin Mark Space short is h = begun cs (with_token found begin at) at begin Space short is h
+IsSwept-more cs found at begin Mark Mark short is h = begun cs (with_token found begin at) at begin Mark short is h
+IsSwept-more cs found at begin Mark Word short is h = begun cs (with_token found begin at) at begin Word short is h
+IsSwept-more cs found at begin Word Word short is h = word_goes_on cs found at begin short is h
+IsSwept-more cs found at begin Word Space short is h =
     let here : word_end cs at ≡ at = sym (run_stops cs at (word_end cs at) short (no_word cs at Space is refl) refl) in
     begun cs (with_token found begin at) at begin Space short is (word_stops cs found at begin here h)
-swept_more cs found at begin Word Mark short is h =
+IsSwept-more cs found at begin Word Mark short is h =
     let here : word_end cs at ≡ at = sym (run_stops cs at (word_end cs at) short (no_word cs at Mark is refl) refl) in
     begun cs (with_token found begin at) at begin Mark short is (word_stops cs found at begin here h)
 
@@ -89,11 +90,11 @@ swept_more cs found at begin Word Mark short is h =
 split_all : (cs : List ℕ) (found : List Extent) (k : ℕ) → k ≡ length cs → IsSplit cs found k → found ≡ tokens_of cs
 split_all cs found k all h = sym (append-nil found) ∙ ap (λ ts. found ++ ts) (sym (from_end cs k all)) ∙ h.split
 
-pub swept_all : (cs : List ℕ) (found : List Extent) (at begin : ℕ) (last : Class) → at ≡ length cs → IsSwept cs found at begin last →
+pub IsSwept-all : (cs : List ℕ) (found : List Extent) (at begin : ℕ) (last : Class) → at ≡ length cs → IsSwept cs found at begin last →
     found_with (is_of_token last) found begin at ≡ tokens_of cs
-swept_all cs found at begin Space all h = split_all cs found at all h
-swept_all cs found at begin Mark all h = split_all cs (with_token found begin at) at all h
-swept_all cs found at begin Word all h =
+IsSwept-all cs found at begin Space all h = split_all cs found at all h
+IsSwept-all cs found at begin Mark all h = split_all cs (with_token found begin at) at all h
+IsSwept-all cs found at begin Word all h =
     let here : word_end cs at ≡ at = sym (run_ends cs at (word_end cs at) all refl) in
     split_all cs (with_token found begin at) at all (word_stops cs found at begin here h)
 
@@ -112,26 +113,22 @@ pub begun_by : (b : Bool) (at begin : ℕ) → begin ≤ at → cond b at begin 
 begun_by true at begin le = omega arith
 begun_by false at begin le = le
 
--- one is put, and counts where a token ends
-pub put_one : (ends : Bool) (room : List Span) (count : ℕ) (span : Span) (found : List Extent) → count < length room →
-    found ++ map extent_of (take (count + cond ends 1 0) (set room count span)) ≡ found_with ends (found ++ map extent_of (take count room)) span.begin span.end
-put_one true room count span found short =
-    ap (λ xs. found ++ map extent_of xs) (take_more_set room count span short)
-    ∙ ap (λ ts. found ++ ts) (map-append extent_of (take count room) (span ∷ []))
-    ∙ sym (append_assoc found (map extent_of (take count room)) (extent_of span ∷ []))
-put_one false room count span found short =
-    let same : count + 0 ≡ count = omega arith in
-    ap (λ n. found ++ map extent_of (take n (set room count span))) same ∙ ap (λ xs. found ++ map extent_of xs) (take-set room count span)
-
-pub swept_as : (cs : List ℕ) (found more : List Extent) (at begin start : ℕ) (last next : Class) → found ≡ more → begin ≡ start → last ≡ next →
+pub IsSwept-as : (cs : List ℕ) (found more : List Extent) (at begin start : ℕ) (last next : Class) → found ≡ more → begin ≡ start → last ≡ next →
     IsSwept cs found at begin last → IsSwept cs more at start next
-swept_as cs found more at begin start last next f b l h =
+IsSwept-as cs found more at begin start last next f b l h =
     subst (IsSwept cs more at start) l (subst (λ (n : ℕ). IsSwept cs more at n last) b (subst (λ (ts : List Extent). IsSwept cs ts at begin last) f h))
 
-pub swept_put : (cs : List ℕ) (room : List Span) (count n past start : ℕ) (span : Span) (found : List Extent) (last : Class) (ends : Bool) → count < length room →
+-- one more found, where it counts
+found_with-append : (ends : Bool) (found : List Extent) (spans : List Span) (span : Span) →
+    found ++ map extent_of (cond ends (spans ++ span ∷ []) spans) ≡ found_with ends (found ++ map extent_of spans) span.begin span.end
+found_with-append true found spans span =
+    ap (λ ts. found ++ ts) (map-append extent_of spans (span ∷ [])) ∙ sym (append_assoc found (map extent_of spans) (extent_of span ∷ []))
+found_with-append false found spans span = refl
+
+pub IsSwept-put : (cs : List ℕ) (room : List Span) (count n past start : ℕ) (span : Span) (found : List Extent) (last : Class) (ends : Bool) → count < length room →
     n ≡ cond ends 1 0 → IsSwept cs (found_with ends (found ++ map extent_of (take count room)) span.begin span.end) past start last →
     IsSwept cs (found ++ map extent_of (take (count + n) (set room count span))) past start last
-swept_put cs room count n past start span found last ends short is h =
+IsSwept-put cs room count n past start span found last ends short is h =
     let put : found ++ map extent_of (take (count + n) (set room count span)) ≡ found_with ends (found ++ map extent_of (take count room)) span.begin span.end =
-    ap (λ k. found ++ map extent_of (take (count + k) (set room count span))) is ∙ put_one ends room count span found short in
+    ap (λ xs. found ++ map extent_of xs) (take-put ends room count n span short is) ∙ found_with-append ends found (take count room) span in
     subst (λ (ts : List Extent). IsSwept cs ts past start last) (sym put) h

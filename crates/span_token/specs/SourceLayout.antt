@@ -1,5 +1,5 @@
 -- How `SourceTokens` keeps its tokens: by the numbers of the first and of the one behind the last, and by the bytes of
--- some of the first ones: of all, or of none where the text is ASCII, which only the time rests on.
+-- some of the first ones: of all, or of none where the document keeps none, which only the time rests on.
 use Rattle.std.specs.Prelude.{◌≤◌, ◌<◌, ◌^◌, length, slice_range}
 use Rattle.span_token.specs.Documents.{characters}
 use Rattle.span_token.specs.Tokens.{tokens_of}

@@ -31,9 +31,9 @@ ends_between last next = is_of_token last && not (do_join last next)
 abbrev pub begins_between : Class → Class → Bool
 begins_between last next = is_of_token next && not (do_join last next)
 
--- the sweep behind a character of that class
-abbrev pub swept : Sweep → ℕ → Class → Sweep
-swept sweep at next = record { begin = cond (begins_between sweep.last next) at sweep.begin; last = next }
+-- the sweep behind character `at`, which is of class `next`
+abbrev pub sweep_past : Sweep → ℕ → Class → Sweep
+sweep_past sweep at next = record { begin = cond (begins_between sweep.last next) at sweep.begin; last = next }
 
 -- the tokens of a text are those found, and those that begin at character `k` or later
 pub record IsSplit (cs : List ℕ) (found : List Extent) (k : ℕ) : Type 0 where
@@ -44,11 +44,12 @@ pub record IsSplit (cs : List ℕ) (found : List Extent) (k : ℕ) : Type 0 wher
 abbrev pub with_token : List Extent → ℕ → ℕ → List Extent
 with_token found begin end = found ++ record { begin = begin; end = end } ∷ []
 
--- where the word ends that goes on at character `at`
+-- the first character from `at` on that is no word character, or the text's end
 abbrev pub word_end : List ℕ → ℕ → ℕ
 word_end cs at = at + prefix_len is_word_char (drop at cs)
 
--- the tokens that ended before character `at` were found, and the last character's begins at `begin`
+-- the tokens of a text are those found, that of the character before `at`, where this isn't white space, and those behind
+-- it: it is from `begin`, of a mark to `at`, of a word to the first character from `at` on that is of no word
 abbrev pub IsSwept : List ℕ → List Extent → ℕ → ℕ → Class → Type 0
 IsSwept cs found at begin Space = IsSplit cs found at
 IsSwept cs found at begin Mark = IsSplit cs (with_token found begin at) at

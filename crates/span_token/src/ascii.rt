@@ -55,7 +55,7 @@ fn sweep_stretch(
     requires begun { sweep.begin ≤ from }
     ensures count { result.1 ≤ 64 }
     ensures begun { result.0.begin ≤ past }
-    ensures swept { (found : List Extent) → IsSwept bytes.now found from sweep.begin sweep.last →
+    ensures tokens { (found : List Extent) → IsSwept bytes.now found from sweep.begin sweep.last →
         IsSwept bytes.now (found ++ map extent_of (take result.1 ended.new)) past result.0.begin result.0.last }
 {
     let mut sweep = sweep;

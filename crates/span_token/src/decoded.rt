@@ -19,13 +19,14 @@ struct TextSweep {
     at: Point,
     sweep: Sweep,
     /// The byte at which the character begins that the sweep has as its token's first.
-    begin: usize,
+    begin_byte: usize,
 }
 
 /// What a sweep over a stretch of a text came to.
 #[derive(Clone, Copy)]
 struct Stretch {
-    swept: TextSweep,
+    /// The sweep behind the stretch.
+    behind: TextSweep,
     /// How many tokens ended.
     count: usize,
     /// Whether the text ended.
@@ -45,23 +46,23 @@ pub(crate) fn decoded_tokens(
     let mut offsets = Vec::new(alloc);
     let mut ended = [Span { begin: 0, end: 0 }; STRETCH];
     let mut bytes = [TokenBytes { begin: 0, end: 0 }; STRETCH];
-    let mut swept = TextSweep {
+    let mut text_sweep = TextSweep {
         at: Point { byte: 0, place: 0 },
         sweep: Sweep::new(),
-        begin: 0,
+        begin_byte: 0,
     };
     loop {
-        let stretch = sweep_stretch(text, swept, &mut ended, &mut bytes);
+        let stretch = sweep_stretch(text, text_sweep, &mut ended, &mut bytes);
         spans.extend_from_slice(&ended[..stretch.count])?;
         offsets.extend_from_slice(&bytes[..stretch.count])?;
-        swept = stretch.swept;
+        text_sweep = stretch.behind;
         if stretch.is_last {
             break;
         }
     }
-    if swept.sweep.is_in_token() {
-        spans.push(swept.span())?;
-        offsets.push(swept.bytes())?;
+    if text_sweep.sweep.is_in_token() {
+        spans.push(text_sweep.span())?;
+        offsets.push(text_sweep.bytes())?;
     }
     Ok((spans, offsets))
 }
@@ -83,11 +84,11 @@ impl TextSweep {
     #[inline(always)]
     fn bytes(&self) -> TokenBytes
         requires within { self.now.at.byte ≤ text_limit }
-        requires begun { self.now.begin ≤ text_limit }
-        ensures { result ≡ record { begin = self.now.begin; end = self.now.at.byte } }
+        requires begun { self.now.begin_byte ≤ text_limit }
+        ensures { result ≡ record { begin = self.now.begin_byte; end = self.now.at.byte } }
     {
         TokenBytes {
-            begin: self.begin as u32,
+            begin: self.begin_byte as u32,
             end: self.at.byte as u32,
         }
     }
@@ -104,38 +105,38 @@ fn sweep_stretch(
     requires short { length text.now ≤ text_limit }
     requires point { IsAtPoint text.now from }
     ensures count { result.count ≤ 64 }
-    ensures point { IsAtPoint text.now result.swept }
-    ensures swept { (found : List Extent) → IsSwept (chars text.now) found from.at.place from.sweep.begin from.sweep.last →
-        IsSwept (chars text.now) (found ++ map extent_of (take result.count ended.new)) result.swept.at.place result.swept.sweep.begin result.swept.sweep.last }
+    ensures point { IsAtPoint text.now result.behind }
+    ensures tokens { (found : List Extent) → IsSwept (chars text.now) found from.at.place from.sweep.begin from.sweep.last →
+        IsSwept (chars text.now) (found ++ map extent_of (take result.count ended.new)) result.behind.at.place result.behind.sweep.begin result.behind.sweep.last }
     ensures pairs { ArePairs text.now (map extent_of (take result.count ended.new)) (take result.count bytes.new) }
-    ensures last { result.is_last ≡ true → result.swept.at.place ≡ length (chars text.now) }
-    ensures onward { result.is_last ≡ false → result.swept.at.place ≡ from.at.place + 64 }
+    ensures last { result.is_last ≡ true → result.behind.at.place ≡ length (chars text.now) }
+    ensures onward { result.is_last ≡ false → result.behind.at.place ≡ from.at.place + 64 }
 {
-    let mut swept = from;
+    let mut text_sweep = from;
     let mut count = 0;
     for _ in 0..STRETCH {
-        let Some((class, next)) = step(text, swept.at) else {
+        let Some((class, next)) = step(text, text_sweep.at) else {
             return Stretch {
-                swept,
+                behind: text_sweep,
                 count,
                 is_last: true,
             };
         };
-        ended[count] = swept.span();
-        bytes[count] = swept.bytes();
-        count += usize::from(swept.sweep.ends_before(class));
-        swept = TextSweep {
-            begin: if swept.sweep.begins_at(class) {
-                swept.at.byte
+        ended[count] = text_sweep.span();
+        bytes[count] = text_sweep.bytes();
+        count += usize::from(text_sweep.sweep.ends_before(class));
+        text_sweep = TextSweep {
+            begin_byte: if text_sweep.sweep.begins_at(class) {
+                text_sweep.at.byte
             } else {
-                swept.begin
+                text_sweep.begin_byte
             },
-            sweep: swept.sweep.past(swept.at.place, class),
+            sweep: text_sweep.sweep.past(text_sweep.at.place, class),
             at: next,
         };
     }
     Stretch {
-        swept,
+        behind: text_sweep,
         count,
         is_last: false,
     }

@@ -1,4 +1,4 @@
-ghost use Rattle.std.specs.Prelude.{ℕ, ◌≡◌, ◌≤◌, ◌<◌, ◌+◌, length, slice_get, count_by, nat_lt, nat_le, take, slice_range, chars, IfOk, IsUtf8, IsCharBoundary, option_map};
+ghost use Rattle.std.specs.Prelude.{ℕ, ◌≡◌, ◌≤◌, ◌<◌, length, slice_get, count_by, nat_lt, nat_le, take, slice_range, IfOk, IsUtf8, IsCharBoundary, option_map};
 ghost use Rattle.span_token.specs.Limits.{text_limit};
 ghost use Rattle.span_token.specs.Extents.{Extent, extent_of};
 ghost use Rattle.span_token.specs.Tokens.{tokens_of, AreTokens};
@@ -242,6 +242,8 @@ impl<'d> Document<'d> {
     }
 
     /// The bytes of the tokens with these numbers, if they are kept, and else of none.
+    ///
+    /// The clause is met by an answer of none too, which only the time rests on.
     pub(crate) fn kept_bytes(&self, first: u32, past: u32) -> &[TokenBytes]
         requires ordered { first ≤ past }
         ensures { AreOffsets self.now.text first result.now }
@@ -252,30 +254,14 @@ impl<'d> Document<'d> {
         &self.offsets[first as usize..past as usize]
     }
 
-    /// Whether each character is known to be one byte.
-    pub(crate) fn is_ascii(&self) -> bool {
-        self.places.is_ascii()
-    }
-
     /// The byte at which character `place` begins, or the text ends.
-    pub(crate) fn byte_of(&self, place: u32) -> usize
+    fn byte_of(&self, place: u32) -> usize
         requires { place ≤ len_of self.now }
         ensures place { IsPlace self.now.text place result }
         ensures utf8 { IsUtf8 self.now.text }
         ensures short { length self.now.text ≤ text_limit }
     {
         self.places.byte_of(self.text, place)
-    }
-
-    /// The same, sought from the byte of an earlier character on, which stands close before it, as tokens do.
-    pub(crate) fn byte_after(&self, from: usize, passed: u32, place: u32) -> usize
-        requires from { IsPlace self.now.text passed from }
-        requires ahead { passed ≤ place }
-        requires exists { place ≤ len_of self.now }
-        ensures place { IsPlace self.now.text place result }
-        ensures short { length self.now.text ≤ text_limit }
-    {
-        self.places.byte_after(self.text, from, passed, place)
     }
 
     /// The same, where the byte of an earlier character is known, which may be near or far, as ends of spans are.

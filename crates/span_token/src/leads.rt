@@ -1,4 +1,4 @@
-ghost use Rattle.std.specs.Prelude.{◌≡◌, ◌≤◌, ◌∷◌, [], length, take, slice_range, IsCharBoundary};
+ghost use Rattle.std.specs.Prelude.{◌≡◌, ◌≤◌, ◌∷◌, [], length, take};
 ghost use Rattle.span_token.specs.Leads.{leads, IsPlace};
 
 /// How many characters begin in `bytes`, of which there are few, so that they are counted many at a time.
@@ -43,7 +43,7 @@ pub(crate) fn seek(text: &str, from: usize, passed: u32, place: u32) -> usize
 
 /// The same, byte by byte, for a character that isn't far.
 #[inline(always)]
-pub(crate) fn seek_near(text: &str, from: usize, passed: u32, place: u32) -> usize
+fn seek_near(text: &str, from: usize, passed: u32, place: u32) -> usize
     requires within { from ≤ length text.now }
     requires passed { leads (take from text.now) ≡ passed }
     requires ahead { passed ≤ place }

@@ -4,7 +4,7 @@ ghost use Rattle.span_token.specs.Leads.{leads, IsPlace};
 ghost use Rattle.span_token.specs.Places.{AreBlockCounts, FitsText};
 
 use crate::OutOfMemory;
-use crate::leads::{count_leads, seek, seek_near};
+use crate::leads::{count_leads, seek};
 use std::alloc::Global;
 
 /// How many bytes a block has.
@@ -33,11 +33,6 @@ impl Places {
         }
         let counts = block_counts(alloc, text.as_bytes())?;
         Ok(Places::Blocks(counts))
-    }
-
-    /// Whether nothing is kept, since each character is one byte.
-    pub(crate) fn is_ascii(&self) -> bool {
-        matches!(self, Places::Ascii)
     }
 
     /// How many characters begin before byte `byte` of `text`.
@@ -104,20 +99,6 @@ impl Places {
                     sought(counts, text, place)
                 }
             }
-        }
-    }
-
-    /// The same, sought from the byte of an earlier character on, which stands close before it, as tokens do.
-    pub(crate) fn byte_after(&self, text: &str, from: usize, passed: u32, place: u32) -> usize
-        requires fits { FitsText self.now text.now }
-        requires from { IsPlace text.now passed from }
-        requires ahead { passed ≤ place }
-        requires exists { place ≤ leads text.now }
-        ensures { IsPlace text.now place result }
-    {
-        match self {
-            Places::Ascii => place as usize,
-            Places::Blocks(_) => seek_near(text, from, passed, place),
         }
     }
 }

@@ -1,34 +1,18 @@
-ghost use Rattle.std.specs.Prelude.{◌≡◌, ◌≤◌, ◌<◌, length, IfOk};
+ghost use Rattle.std.specs.Prelude.{◌≡◌, ◌≤◌, ◌<◌, length};
 ghost use Rattle.span_token.specs.Documents.{LiesIn, characters, text_in};
-ghost use Rattle.span_token.specs.Extents.{extent_of};
-ghost use Rattle.span_token.specs.SourceTokens.{InTextOrder, HoldsTokens, tokens_in, nth_token, run_extent};
+ghost use Rattle.span_token.specs.Extents.{extent_of, nth_extent};
+ghost use Rattle.span_token.specs.SourceTokens.{InTextOrder, HoldsTokens, tokens_in, run_extent};
 ghost use Rattle.span_token.specs.Tokens.{tokens_of};
 
-use crate::offsets::{TokenBytes, token_bytes};
-use crate::{Document, OutOfMemory, Span};
-use std::alloc::Global;
+use crate::offsets::TokenBytes;
+use crate::{Document, Span};
 use std::marker::Model;
 
-/// Room for the tokens of a source, kept from one source to the next. What it holds tells nothing.
-#[derive(Drop)]
-pub struct TokenRoom {
-    offsets: Vec<TokenBytes>,
-}
-
-impl TokenRoom {
-    /// No room so far; takes no memory.
-    pub fn new(alloc: Global) -> TokenRoom {
-        TokenRoom {
-            offsets: Vec::new(alloc),
-        }
-    }
-}
-
-/// Tokens of a document that stand in a row, with the bytes at which each begins and ends, where the text
-/// isn't ASCII: the text of a run of them is found without a search. Contracts see the document and
-/// these tokens.
+/// Tokens of a document that stand in a row, with the bytes at which each begins and ends, where the
+/// document keeps them: the text of a run of them is found without a search. Contracts see the document
+/// and these tokens.
 ///
-/// Tokens have numbers from 0 on.
+/// Tokens have numbers from 0 on. No call takes memory.
 #[derive(Drop)]
 pub struct SourceTokens<'a, 'd> {
     doc: &'a Document<'d>,
@@ -52,46 +36,36 @@ impl<'a, 'd> Model for SourceTokens<'a, 'd> {
 impl<'a, 'd> SourceTokens<'a, 'd> {
     /// The tokens wholly in `source`.
     ///
-    /// Where the document keeps no tokens and isn't ASCII, goes through the text of `source` once, and
-    /// takes 8 bytes a token, if `room` doesn't have them.
-    ///
     /// Meaning: `tokens_in`, `specs/SourceTokens.antt`.
-    pub fn of(
-        room: &'a mut TokenRoom,
-        doc: &'a Document<'d>,
-        source: Span,
-    ) -> Result<SourceTokens<'a, 'd>, OutOfMemory>
+    pub fn of(doc: &'a Document<'d>, source: Span) -> SourceTokens<'a, 'd>
         requires in_document { LiesIn (extent_of source) doc.now }
-        ensures doc { IfOk result (λ t. t.doc ≡ doc.now) }
-        ensures tokens { IfOk result (λ t. t.tokens ≡ tokens_in doc.now (extent_of source)) }
-        ensures within { IfOk result (λ t. HoldsTokens (extent_of source) t.tokens) }
+        ensures doc { result.doc ≡ doc.now }
+        ensures tokens { result.tokens ≡ tokens_in doc.now (extent_of source) }
+        ensures within { HoldsTokens (extent_of source) result.tokens }
     {
         let (first, past) = doc.tokens_in(source);
-        let offsets = token_bytes(doc, source.begin, first, past, &mut room.offsets)?;
-        Ok(SourceTokens {
+        let offsets = doc.kept_bytes(first, past);
+        SourceTokens {
             doc,
             first,
             past,
             offsets,
-        })
+        }
     }
 
     /// All tokens of `doc`.
-    pub fn all(
-        room: &'a mut TokenRoom,
-        doc: &'a Document<'d>,
-    ) -> Result<SourceTokens<'a, 'd>, OutOfMemory>
-        ensures doc { IfOk result (λ t. t.doc ≡ doc.now) }
-        ensures tokens { IfOk result (λ t. t.tokens ≡ tokens_of (characters doc.now)) }
+    pub fn all(doc: &'a Document<'d>) -> SourceTokens<'a, 'd>
+        ensures doc { result.doc ≡ doc.now }
+        ensures tokens { result.tokens ≡ tokens_of (characters doc.now) }
     {
         let past = doc.token_count();
-        let offsets = token_bytes(doc, 0, 0, past, &mut room.offsets)?;
-        Ok(SourceTokens {
+        let offsets = doc.kept_bytes(0, past);
+        SourceTokens {
             doc,
             first: 0,
             past,
             offsets,
-        })
+        }
     }
 
     /// The document that they are of.
@@ -113,7 +87,7 @@ impl<'a, 'd> SourceTokens<'a, 'd> {
     #[inline(always)]
     pub fn get(&self, i: usize) -> Span
         requires there { i < length self.now.tokens }
-        ensures token { extent_of result ≡ nth_token self.now.tokens i }
+        ensures token { extent_of result ≡ nth_extent self.now.tokens i }
         ensures order { InTextOrder self.now.tokens }
         ensures in_document { LiesIn (extent_of result) self.now.doc }
     {
@@ -124,7 +98,7 @@ impl<'a, 'd> SourceTokens<'a, 'd> {
     #[inline(always)]
     pub fn text(&self, i: usize) -> &'d str
         requires there { i < length self.now.tokens }
-        ensures text { result.now ≡ text_in self.now.doc (nth_token self.now.tokens i) }
+        ensures text { result.now ≡ text_in self.now.doc (nth_extent self.now.tokens i) }
     {
         self.run_text(i, i)
     }

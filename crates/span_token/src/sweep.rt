@@ -1,5 +1,5 @@
-ghost use Rattle.std.specs.Prelude.{◌≡◌, ◌≤◌};
-ghost use Rattle.span_token.specs.Sweeps.{is_of_token, do_join, ends_between, begins_between, swept};
+ghost use Rattle.std.specs.Prelude.{◌≡◌};
+ghost use Rattle.span_token.specs.Sweeps.{is_of_token, do_join, ends_between, begins_between, sweep_past};
 ghost use Rattle.span_token.specs.declared.classes.Class.TheVariants.{Space};
 
 use crate::classes::Class;
@@ -42,7 +42,7 @@ impl Sweep {
     /// The same behind the next character, which is number `at` and of that class.
     #[inline(always)]
     pub(crate) fn past(self, at: u32, next: Class) -> Sweep
-        ensures { result ≡ swept self at next }
+        ensures { result ≡ sweep_past self at next }
     {
         Sweep {
             begin: if self.begins_at(next) { at } else { self.begin },

@@ -4,9 +4,9 @@ ghost use Rattle.span_token.specs.Extents.{extent_of};
 ghost use Rattle.span_token.specs.Documents.{LiesIn};
 
 use span_token::{
-    Document, Failure, OutOfMemory, OwnedList, OwnedText, SourceTokens, Span, TEXT_LIMIT,
-    TokenRoom, between, combine, contains, follows, follows_tok, left_context, left_context_tok,
-    overlaps, right_context, right_context_tok, tokens_of_text,
+    Document, Failure, OutOfMemory, OwnedList, OwnedText, SourceTokens, Span, TEXT_LIMIT, between,
+    combine, contains, follows, follows_tok, left_context, left_context_tok, overlaps,
+    right_context, right_context_tok, tokens_of_text,
 };
 use std::alloc::Global;
 use std::process::Abort;
@@ -108,14 +108,13 @@ fn tokens_in_a_span_lie_wholly_in_it(rt: HostRuntime) -> Result<(), Fail> {
 /// The texts of a source's tokens, with bars between, and the text and span of their run.
 fn texts_and_run<R: Abort + AllocGlobal>(
     rt: &R,
-    room: &mut TokenRoom,
     doc: &Document<'_>,
     source: Span,
     want: (&str, &str),
 ) -> Result<(), Fail>
     requires { LiesIn (extent_of source) doc.now }
 {
-    let tokens = SourceTokens::of(room, doc, source)?;
+    let tokens = SourceTokens::of(doc, source);
     let mut texts = String::new(rt.alloc());
     for i in 0..tokens.len() {
         if i > 0 {
@@ -134,7 +133,6 @@ fn texts_and_run<R: Abort + AllocGlobal>(
 
 #[test]
 fn the_tokens_of_a_source_have_their_texts_and_runs(rt: HostRuntime) -> Result<(), Fail> {
-    let mut room = TokenRoom::new(rt.alloc());
     for (text, begin, end, texts, run) in [
         ("Ann met Bo, 42.", 1, 11, "met|Bo|,", "met Bo,"),
         ("Zoë traf Bö, 漢😀 é", 1, 15, "traf|Bö|,|漢|😀", "traf Bö, 漢😀"),
@@ -143,11 +141,13 @@ fn the_tokens_of_a_source_have_their_texts_and_runs(rt: HostRuntime) -> Result<(
         assert!(rt; text.len() <= TEXT_LIMIT);
         let doc = Document::new(rt.alloc(), text, None)?;
         assert!(rt; begin <= end && end <= doc.len());
-        texts_and_run(&rt, &mut room, &doc, span(begin, end), (texts, run))?;
+        texts_and_run(&rt, &doc, span(begin, end), (texts, run))?;
     }
     let doc = Document::new(rt.alloc(), "né", None)?;
-    assert_eq!(rt; SourceTokens::all(&mut room, &doc)?.len(), 1);
-    Ok(())
+    assert_eq!(rt; SourceTokens::all(&doc).len(), 1);
+    let plain = Document::plain(rt.alloc(), "né", None)?;
+    assert_eq!(rt; SourceTokens::all(&plain).len(), 1);
+    texts_and_run(&rt, &plain, plain.whole(), ("né", "né"))
 }
 
 #[test]

@@ -7,21 +7,21 @@ use Rattle.std.proofs.lemmas.List.Elements.{filter_passes, Contains-get_or, Cont
 use Rattle.std.proofs.lemmas.Option.{slice_get-get_or}
 use Rattle.std.specs.declared.vec.Vec.{Vec}
 use Rattle.span_token.specs.Documents.{Doc, characters}
-use Rattle.span_token.specs.Extents.{Extent, extent_of}
+use Rattle.span_token.specs.Extents.{Extent, extent_of, nth_extent}
 use Rattle.span_token.specs.Relations.{ContainsExtent, does_contain}
 use Rattle.span_token.specs.Tokens.{tokens_of}
 use Rattle.span_token.specs.declared.span.Span.{Span}
 use Rattle.dict_match.specs.declared.dict_use.DictUse.{DictUse}
-use Rattle.span_token.specs.SourceTokens.{tokens_in, nth_token}
+use Rattle.span_token.specs.SourceTokens.{tokens_in}
 use Rattle.dict_match.specs.Dictionaries.{IsMatch, AreMatches}
 use Rattle.dict_match.specs.Rows.{extents_for, extents_of_rows, AreRowsOfEach}
 
 token-inside : (d : Doc) (source : Extent) (i : ℕ) → i < length (tokens_in d source) →
-    (source.begin ≤ (nth_token (tokens_in d source) i).begin) × ((nth_token (tokens_in d source) i).end ≤ source.end)
+    (source.begin ≤ (nth_extent (tokens_in d source) i).begin) × ((nth_extent (tokens_in d source) i).end ≤ source.end)
 token-inside d source i lt =
-    let passes : does_contain source (nth_token (tokens_in d source) i) ≡ true = filter_passes (does_contain source) (tokens_of (characters d)) i (record { begin = 0; end = 0 }) lt in
+    let passes : does_contain source (nth_extent (tokens_in d source) i) ≡ true = filter_passes (does_contain source) (tokens_of (characters d)) i (record { begin = 0; end = 0 }) lt in
     let parts = and_parts _ _ passes in
-    (leb-true source.begin (nth_token (tokens_in d source) i).begin parts.0, leb-true (nth_token (tokens_in d source) i).end source.end parts.1)
+    (leb-true source.begin (nth_extent (tokens_in d source) i).begin parts.0, leb-true (nth_extent (tokens_in d source) i).end source.end parts.1)
 
 pub match-inside : (dict : DictUse) (d : Doc) (source e : Extent) → IsMatch dict d (tokens_in d source) e → ContainsExtent source e
 match-inside dict d source e m =
@@ -53,10 +53,10 @@ pair-listed (x ∷ ms) (suc k) m lt is = later (x.0 == m.0) (pair-listed ms k m 
 
 pub found-inside : (dicts : List DictUse) (d : Doc) (source : Extent) (ms : List (ℕ × Extent)) → All (λ (m : ℕ × Extent). m.0 < length dicts) ms →
     ((i : ℕ) (dict : DictUse) → slice_get dicts i ≡ Some dict → AreMatches dict d source (extents_for i ms)) → All (λ (m : ℕ × Extent). ContainsExtent source m.1) ms
-found-inside dicts d source ms places rows k x lt =
+found-inside dicts d source ms below rows k x lt =
     let m : ℕ × Extent = get_or ms k x in
     let dict : DictUse = get_or dicts m.0 (record { entries = []; exact = true }) in
-    let at : slice_get dicts m.0 ≡ Some dict = slice_get-get_or dicts m.0 (record { entries = []; exact = true }) (places k x lt) in
+    let at : slice_get dicts m.0 ≡ Some dict = slice_get-get_or dicts m.0 (record { entries = []; exact = true }) (below k x lt) in
     let listed = pair-listed ms k m lt (get_or_default ms k m x lt) in
     match-inside dict d source m.1 (((rows m.0 dict at).exactly m.1).0 listed)
 

@@ -14,10 +14,10 @@ use Rattle.std.proofs.lemmas.List.FromFn.{map-range_with_len_more}
 use Rattle.std.proofs.lemmas.List.Kept.{AllPairs-filter}
 use Rattle.std.proofs.lemmas.List.Quantifiers.{all_pairs_push}
 use Rattle.span_token.specs.Documents.{Doc, characters}
-use Rattle.span_token.specs.Extents.{Extent}
+use Rattle.span_token.specs.Extents.{Extent, nth_extent}
 use Rattle.dict_match.specs.declared.dict_use.DictUse.{DictUse}
 use Rattle.span_token.specs.SpanOrderLaws.{in_order_is_unique}
-use Rattle.span_token.specs.SourceTokens.{tokens_in, nth_token, run_extent, SomeTokens, InTextOrder}
+use Rattle.span_token.specs.SourceTokens.{tokens_in, run_extent, SomeTokens, InTextOrder}
 use Rattle.span_token.specs.SpanOrder.{IsBefore, AreInOrder}
 use Rattle.dict_match.specs.Dictionaries.{folded, texts_of, entry_texts, Agree, AgreesWith, IsMatch, AreMatches}
 use Rattle.dict_match.specs.DictMatches.{do_agree, does_agree, matches_from, matches_among, dict_matches, does_match}
@@ -76,10 +76,10 @@ module _ (dict : DictUse) (d : Doc) (tokens : List Extent) where
   unfolding matches_from
   matches_from-more first past le =
       let count : past + 1 - first ≡ past - first + 1 = omega arith in
-      let place : first + (past - first) ≡ past = omega arith in
+      let same_number : first + (past - first) ≡ past = omega arith in
       let before = range_with_len first (past - first) in
       ap (λ (n : ℕ). map (run_extent tokens first) (filter (run_agrees first) (range_with_len first n))) count
-      ∙ ap (λ (ks : List ℕ). map (run_extent tokens first) (filter (run_agrees first) ks)) (range-more first (past - first) past place)
+      ∙ ap (λ (ks : List ℕ). map (run_extent tokens first) (filter (run_agrees first) ks)) (range-more first (past - first) past same_number)
       ∙ ap (map (run_extent tokens first)) (filter-append (run_agrees first) before (past ∷ []))
       ∙ map-append (run_extent tokens first) (filter (run_agrees first) before) (filter (run_agrees first) (past ∷ []))
       ∙ ap (λ (es : List Extent). map (run_extent tokens first) (filter (run_agrees first) before) ++ es) (kept-one (run_agrees first past) (run_extent tokens first) past)
@@ -133,8 +133,8 @@ before-run : (dict : DictUse) (tokens : SomeTokens) (first last : ℕ) (e : Exte
     IsMatchUpto dict tokens first last e → IsBefore e (run_extent tokens.tokens first last)
 before-run dict tokens first last e order le lt m =
     let match = m.match in
-    let begins : e.begin ≡ (nth_token tokens.tokens match.first).begin = ap (λ (x : Extent). x.begin) match.extent_is in
-    let ends : e.end ≡ (nth_token tokens.tokens (match.past - 1)).end = ap (λ (x : Extent). x.end) match.extent_is in
+    let begins : e.begin ≡ (nth_extent tokens.tokens match.first).begin = ap (λ (x : Extent). x.begin) match.extent_is in
+    let ends : e.end ≡ (nth_extent tokens.tokens (match.past - 1)).end = ap (λ (x : Extent). x.end) match.extent_is in
     elim m.upto [
       | inl a ↦
           let one = order.filled match.first (omega (arith, a, le, lt)) in
@@ -144,13 +144,13 @@ before-run dict tokens first last e order le lt m =
           let some = match.some in
           let two = order.apart (match.past - 1) last (omega (arith, a.0, a.1, some, le)) lt in
           let three = order.filled last lt in
-          inr (begins ∙ ap (λ (n : ℕ). (nth_token tokens.tokens n).begin) a.0, omega (arith, ends, two, three))
+          inr (begins ∙ ap (λ (n : ℕ). (nth_extent tokens.tokens n).begin) a.0, omega (arith, ends, two, three))
     ]
 
 new-match : (dict : DictUse) (tokens : SomeTokens) (first last : ℕ) → first ≤ last → last < length tokens.tokens → AgreesWith dict (run_texts tokens first (last + 1)) →
     IsMatchUpto dict tokens first (last + 1) (run_extent tokens.tokens first last)
 new-match dict tokens first last le lt agrees =
-    let place : last ≡ last + 1 - 1 = omega arith in
+    let same_number : last ≡ last + 1 - 1 = omega arith in
     record {
       match = record {
         first = first;
@@ -158,7 +158,7 @@ new-match dict tokens first last le lt agrees =
         some = omega (arith, le);
         there = omega (arith, lt);
         agrees = agrees;
-        extent_is = ap (run_extent tokens.tokens first) place;
+        extent_is = ap (run_extent tokens.tokens first) same_number;
       };
       upto = inr (refl, omega arith);
     }

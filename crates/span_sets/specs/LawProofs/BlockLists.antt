@@ -5,9 +5,9 @@ use Rattle.std.proofs.lemmas.Bool.{cases_lt}
 use Rattle.std.proofs.lemmas.List.{map-append, get_or-map, length-map}
 use Rattle.std.proofs.lemmas.List.Elements.{All-append, Contains-append_left, Contains-append_right, Contains-append_cases}
 use Rattle.std.proofs.lemmas.List.Kept.{AllPairs-cons}
-use Rattle.span_token.specs.Extents.{Extent}
+use Rattle.span_token.specs.Extents.{Extent, nth_extent}
 use Rattle.span_token.specs.RisingLists.{AllPairs-head, AllPairs-tail, AllPairs-range, AllPairs-map, Contains-range, in_range}
-use Rattle.span_sets.specs.Blocks.{IsRun, AreBlocksOf, span_at, block_of}
+use Rattle.span_sets.specs.Blocks.{IsRun, AreBlocksOf, block_of}
 use Rattle.span_sets.specs.LawProofs.SpanLists.{Contains-shown, from_shown}
 
 -- pairs of two lists end to end
@@ -85,8 +85,8 @@ module _ (IsNext : Extent → Extent → Type 0) (low high : ℕ) (spans : List 
       later ks up = λ a b d h short. inr (refl, up a b d h short)
 
   module _ (i end from to : ℕ) (before_end : i < end) (within : end ≤ length spans)
-      (chained : (k : ℕ) → i ≤ k → k + 1 < end → IsNext (span_at spans k) (span_at spans (k + 1)))
-      (stopped : end < length spans → (k : ℕ) → k + 1 ≡ end → ¬ (IsNext (span_at spans k) (span_at spans (k + 1))))
+      (chained : (k : ℕ) → i ≤ k → k + 1 < end → IsNext (nth_extent spans k) (nth_extent spans (k + 1)))
+      (stopped : end < length spans → (k : ℕ) → k + 1 ≡ end → ¬ (IsNext (nth_extent spans k) (nth_extent spans (k + 1))))
       (begins : (j : ℕ) → j < to → (from ≤ j) ↔ ((i ≤ j) × (low ≤ (j - i) + 1)))
       (ends : (j : ℕ) → i ≤ j → (j < to) ↔ ((j < end) × ((j - i) + 1 ≤ high))) where
     -- the runs that begin with span i end with the spans from..to

@@ -16,14 +16,14 @@ use Rattle.aql_base.specs.Sorting.{sorted_by}
 use Rattle.aql_base.specs.CountLaws.{told}
 use Rattle.aql_base.specs.SortingLaws.{SameBag-sorted_by, IsSorted-sorted_by, sorted_by-SameBag}
 use Rattle.span_token.specs.Documents.{Doc, characters}
-use Rattle.span_token.specs.Extents.{Extent}
+use Rattle.span_token.specs.Extents.{Extent, nth_extent}
 use Rattle.span_token.specs.Relations.{Follows, FollowsTok, does_follow, does_follow_tok, tokens_between}
 use Rattle.span_token.specs.SpanOrder.{IsBefore, extent_cmp}
 use Rattle.span_token.specs.Tokens.{tokens_of}
 use Rattle.span_token.specs.ExtentLaws.{same_extent}
 use Rattle.span_token.specs.RisingLists.{Contains-cases, Contains-here, Contains-there, Contains-range, in_range}
 use Rattle.span_token.specs.SpanOrderLaws.{before_from_Less}
-use Rattle.span_sets.specs.Blocks.{IsNeighbour, AreDistinct, IsRun, AreBlocks, span_at, block_of, is_neighbour, is_run, ends_of, blocks_before, distinct_of, blocks_of}
+use Rattle.span_sets.specs.Blocks.{IsNeighbour, AreDistinct, IsRun, AreBlocks, block_of, is_neighbour, is_run, ends_of, blocks_before, distinct_of, blocks_of}
 use Rattle.span_sets.specs.LawProofs.BlockLaws.{AreBlocks-unique}
 use Rattle.span_sets.specs.LawProofs.BlockLists.{HasRuns, HasRuns-none, HasRuns-more, HasRuns-all}
 use Rattle.span_sets.specs.LawProofs.CandidateLists.{pairs, nat_exact, then_equal}
@@ -79,7 +79,7 @@ is_each p (y ∷ ys) h = and_from (p y) (list_all p ys) (h y (Contains-here y ys
 module _ (is_next : Extent → Extent → Bool) (IsNext : Extent → Extent → Type 0) (decides : (a b : Extent) → (is_next a b ≡ true) ↔ IsNext a b) (low high : ℕ) where
   module _ (spans : List Extent) where
     abbrev next_at : ℕ → Bool
-    next_at k = is_next (span_at spans k) (span_at spans (k + 1))
+    next_at k = is_next (nth_extent spans k) (nth_extent spans (k + 1))
 
     is_run-decides : (i j : ℕ) → j < length spans → Decides (is_run is_next low high spans i j) (IsRun IsNext low high spans i j)
     is_run-decides i j short =
@@ -94,7 +94,7 @@ module _ (is_next : Extent → Extent → Bool) (IsNext : Extent → Extent → 
                 there = short;
                 at_least = leb-true low ((j - i) + 1) two.0;
                 at_most = leb-true ((j - i) + 1) high three.0;
-                neighbours = λ k from to. (decides (span_at spans k) (span_at spans (k + 1))).0 (each_is next_at (range_with_len i (j - i)) three.1 k (Contains-range i (j - i) k from (omega (arith, to, from))));
+                neighbours = λ k from to. (decides (nth_extent spans k) (nth_extent spans (k + 1))).0 (each_is next_at (range_with_len i (j - i)) three.1 k (Contains-range i (j - i) k from (omega (arith, to, from))));
               },
           λ run.
               and_from (nat_le i j) least (le-leb i j run.ordered)
@@ -102,7 +102,7 @@ module _ (is_next : Extent → Extent → Bool) (IsNext : Extent → Extent → 
               (and_from (nat_le ((j - i) + 1) high) (list_all next_at (range_with_len i (j - i))) (le-leb ((j - i) + 1) high run.at_most)
               (is_each next_at (range_with_len i (j - i)) (λ k at.
               let there = in_range i (j - i) k at in
-              (decides (span_at spans k) (span_at spans (k + 1))).1 (run.neighbours k there.0 (omega (arith, there, run.ordered))))))),
+              (decides (nth_extent spans k) (nth_extent spans (k + 1))).1 (run.neighbours k there.0 (omega (arith, there, run.ordered))))))),
         )
 
     runs_at : (i j : ℕ) → Contains (ends_of is_next low high spans i) j ↔ IsRun IsNext low high spans i j

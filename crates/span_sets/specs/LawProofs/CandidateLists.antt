@@ -34,7 +34,7 @@ candidates_from-some mirror i j [] t e = ap (λ n. candidate_of (facing mirror t
 candidates_from-some mirror i j (None ∷ targets) t e = candidates_from-some mirror (i + 1) j targets t (omega (arith, e))
 candidates_from-some mirror i j (Some u ∷ targets) t e = ap (λ cs. candidate_of (facing mirror u) i ∷ cs) (candidates_from-some mirror (i + 1) j targets t (omega (arith, e)))
 
--- the candidate of one of the targets, the first of which has place i
+-- the candidate of one of the targets, the first of which is that of row i
 pub record IsFound (mirror : Bool) (targets : List (Option Extent)) (i : ℕ) (c : Candidate) : Type 0 where
   pub at : ℕ
   pub target : Extent
@@ -67,8 +67,8 @@ listed mirror i (Some u ∷ targets) (suc m) t h =
     Contains-there (candidate_of (facing mirror u) i) (candidates_from mirror (i + 1) targets) (candidate_of (facing mirror t) (i + suc m))
     (subst (λ n. Contains (candidates_from mirror (i + 1) targets) (candidate_of (facing mirror t) n)) (omega arith) (listed mirror (i + 1) targets m t h))
 
-place_is : (mirror : Bool) (targets : List (Option Extent)) (i : ℕ) (c : Candidate) → IsFound mirror targets i c → i ≤ c.place
-place_is mirror targets i c h = omega (arith, ap (λ (x : Candidate). x.place) h.is)
+row_number_is : (mirror : Bool) (targets : List (Option Extent)) (i : ℕ) (c : Candidate) → IsFound mirror targets i c → i ≤ c.row_number
+row_number_is mirror targets i c h = omega (arith, ap (λ (x : Candidate). x.row_number) h.is)
 
 pub distinct : (mirror : Bool) (i : ℕ) (targets : List (Option Extent)) → AllPairs (λ a b. a ≢ b) (candidates_from mirror i targets)
 unfolding candidates_from
@@ -76,15 +76,15 @@ distinct mirror i [] = λ j k d h short. absurd (omega arith)
 distinct mirror i (None ∷ targets) = distinct mirror (i + 1) targets
 distinct mirror i (Some t ∷ targets) =
     AllPairs-cons (λ a b. a ≢ b) (candidate_of (facing mirror t) i) (candidates_from mirror (i + 1) targets)
-    (All-weaker (IsFound mirror targets (i + 1)) (λ c. candidate_of (facing mirror t) i ≢ c) (λ c h e. absurd (omega (arith, place_is mirror targets (i + 1) c h, ap (λ (x : Candidate). x.place) e))) (candidates_from mirror (i + 1) targets) (found mirror (i + 1) targets))
+    (All-weaker (IsFound mirror targets (i + 1)) (λ c. candidate_of (facing mirror t) i ≢ c) (λ c h e. absurd (omega (arith, row_number_is mirror targets (i + 1) c h, ap (λ (x : Candidate). x.row_number) e))) (candidates_from mirror (i + 1) targets) (found mirror (i + 1) targets))
     (distinct mirror (i + 1) targets)
 
 -- the order of candidates
 abbrev pub candidate_cmp : Candidate → Candidate → Ordering
-candidate_cmp = then_cmp (on (λ (c : Candidate). c.near) nat_cmp) (then_cmp (on (λ (c : Candidate). c.far.0) (flip_args nat_cmp)) (on (λ (c : Candidate). c.place) nat_cmp))
+candidate_cmp = then_cmp (on (λ (c : Candidate). c.near) nat_cmp) (then_cmp (on (λ (c : Candidate). c.far.0) (flip_args nat_cmp)) (on (λ (c : Candidate). c.row_number) nat_cmp))
 
 pub candidate_cmp_total : IsTotalOrder candidate_cmp
-candidate_cmp_total = then_total (on_total (λ (c : Candidate). c.near) nat_cmp_total) (then_total (on_total (λ (c : Candidate). c.far.0) (back_total nat_cmp_total)) (on_total (λ (c : Candidate). c.place) nat_cmp_total))
+candidate_cmp_total = then_total (on_total (λ (c : Candidate). c.near) nat_cmp_total) (then_total (on_total (λ (c : Candidate). c.far.0) (back_total nat_cmp_total)) (on_total (λ (c : Candidate). c.row_number) nat_cmp_total))
 
 pub nat_exact : (m n : ℕ) → nat_cmp m n ≡ Equal → m ≡ n
 nat_exact m n e = ranked m n Equal (sym e)
@@ -102,24 +102,24 @@ then_less Less p e = inl refl
 then_less Equal p e = inr (refl, e)
 then_less Greater p e = absurd cc
 
-same_candidate : (c d : Candidate) → c.near ≡ d.near → c.far.0 ≡ d.far.0 → c.place ≡ d.place → c ≡ d
-same_candidate c d e f g = λ i. record { near = e i; far = record { 0 = f i }; place = g i }
+same_candidate : (c d : Candidate) → c.near ≡ d.near → c.far.0 ≡ d.far.0 → c.row_number ≡ d.row_number → c ≡ d
+same_candidate c d e f g = λ i. record { near = e i; far = record { 0 = f i }; row_number = g i }
 
 pub candidate_cmp_exact : (c d : Candidate) → candidate_cmp c d ≡ Equal → c ≡ d
 candidate_cmp_exact c d e =
     let first = then_equal (nat_cmp c.near d.near) _ e in
-    let second = then_equal (nat_cmp d.far.0 c.far.0) (nat_cmp c.place d.place) first.1 in
-    same_candidate c d (nat_exact c.near d.near first.0) (sym (nat_exact d.far.0 c.far.0 second.0)) (nat_exact c.place d.place second.1)
+    let second = then_equal (nat_cmp d.far.0 c.far.0) (nat_cmp c.row_number d.row_number) first.1 in
+    same_candidate c d (nat_exact c.near d.near first.0) (sym (nat_exact d.far.0 c.far.0 second.0)) (nat_exact c.row_number d.row_number second.1)
 
 -- what the order says of two candidates
-candidate_less : (c d : Candidate) → candidate_cmp c d ≡ Less → (c.near < d.near) ⊎ ((c.near ≡ d.near) × ((d.far.0 < c.far.0) ⊎ ((c.far.0 ≡ d.far.0) × (c.place < d.place))))
-candidate_less c d e = elim (then_less (nat_cmp c.near d.near) (ordering_then (nat_cmp d.far.0 c.far.0) (nat_cmp c.place d.place)) e) [
+candidate_less : (c d : Candidate) → candidate_cmp c d ≡ Less → (c.near < d.near) ⊎ ((c.near ≡ d.near) × ((d.far.0 < c.far.0) ⊎ ((c.far.0 ≡ d.far.0) × (c.row_number < d.row_number))))
+candidate_less c d e = elim (then_less (nat_cmp c.near d.near) (ordering_then (nat_cmp d.far.0 c.far.0) (nat_cmp c.row_number d.row_number)) e) [
   | inl h ↦ inl (nat_less c.near d.near h)
   | inr h ↦ inr (
     nat_exact c.near d.near h.0,
-    elim (then_less (nat_cmp d.far.0 c.far.0) (nat_cmp c.place d.place) h.1) [
+    elim (then_less (nat_cmp d.far.0 c.far.0) (nat_cmp c.row_number d.row_number) h.1) [
       | inl g ↦ inl (nat_less d.far.0 c.far.0 g)
-      | inr g ↦ inr (sym (nat_exact d.far.0 c.far.0 g.0), nat_less c.place d.place g.1)
+      | inr g ↦ inr (sym (nat_exact d.far.0 c.far.0 g.0), nat_less c.row_number d.row_number g.1)
     ],
   )
 ]
@@ -143,10 +143,10 @@ AreCandidatesOf-from_sort mirror targets sorted bag =
     record {
       of_target = λ k short.
           let own = all k nobody short in
-          (own.target, ap (λ n. get_or targets n None) (ap (λ (c : Candidate). c.place) own.is ∙ none_more own.at) ∙ own.has, ap (λ (c : Candidate). extent_of_candidate c) own.is);
+          (own.target, ap (λ n. get_or targets n None) (ap (λ (c : Candidate). c.row_number) own.is ∙ none_more own.at) ∙ own.has, ap (λ (c : Candidate). extent_of_candidate c) own.is);
       each = λ i t has.
           let there = Contains-permutation (candidates_from mirror 0 targets) sorted (candidate_of (facing mirror t) (0 + i)) bag (listed mirror 0 targets i t has) in
-          (there.0, there.1, ap (λ (c : Candidate). c.place) (get_or_default sorted there.0 nobody (candidate_of (facing mirror t) (0 + i)) there.1 ∙ there.2) ∙ none_more i);
+          (there.0, there.1, ap (λ (c : Candidate). c.row_number) (get_or_default sorted there.0 nobody (candidate_of (facing mirror t) (0 + i)) there.1 ∙ there.2) ∙ none_more i);
     }
   where
     none_more : (n : ℕ) → 0 + n ≡ n

@@ -1,4 +1,4 @@
--- The places that stay, as a function: they are the one list that the rules ask for.
+-- The numbers of the rows that stay, as a function: they are the one list that the rules ask for.
 use Rattle.std.proofs.Common.{◌≡◌, ℕ, zero, suc, ◌+◌, ◌<◌, ◌≤◌, inl, inr, ◌↔◌, Bool, false, List, [], ◌∷◌, length, get_or, sym, ap, subst, ◌∙◌, arith, Option, Some, None, Contains}
 use Rattle.std.specs.List.{range_with_len}
 use Rattle.std.specs.List.Sorted.{IsPermutation}
@@ -9,9 +9,9 @@ use Rattle.aql_base.specs.Sorting.{sorted_by}
 use Rattle.aql_base.specs.SortingLaws.{SameBag-sorted_by, IsSorted-sorted_by}
 use Rattle.span_token.specs.Extents.{Extent}
 use Rattle.span_token.specs.RisingLists.{same_rising, Contains-range, in_range}
-use Rattle.span_sets.specs.Candidates.{candidates_from, place_of, near_of, far_of, AreSorted, AreCandidatesOf}
+use Rattle.span_sets.specs.Candidates.{candidates_from, row_number_of, near_of, far_of, AreSorted, AreCandidatesOf}
 use Rattle.span_sets.specs.Consolidation.{HasTarget, ComesBefore, Allows, Stays, IsKept}
-use Rattle.span_sets.specs.KeptPlaces.{does_stay, kept_after, kept_places}
+use Rattle.span_sets.specs.KeptRows.{does_stay, kept_after, kept_numbers}
 use Rattle.span_sets.specs.declared.candidate.Candidate.{Candidate}
 use Rattle.span_sets.specs.declared.policy.Policy.{Policy}
 use Rattle.span_sets.specs.declared.policy.Policy.TheVariants.{ContainedWithin, NotContainedWithin, ContainsButNotEqual, ExactMatch, LeftToRight}
@@ -25,7 +25,7 @@ few i [] = omega arith
 few i (None ∷ targets) = omega (arith, few (i + 1) targets)
 few i (Some t ∷ targets) = omega (arith, few (i + 1) targets)
 
--- what a policy allows goes by the kept places that come before
+-- what a policy allows goes by the kept rows that come before
 allows_alike : (policy : Policy) (targets : List (Option Extent)) (a b : List ℕ) (i : ℕ) (t : Extent) → ((j : ℕ) (u : Extent) → HasTarget targets j u → ComesBefore j u i t → Contains b j → Contains a j) → Allows policy targets a i t → Allows policy targets b i t
 allows_alike ContainedWithin targets a b i t agree h = h
 allows_alike NotContainedWithin targets a b i t agree h = h
@@ -52,14 +52,14 @@ module _ (policy : Policy) (targets : List (Option Extent)) where
   not_many : length sorted ≤ length targets
   not_many = omega (arith, few 0 targets, length_permutation (candidates_from false 0 targets) sorted bag)
 
-  ends_are : (k : ℕ) (t : Extent) → k < length sorted → HasTarget targets (place_of sorted k) t → (near_of sorted k ≡ t.begin) × (far_of sorted k ≡ t.end)
+  ends_are : (k : ℕ) (t : Extent) → k < length sorted → HasTarget targets (row_number_of sorted k) t → (near_of sorted k ≡ t.begin) × (far_of sorted k ≡ t.end)
   ends_are k t short has =
       let own = known.of_target k short in
       let same : own.0 ≡ t = some_is own.0 t (sym own.1 ∙ has) in
       (ap (λ (e : Extent). e.begin) (own.2 ∙ same), ap (λ (e : Extent). e.end) (own.2 ∙ same))
 
   -- what comes before stands before among the candidates
-  stands_before : (m k : ℕ) (u t : Extent) → m < length sorted → k < length sorted → HasTarget targets (place_of sorted m) u → HasTarget targets (place_of sorted k) t → ComesBefore (place_of sorted m) u (place_of sorted k) t → m < k
+  stands_before : (m k : ℕ) (u t : Extent) → m < length sorted → k < length sorted → HasTarget targets (row_number_of sorted m) u → HasTarget targets (row_number_of sorted k) t → ComesBefore (row_number_of sorted m) u (row_number_of sorted k) t → m < k
   stands_before m k u t short_m short_k has_u has_t comes =
       let a = ends_are m u short_m has_u in
       let b = ends_are k t short_k has_t in
@@ -69,27 +69,27 @@ module _ (policy : Policy) (targets : List (Option Extent)) where
           | inl g ↦ absurd (omega (arith, up k m g short_m, a, b, comes))
           | inr g ↦
               let e : m ≡ k = omega (arith, h, g) in
-              absurd (omega (arith, ap (near_of sorted) e, ap (far_of sorted) e, ap (place_of sorted) e, a, b, comes))
+              absurd (omega (arith, ap (near_of sorted) e, ap (far_of sorted) e, ap (row_number_of sorted) e, a, b, comes))
         ]
       ]
 
-  -- b has exactly the places that stay where those of a stay
+  -- b has exactly the rows that stay where those of a stay
   abbrev Follows : List ℕ → List ℕ → Type 0
   Follows a b = (i : ℕ) → Contains b i ↔ Stays policy targets a i
 
   -- each of the first n candidates that is in a is in b
   abbrev AreInUpTo : ℕ → List ℕ → List ℕ → Type 0
-  AreInUpTo n a b = (k : ℕ) → k < n → k < length sorted → Contains a (place_of sorted k) → Contains b (place_of sorted k)
+  AreInUpTo n a b = (k : ℕ) → k < n → k < length sorted → Contains a (row_number_of sorted k) → Contains b (row_number_of sorted k)
 
   -- lists that agree on n candidates are followed by ones that agree on one more
   one_more : (n : ℕ) (a b a' b' : List ℕ) → Follows a a' → Follows b b' → AreInUpTo n b a → AreInUpTo (suc n) a' b'
   one_more n a b a' b' of_a of_b agree k low short at =
-      (of_b (place_of sorted k)).1 (stays_alike a b (place_of sorted k) (λ t has j u other comes in_b.
+      (of_b (row_number_of sorted k)).1 (stays_alike a b (row_number_of sorted k) (λ t has j u other comes in_b.
       let m = known.each j u other in
-      let there : HasTarget targets (place_of sorted m.0) u = ap (λ n. get_or targets n None) m.2 ∙ other in
-      let before : m.0 < k = stands_before m.0 k u t m.1 short there has (subst (λ n. ComesBefore n u (place_of sorted k) t) (sym m.2) comes) in
+      let there : HasTarget targets (row_number_of sorted m.0) u = ap (λ n. get_or targets n None) m.2 ∙ other in
+      let before : m.0 < k = stands_before m.0 k u t m.1 short there has (subst (λ n. ComesBefore n u (row_number_of sorted k) t) (sym m.2) comes) in
       subst (λ n. Contains a n) m.2 (agree m.0 (omega (arith, before, low)) m.1 (subst (λ n. Contains b n) (sym m.2) in_b)))
-      ((of_a (place_of sorted k)).0 at))
+      ((of_a (row_number_of sorted k)).0 at))
 
   -- one list follows itself
   up_to : (a b : List ℕ) → Follows a a → Follows b b → (n : ℕ) → AreInUpTo n a b × AreInUpTo n b a
@@ -137,9 +137,9 @@ module _ (policy : Policy) (targets : List (Option Extent)) where
       let k = known.each j u has in
       subst (λ n. Contains b n) k.2 (agree k.0 (omega (arith, k.1, not_many)) k.1 (subst (λ n. Contains a n) (sym k.2) at))
 
-  pub IsKept-kept_places : IsKept policy targets (kept_places policy targets)
-  unfolding kept_places
-  IsKept-kept_places =
+  pub IsKept-kept_numbers : IsKept policy targets (kept_numbers policy targets)
+  unfolding kept_numbers
+  IsKept-kept_numbers =
       let n : ℕ = length targets in
       let a : List ℕ = kept_after n policy targets in
       let b : List ℕ = kept_after (suc n) policy targets in

@@ -11,41 +11,41 @@ use Rattle.span_token.specs.Extents.{Extent}
 use Rattle.span_sets.specs.Consolidation.{in_row_order, rows_in_order, targets_in_order}
 
 module _ (target : List Datum → Option Extent) where
-  abbrev placed : List Datum → List Datum × Option Extent
-  placed row = (row, target row)
+  abbrev with_target : List Datum → List Datum × Option Extent
+  with_target row = (row, target row)
 
-  zip-map : (rows : List (List Datum)) → zip rows (map target rows) ≡ map placed rows
+  zip-map : (rows : List (List Datum)) → zip rows (map target rows) ≡ map with_target rows
   zip-map [] = refl
-  zip-map (row ∷ rows) = ap (λ ps. placed row ∷ ps) (zip-map rows)
+  zip-map (row ∷ rows) = ap (λ ps. with_target row ∷ ps) (zip-map rows)
 
-  put_in_order-placed : (row : List Datum) (rows : List (List Datum)) → put_in_order (λ p q. row_cmp p.0 q.0) (placed row) (map placed rows) ≡ map placed (put_in_order row_cmp row rows)
+  put_in_order-with_target : (row : List Datum) (rows : List (List Datum)) → put_in_order (λ p q. row_cmp p.0 q.0) (with_target row) (map with_target rows) ≡ map with_target (put_in_order row_cmp row rows)
   unfolding put_in_order
-  put_in_order-placed row [] = refl
-  put_in_order-placed row (r ∷ rows) = by (is_lt (row_cmp r row)) (put_in_order-placed row rows)
+  put_in_order-with_target row [] = refl
+  put_in_order-with_target row (r ∷ rows) = by (is_lt (row_cmp r row)) (put_in_order-with_target row rows)
     where
-      by : (b : Bool) → put_in_order (λ p q. row_cmp p.0 q.0) (placed row) (map placed rows) ≡ map placed (put_in_order row_cmp row rows)
-          → cond b (placed r ∷ put_in_order (λ p q. row_cmp p.0 q.0) (placed row) (map placed rows)) (placed row ∷ placed r ∷ map placed rows) ≡ map placed (cond b (r ∷ put_in_order row_cmp row rows) (row ∷ r ∷ rows))
-      by true h = ap (λ ps. placed r ∷ ps) h
+      by : (b : Bool) → put_in_order (λ p q. row_cmp p.0 q.0) (with_target row) (map with_target rows) ≡ map with_target (put_in_order row_cmp row rows)
+          → cond b (with_target r ∷ put_in_order (λ p q. row_cmp p.0 q.0) (with_target row) (map with_target rows)) (with_target row ∷ with_target r ∷ map with_target rows) ≡ map with_target (cond b (r ∷ put_in_order row_cmp row rows) (row ∷ r ∷ rows))
+      by true h = ap (λ ps. with_target r ∷ ps) h
       by false h = refl
 
-  sorted_by-placed : (rows : List (List Datum)) → sorted_by (λ p q. row_cmp p.0 q.0) (map placed rows) ≡ map placed (sorted_by row_cmp rows)
+  sorted_by-with_target : (rows : List (List Datum)) → sorted_by (λ p q. row_cmp p.0 q.0) (map with_target rows) ≡ map with_target (sorted_by row_cmp rows)
   unfolding sorted_by
-  sorted_by-placed [] = refl
-  sorted_by-placed (row ∷ rows) = ap (λ ps. put_in_order (λ p q. row_cmp p.0 q.0) (placed row) ps) (sorted_by-placed rows) ∙ put_in_order-placed row (sorted_by row_cmp rows)
+  sorted_by-with_target [] = refl
+  sorted_by-with_target (row ∷ rows) = ap (λ ps. put_in_order (λ p q. row_cmp p.0 q.0) (with_target row) ps) (sorted_by-with_target rows) ∙ put_in_order-with_target row (sorted_by row_cmp rows)
 
-  pub in_row_order-map : (rows : List (List Datum)) → in_row_order rows (map target rows) ≡ map placed (sorted rows)
+  pub in_row_order-map : (rows : List (List Datum)) → in_row_order rows (map target rows) ≡ map with_target (sorted rows)
   unfolding in_row_order sorted
-  in_row_order-map rows = ap (λ ps. sorted_by (λ p q. row_cmp p.0 q.0) ps) (zip-map rows) ∙ sorted_by-placed rows
+  in_row_order-map rows = ap (λ ps. sorted_by (λ p q. row_cmp p.0 q.0) ps) (zip-map rows) ∙ sorted_by-with_target rows
 
-  first_of : (rows : List (List Datum)) → map (λ p. p.0) (map placed rows) ≡ rows
+  first_of : (rows : List (List Datum)) → map (λ p. p.0) (map with_target rows) ≡ rows
   first_of [] = refl
   first_of (row ∷ rows) = ap (λ rs. row ∷ rs) (first_of rows)
 
-  second_of : (rows : List (List Datum)) → map (λ p. p.1) (map placed rows) ≡ map target rows
+  second_of : (rows : List (List Datum)) → map (λ p. p.1) (map with_target rows) ≡ map target rows
   second_of [] = refl
   second_of (row ∷ rows) = ap (λ ts. target row ∷ ts) (second_of rows)
 
-  -- the places are those of the sorted rows
+  -- the rows are the sorted rows
   pub rows_in_order-map : (rows : List (List Datum)) → rows_in_order rows (map target rows) ≡ sorted rows
   rows_in_order-map rows = ap (λ ps. map (λ (p : List Datum × Option Extent). p.0) ps) (in_row_order-map rows) ∙ first_of (sorted rows)
 
@@ -53,6 +53,6 @@ module _ (target : List Datum → Option Extent) where
   pub targets_in_order-map : (rows : List (List Datum)) → targets_in_order rows (map target rows) ≡ map target (sorted rows)
   targets_in_order-map rows = ap (λ ps. map (λ (p : List Datum × Option Extent). p.1) ps) (in_row_order-map rows) ∙ second_of (sorted rows)
 
-  -- so equal bags have equal places
+  -- so equal bags have one order
   pub in_row_order-SameBag : (xs ys : List (List Datum)) → SameBag xs ys → in_row_order xs (map target xs) ≡ in_row_order ys (map target ys)
-  in_row_order-SameBag xs ys bag = in_row_order-map xs ∙ ap (λ rows. map placed rows) (sorted-SameBag xs ys bag) ∙ sym (in_row_order-map ys)
+  in_row_order-SameBag xs ys bag = in_row_order-map xs ∙ ap (λ rows. map with_target rows) (sorted-SameBag xs ys bag) ∙ sym (in_row_order-map ys)

@@ -8,7 +8,7 @@ use Rattle.span_token.specs.Extents.{Extent}
 use Rattle.span_token.specs.Relations.{Overlaps, ContainsExtent, do_overlap, does_contain}
 use Rattle.span_token.specs.ExtentLaws.{same_extent}
 use Rattle.span_sets.specs.Consolidation.{HasTarget, IsOutermost, IsInnermost, IsFirstOfEqual, ComesBefore, IsFree, Allows, Stays}
-use Rattle.span_sets.specs.KeptPlaces.{each_passes, are_same, is_outermost, is_innermost, is_first_of_equal, does_come_before, is_free, does_allow, does_stay}
+use Rattle.span_sets.specs.KeptRows.{each_passes, are_same, is_outermost, is_innermost, is_first_of_equal, does_come_before, is_free, does_allow, does_stay}
 use Rattle.span_sets.specs.declared.policy.Policy.{Policy}
 use Rattle.span_sets.specs.declared.policy.Policy.TheVariants.{ContainedWithin, NotContainedWithin, ContainsButNotEqual, ExactMatch, LeftToRight}
 

@@ -12,12 +12,12 @@ use Rattle.std.proofs.lemmas.List.{get_or-map, length-map}
 use Rattle.std.proofs.lemmas.List.Elements.{All-map}
 use Rattle.std.proofs.lemmas.List.Kept.{AllPairs-cons, IsStrictlySortedBy-dedup, Any-dedup, Contains-from_dedup}
 use Rattle.std.proofs.lemmas.List.Sorted.{IsPermutation-sym, Contains-permutation}
-use Rattle.span_token.specs.Extents.{Extent, extent_of}
+use Rattle.span_token.specs.Extents.{Extent, extent_of, nth_extent}
 use Rattle.span_token.specs.declared.span.Span.{Span}
 use Rattle.span_token.specs.ExtentLaws.{same_extent}
 use Rattle.span_token.specs.RisingLists.{AllPairs-head, AllPairs-tail, Contains-here, Contains-there, Contains-cases}
 use Rattle.span_token.specs.SpanOrder.{IsBefore}
-use Rattle.span_sets.specs.Blocks.{AreDistinct, span_at}
+use Rattle.span_sets.specs.Blocks.{AreDistinct}
 use Rattle.span_sets.specs.LawProofs.CandidateLists.{pairs, nat_exact, nat_less, then_less, then_equal}
 
 -- spans by begin and then by end
@@ -89,14 +89,14 @@ AreDistinct-from_dedup E ties given sorted bag up =
     }
 
 -- a span begins at or before its end
-pub spans_ordered : (spans : List Span) (k : ℕ) → (span_at (map extent_of spans) k).begin ≤ (span_at (map extent_of spans) k).end
+pub spans_ordered : (spans : List Span) (k : ℕ) → (nth_extent (map extent_of spans) k).begin ≤ (nth_extent (map extent_of spans) k).end
 spans_ordered [] k = omega arith
 spans_ordered (s ∷ spans) zero = s.ordered
 spans_ordered (s ∷ spans) (suc k) = spans_ordered spans k
 
 -- spans that rise begin at or after the ones before
-pub begins_rise : (spans : List Extent) → AllPairs IsBefore spans → (i j : ℕ) → i ≤ j → j < length spans → (span_at spans i).begin ≤ (span_at spans j).begin
+pub begins_rise : (spans : List Extent) → AllPairs IsBefore spans → (i j : ℕ) → i ≤ j → j < length spans → (nth_extent spans i).begin ≤ (nth_extent spans j).begin
 begins_rise spans up i j h short = elim (cases_lt i j) [
   | inl g ↦ omega (arith, up i j (record { begin = 0; end = 0 }) g short)
-  | inr g ↦ let e : i ≡ j = omega arith in omega (arith, ap (λ (n : ℕ). (span_at spans n).begin) e)
+  | inr g ↦ let e : i ≡ j = omega arith in omega (arith, ap (λ (n : ℕ). (nth_extent spans n).begin) e)
 ]

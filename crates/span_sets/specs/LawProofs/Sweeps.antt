@@ -6,25 +6,25 @@ use Rattle.std.proofs.Math.Seq.{get_or-append_seam}
 use Rattle.span_token.specs.Extents.{Extent}
 use Rattle.span_token.specs.Relations.{Overlaps}
 use Rattle.span_token.specs.ExtentLaws.{same_extent}
-use Rattle.span_sets.specs.Candidates.{near_of, far_of, place_of, extent_at, AreSorted, AreAlike, IsNew, IsUncovered, IsClear}
+use Rattle.span_sets.specs.Candidates.{near_of, far_of, row_number_of, extent_at, AreSorted, AreAlike, IsNew, IsUncovered, IsClear}
 use Rattle.span_sets.specs.declared.candidate.Candidate.{Candidate}
 
--- one candidate's ends and place come before another's
+-- one candidate's ends and row number come before another's
 abbrev pub IsLess : List Candidate → ℕ → ℕ → Type 0
-IsLess sorted j k = (near_of sorted j < near_of sorted k) ⊎ ((near_of sorted j ≡ near_of sorted k) × ((far_of sorted k < far_of sorted j) ⊎ ((far_of sorted j ≡ far_of sorted k) × (place_of sorted j < place_of sorted k))))
+IsLess sorted j k = (near_of sorted j < near_of sorted k) ⊎ ((near_of sorted j ≡ near_of sorted k) × ((far_of sorted k < far_of sorted j) ⊎ ((far_of sorted j ≡ far_of sorted k) × (row_number_of sorted j < row_number_of sorted k))))
 
 module _ (sorted : List Candidate) where
-  abbrev pub itself : (j k : ℕ) → j ≡ k → (near_of sorted j ≡ near_of sorted k) × (far_of sorted j ≡ far_of sorted k) × (place_of sorted j ≡ place_of sorted k)
-  itself j k e = (ap (near_of sorted) e, ap (far_of sorted) e, ap (place_of sorted) e)
+  abbrev pub itself : (j k : ℕ) → j ≡ k → (near_of sorted j ≡ near_of sorted k) × (far_of sorted j ≡ far_of sorted k) × (row_number_of sorted j ≡ row_number_of sorted k)
+  itself j k e = (ap (near_of sorted) e, ap (far_of sorted) e, ap (row_number_of sorted) e)
 
   not_itself : (j k : ℕ) → j ≡ k → IsLess sorted j k → ⊥
-  not_itself j k e less = omega (arith, less, ap (near_of sorted) e, ap (far_of sorted) e, ap (place_of sorted) e)
+  not_itself j k e less = omega (arith, less, ap (near_of sorted) e, ap (far_of sorted) e, ap (row_number_of sorted) e)
 
   asym : (j k : ℕ) → IsLess sorted j k → IsLess sorted k j → ⊥
   asym j k less more = omega (arith, less, more)
 
 module _ (sorted : List Candidate) (up : AreSorted sorted) where
-  -- what comes before by its ends and place has the lesser number
+  -- what comes before by its ends and row number has the lesser number
   pub before : (j k : ℕ) → j < length sorted → k < length sorted → IsLess sorted j k → j < k
   before j k in_j in_k less =
       elim (cases_lt j k) [

@@ -5,11 +5,11 @@ use Rattle.dict_match.specs.Dictionaries.{folded}
 use Rattle.dict_match.proofs.WalkLemmas.{key, known-number, more-numbers}
 use Rattle.dict_match.proofs.ahead.number_at.Goals as goal
 
-pub returns-then-place-len-clause-number : goal.returns-then-place-len-clause-number
-returns-then-place-len-clause-number c =
+pub returns-then-nth-len-clause-number : goal.returns-then-nth-len-clause-number
+returns-then-nth-len-clause-number c =
     let ahead = c.args.ahead.now in
     let le = c.requires.next.«from» in
-    let known : c.args.i - ahead.begin < length ahead.numbers.items = omega (arith, c.if-place-len.true, c.len.ensures, ahead.numbers.ok.0) in
+    let known : c.args.i - ahead.begin < length ahead.numbers.items = omega (arith, c.if-nth-len.true, c.len.ensures, ahead.numbers.ok.0) in
     c.index.ensures ∙ known-number c.args.trie.now c.args.tokens.now ahead c.args.i c.index.result.now c.requires.numbers le known c.requires.there
 
 pub returns : goal.returns
@@ -18,7 +18,7 @@ returns c =
     let words = ahead.numbers.items in
     let le = c.requires.next.«from» in
     let to = c.requires.next.to in
-    let next : c.args.i ≡ ahead.begin + length words = omega (arith, c.if-place-len.false, c.len.ensures, le, to, ahead.numbers.ok.0) in
+    let next : c.args.i ≡ ahead.begin + length words = omega (arith, c.if-nth-len.false, c.len.ensures, le, to, ahead.numbers.ok.0) in
     let is : c.in_ok-word.word ≡ get_by_text c.args.trie.now.words (key c.args.tokens.now c.args.i) =
     c.in_ok-word.ensures ∙ ap (λ (t : List ℕ). get_by_text c.args.trie.now.words (folded t)) c.text.ensures.text in
     record {

@@ -52,8 +52,8 @@ returns-then-has_end-clause-found c = λ dicts the made at.
     let some : step trie c.loop-last.node (key tokens last) ≡ Some next = step-of trie c.loop-last.node (key tokens last) c.in_ok-word.word (Some next) c.in_ok-word.ensures.number c.in-Some.ensures in
     let r : Reaches trie (put_dicts 0 dicts) next (map folded texts) = subst (λ (p : List (List ℕ)). Reaches trie (put_dicts 0 dicts) next p) (sym (keys-more tokens first last le lt))
     (Reaches-edge trie (put_dicts 0 dicts) c.loop-last.node next (key tokens last) (keys tokens first last) some (c.loop-last.invariant.reached (put_dicts 0 dicts) made)) in
-    let place : next < length trie.ends.items = node-there trie (put_dicts 0 dicts) next (map folded texts) r in
-    let seen : c.as_slice.result.now ≡ get_or trie.ends.items next [] = c.as_slice.ensures ∙ c.index.ensures ∙ get_or_default trie.ends.items next c.index.result.now [] place in
+    let within : next < length trie.ends.items = node-there trie (put_dicts 0 dicts) next (map folded texts) r in
+    let seen : c.as_slice.result.now ≡ get_or trie.ends.items next [] = c.as_slice.ensures ∙ c.index.ensures ∙ get_or_default trie.ends.items next c.index.result.now [] within in
     let has : HasEndFor c.args.dict texts (get_or trie.ends.items next []) = subst (λ (es : List End). HasEndFor c.args.dict texts es) seen (c.has_end.ensures.0 c.if-has_end.true) in (
       λ _. some-here trie dicts tokens c.args.dict the at next first last r le lt has,
       λ _. refl,
@@ -73,8 +73,8 @@ loop-last-preserved c =
     let reached : (put : List (List (List ℕ) × End)) → Reaches trie put 0 [] → Reaches trie put next (map folded texts) =
     λ put made. subst (λ (p : List (List ℕ)). Reaches trie put next p) (sym (keys-more tokens first last le lt))
     (Reaches-edge trie put c.loop-last.node next (key tokens last) (keys tokens first last) some (c.loop-last.invariant.reached put made)) in
-    let place : next < length trie.ends.items = node-there trie c.requires.trie.put next (map folded texts) (reached c.requires.trie.put c.requires.trie.made) in
-    let seen : c.as_slice.result.now ≡ get_or trie.ends.items next [] = c.as_slice.ensures ∙ c.index.ensures ∙ get_or_default trie.ends.items next c.index.result.now [] place in
+    let within : next < length trie.ends.items = node-there trie c.requires.trie.put next (map folded texts) (reached c.requires.trie.put c.requires.trie.made) in
+    let seen : c.as_slice.result.now ≡ get_or trie.ends.items next [] = c.as_slice.ensures ∙ c.index.ensures ∙ get_or_default trie.ends.items next c.index.result.now [] within in
     record {
       reached = reached;
       none = λ dicts the made at.

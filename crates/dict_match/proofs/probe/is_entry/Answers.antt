@@ -51,8 +51,8 @@ returns c = λ dicts the made at.
     let some : 0 < all = omega (arith, c.if-len-eq0.false, c.len.ensures.len) in
     let long : 0 < length texts = omega (arith, length-run tokens 0 all (omega arith) (omega arith), some) in
     let r : Reaches trie (put_dicts 0 dicts) node (map folded texts) = subst (λ (n : ℕ). Reaches trie (put_dicts 0 dicts) node (keys tokens 0 n)) last (c.loop-last.invariant (put_dicts 0 dicts) made) in
-    let place : node < length trie.ends.items = node-there trie (put_dicts 0 dicts) node (map folded texts) r in
-    let seen : c.as_slice.result.now ≡ get_or trie.ends.items node [] = c.as_slice.ensures ∙ c.index.ensures ∙ get_or_default trie.ends.items node c.index.result.now [] place in
+    let within : node < length trie.ends.items = node-there trie (put_dicts 0 dicts) node (map folded texts) r in
+    let seen : c.as_slice.result.now ≡ get_or trie.ends.items node [] = c.as_slice.ensures ∙ c.index.ensures ∙ get_or_default trie.ends.items node c.index.result.now [] within in
     let told : IsTrue c.has_end.result ↔ HasEndFor c.args.dict texts (get_or trie.ends.items node []) =
     subst (λ (es : List End). IsTrue c.has_end.result ↔ HasEndFor c.args.dict texts es) seen
     (subst (λ (n : ℕ). IsTrue c.has_end.result ↔ HasEndFor c.args.dict (run_texts tokens 0 n) c.as_slice.result.now) c.len-2.ensures.len c.has_end.ensures) in (

@@ -66,8 +66,8 @@ loop-last-preserved c =
     let reached : (put : List (List (List ℕ) × End)) → Reaches trie put 0 [] → Reaches trie put next (map folded texts) =
     λ put made. subst (λ (p : List (List ℕ)). Reaches trie put next p) (sym (keys-more tokens first last le lt))
     (Reaches-edge trie put c.loop-last.node next (key tokens last) (keys tokens first last) some (c.loop-last.invariant.reached put made)) in
-    let place : next < length trie.ends.items = node-there trie c.requires.trie.put next (map folded texts) (reached c.requires.trie.put c.requires.trie.made) in
-    let seen : c.as_slice.result.now ≡ get_or trie.ends.items next [] = c.as_slice.ensures ∙ c.index.ensures ∙ get_or_default trie.ends.items next c.index.result.now [] place in
+    let within : next < length trie.ends.items = node-there trie c.requires.trie.put next (map folded texts) (reached c.requires.trie.put c.requires.trie.made) in
+    let seen : c.as_slice.result.now ≡ get_or trie.ends.items next [] = c.as_slice.ensures ∙ c.index.ensures ∙ get_or_default trie.ends.items next c.index.result.now [] within in
     let final : last + 1 - 1 ≡ last = omega arith in
     record {
       reached = reached;

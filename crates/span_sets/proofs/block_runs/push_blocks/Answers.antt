@@ -3,14 +3,14 @@ use Rattle.std.proofs.lemmas.Bool.{cases_lt}
 use Rattle.std.specs.List.{range_with_len}
 use Rattle.std.proofs.lemmas.List.{map_push, get_or-map}
 use Rattle.std.proofs.lemmas.List.FromFn.{map-range_with_len_more}
-use Rattle.span_token.specs.Extents.{Extent, extent_of}
+use Rattle.span_token.specs.Extents.{Extent, extent_of, nth_extent}
 use Rattle.span_token.specs.declared.span.Span.{Span}
 use Rattle.span_token.specs.ExtentLaws.{same_extent}
-use Rattle.span_sets.specs.Blocks.{span_at, block_of}
+use Rattle.span_sets.specs.Blocks.{block_of}
 use Rattle.span_sets.proofs.block_runs.push_blocks.Goals as goal
 
--- what is read at a place
-read_at : (spans : List Span) (k : ℕ) (read : Span) → k < length spans → span_at (map extent_of spans) k ≡ extent_of (get_or spans k read)
+-- what is read by a number
+read_at : (spans : List Span) (k : ℕ) (read : Span) → k < length spans → nth_extent (map extent_of spans) k ≡ extent_of (get_or spans k read)
 read_at spans k read short = get_or-map extent_of spans k read (record { begin = 0; end = 0 }) short
 
 pub invariant_of-push : goal.invariant_of-push

@@ -4,10 +4,10 @@ use Rattle.std.proofs.lemmas.List.{length-map}
 use Rattle.std.proofs.lemmas.List.Elements.{All-append, All-map, All-contains_itself}
 use Rattle.std.specs.List.{range_with_len}
 use Rattle.span_token.specs.Documents.{Doc, LiesIn}
-use Rattle.span_token.specs.Extents.{Extent, extent_of}
+use Rattle.span_token.specs.Extents.{Extent, extent_of, nth_extent}
 use Rattle.span_token.specs.declared.span.Span.{Span}
 use Rattle.span_token.specs.RisingLists.{in_range}
-use Rattle.span_sets.specs.Blocks.{IsNeighbour, span_at, block_of}
+use Rattle.span_sets.specs.Blocks.{IsNeighbour, block_of}
 use Rattle.span_sets.specs.LawProofs.BlockLists.{HasRuns, HasRuns-next, HasRuns-all}
 use Rattle.span_sets.proofs.RowOrders.{All-shown}
 use Rattle.span_sets.specs.LawProofs.SpanLists.{spans_ordered, begins_rise}
@@ -43,7 +43,7 @@ loop-i-preserved c =
     let i : ℕ = c.loop-i.i in
     let end : ℕ = c.chain_end-end.result in
     let after : max c.loop-i.end (i + 1) ≤ end = omega (arith, c.chain_end-end.ensures.after, c.max.ensures) in
-    let chained : (k : ℕ) → i ≤ k → k + 1 < end → IsNext (span_at spans k) (span_at spans (k + 1)) = λ k g h. elim (cases_lt (k + 1) (max c.loop-i.end (i + 1))) [
+    let chained : (k : ℕ) → i ≤ k → k + 1 < end → IsNext (nth_extent spans k) (nth_extent spans (k + 1)) = λ k g h. elim (cases_lt (k + 1) (max c.loop-i.end (i + 1))) [
       | inl near ↦ c.loop-i.invariant.chained k g (omega (arith, near, g))
       | inr far ↦ c.chain_end-end.ensures.chained k (omega (arith, far, c.max.ensures)) h
     ] in

@@ -26,7 +26,7 @@ loop-i-preserved c =
     let before : List (Option Extent) = map target_of (take c.loop-i.i c.args.targets.now) in
     elim c.match-target.branch [
       | in-Some+in_ok-push w ↦
-          ap (λ (found : Vec Candidate Global). found.items) w.found-is ∙ w.in_ok-push.ensures.items ∙ ap₂ (λ (cs : List Candidate) (x : Candidate). cs ++ x ∷ []) c.loop-i.invariant w.at_place.ensures
+          ap (λ (found : Vec Candidate Global). found.items) w.found-is ∙ w.in_ok-push.ensures.items ∙ ap₂ (λ (cs : List Candidate) (x : Candidate). cs ++ x ∷ []) c.loop-i.invariant w.candidate_for.ensures
           ∙ sym (candidates_from-some c.args.mirror 0 c.loop-i.i before (extent_of w.in-Some.span) (so_far c.args.targets.now c.loop-i.i short))
           ∙ ap (λ ts. candidates_from c.args.mirror 0 ts) (sym (taken c.args.targets.now c.loop-i.i c.index-targets-i.result (Some w.in-Some.span) short c.index-targets-i.is w.in-Some.is))
       | in_default w ↦

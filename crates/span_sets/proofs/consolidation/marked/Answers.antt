@@ -4,7 +4,7 @@ use Rattle.std.proofs.lemmas.List.Elements.{All-push}
 use Rattle.std.proofs.lemmas.Iterator.Adapters.{YieldsList-from_vec}
 use Rattle.std.proofs.lemmas.Iterator.Consumers.{YieldsList-turn}
 use Rattle.row_values.specs.Datums.{Datum}
-use Rattle.span_sets.specs.declared.placed.PlacedRow.{PlacedRow}
+use Rattle.span_sets.specs.declared.numbered.NumberedRow.{NumberedRow}
 use Rattle.span_sets.proofs.PickedRows.{grown}
 use Rattle.span_sets.proofs.consolidation.marked.Goals as goal
 
@@ -13,21 +13,21 @@ All-if : (P : List Datum → Type 0) (mark : Bool) (out : List (List Datum)) (ro
 All-if P true out row all one = All-push P out row all one
 All-if P false out row all one = all
 
-pub loop-placed-preserved : goal.loop-placed-preserved
-loop-placed-preserved c =
-    let order : List PlacedRow = c.args.order.items in
-    let n : ℕ = c.loop-placed.i in
-    let f : ℕ → List Datum = λ k. get_or (map (λ (q : PlacedRow). q.row) order) k [] in
+pub loop-numbered-preserved : goal.loop-numbered-preserved
+loop-numbered-preserved c =
+    let order : List NumberedRow = c.args.order.items in
+    let n : ℕ = c.loop-numbered.i in
+    let f : ℕ → List Datum = λ k. get_or (map (λ (q : NumberedRow). q.row) order) k [] in
     let p : ℕ → Bool = λ k. get_or c.args.marks.now k false in
-    let turn = YieldsList-turn (YieldsList-from_vec {s = c.into_iter-placed-iterator.result} order (cc) (cc)) c.loop-placed.yielded c.loop-placed.placed-iterator c.loop-placed.yielded_by c.next.result c.next.new.self c.in-Some.placed c.in-Some.is c.next.ensures.steps in
-    let placed : PlacedRow = c.in-Some.placed in
-    let short : n < length order = omega (arith, turn.0, c.loop-placed.invariant.counted) in
-    let at : placed ≡ get_or order n placed = turn.1 ∙ ap (λ (k : ℕ). get_or order k placed) (sym c.loop-placed.invariant.counted) in
-    let row : placed.row ≡ f n = ap (λ (q : PlacedRow). q.row) at ∙ sym (get_or-map (λ (q : PlacedRow). q.row) order n placed [] short) in
-    let wide : length placed.row ≡ c.args.width = ap (λ (q : PlacedRow). length q.row) at ∙ c.requires.width n placed short in
+    let turn = YieldsList-turn (YieldsList-from_vec {s = c.into_iter-numbered-iterator.result} order (cc) (cc)) c.loop-numbered.yielded c.loop-numbered.numbered-iterator c.loop-numbered.yielded_by c.next.result c.next.new.self c.in-Some.numbered c.in-Some.is c.next.ensures.steps in
+    let numbered : NumberedRow = c.in-Some.numbered in
+    let short : n < length order = omega (arith, turn.0, c.loop-numbered.invariant.counted) in
+    let at : numbered ≡ get_or order n numbered = turn.1 ∙ ap (λ (k : ℕ). get_or order k numbered) (sym c.loop-numbered.invariant.counted) in
+    let row : numbered.row ≡ f n = ap (λ (q : NumberedRow). q.row) at ∙ sym (get_or-map (λ (q : NumberedRow). q.row) order n numbered [] short) in
+    let wide : length numbered.row ≡ c.args.width = ap (λ (q : NumberedRow). length q.row) at ∙ c.requires.width n numbered short in
     record {
-      counted = omega (arith, c.loop-placed.invariant.counted, length_push c.loop-placed.yielded placed);
-      few = omega (arith, c.in_ok-push_marked.ensures.len, c.loop-placed.invariant.few);
-      picked = c.in_ok-push_marked.ensures.rows ∙ grown f p n c.loop-placed.out.items placed.row (p n) c.loop-placed.invariant.picked refl row;
-      width = rw (c.in_ok-push_marked.ensures.rows) (All-if (λ r. length r ≡ c.args.width) (p n) c.loop-placed.out.items placed.row c.loop-placed.invariant.width wide);
+      counted = omega (arith, c.loop-numbered.invariant.counted, length_push c.loop-numbered.yielded numbered);
+      few = omega (arith, c.in_ok-push_marked.ensures.len, c.loop-numbered.invariant.few);
+      picked = c.in_ok-push_marked.ensures.rows ∙ grown f p n c.loop-numbered.out.items numbered.row (p n) c.loop-numbered.invariant.picked refl row;
+      width = rw (c.in_ok-push_marked.ensures.rows) (All-if (λ r. length r ≡ c.args.width) (p n) c.loop-numbered.out.items numbered.row c.loop-numbered.invariant.width wide);
     }

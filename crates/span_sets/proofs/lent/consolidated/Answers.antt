@@ -2,7 +2,7 @@ use Rattle.std.proofs.Common.{◌≡◌, ℕ, List, [], length, map, get_or, sym
 use Rattle.std.proofs.lemmas.List.{length-map}
 use Rattle.row_values.specs.Datums.{Datum}
 use Rattle.row_values.specs.Rows.{RowList}
-use Rattle.span_sets.specs.Candidates.{marked_places}
+use Rattle.span_sets.specs.Candidates.{marked_numbers}
 use Rattle.span_sets.specs.Consolidation.{target_of}
 use Rattle.span_sets.proofs.InOrder.{sorted_long, sorted_all, IsConsolidated-picked, consolidated-sorted}
 use Rattle.span_sets.proofs.RowOrders.{All-shown}
@@ -22,9 +22,9 @@ copies-requires-clause-width c =
 pub returns-clause-kept : goal.returns-clause-kept
 returns-clause-kept c =
     let rows : RowList = c.args.rows.now in
-    IsConsolidated-picked c.args.policy rows.width rows.rows (map target_of c.args.targets.now) (marked_places c.in_ok-marks.marks.items) c.in_ok-out.out
+    IsConsolidated-picked c.args.policy rows.width rows.rows (map target_of c.args.targets.now) (marked_numbers c.in_ok-marks.marks.items) c.in_ok-out.out
     (length-map c.args.targets.now target_of ∙ c.requires.one_target_each) c.in_ok-marks.ensures.kept
-    (c.in_ok-out.ensures ∙ (λ i. record { width = c.width-width.ensures.width i; rows = map (λ k. get_or (c.requires.order i) k []) (marked_places (c.as_slice.ensures.value i)) }))
+    (c.in_ok-out.ensures ∙ (λ i. record { width = c.width-width.ensures.width i; rows = map (λ k. get_or (c.requires.order i) k []) (marked_numbers (c.as_slice.ensures.value i)) }))
 
 pub returns-clause-list : goal.returns-clause-list
 returns-clause-list c = λ target is. consolidated-sorted c.args.policy c.args.rows.now.width c.args.rows.now.rows (map target_of c.args.targets.now) target c.in_ok-out.out (returns-clause-kept c) is

@@ -5,7 +5,7 @@ use Rattle.std.proofs.lemmas.List.{get_or-map, length-map, get_or-set_same, get_
 use Rattle.std.proofs.Math.ListN.{get_or-map as get_or-map_at}
 use Rattle.span_token.specs.declared.span.Span.{Span}
 use Rattle.span_sets.specs.Consolidation.{target_of}
-use Rattle.span_sets.specs.Candidates.{place_of}
+use Rattle.span_sets.specs.Candidates.{row_number_of}
 use Rattle.span_sets.specs.LawProofs.Keeping.{in_targets, not_both}
 use Rattle.span_sets.proofs.stays.marks.Goals as goal
 
@@ -24,27 +24,27 @@ loop-i-init c = record {
 pub index_mut-requires : goal.index_mut-requires
 index_mut-requires c =
     let own = c.requires.known c.loop-i.i c.loop-i-test.true in
-    omega (arith, in_targets (map target_of c.args.targets.now) (place_of c.args.sorted.now c.loop-i.i) own.0 own.1, length-map c.args.targets.now target_of, c.loop-i.invariant.number)
+    omega (arith, in_targets (map target_of c.args.targets.now) (row_number_of c.args.sorted.now c.loop-i.i) own.0 own.1, length-map c.args.targets.now target_of, c.loop-i.invariant.number)
 
 pub loop-i-preserved : goal.loop-i-preserved
 loop-i-preserved c =
     let sorted = c.args.sorted.now in
     let i = c.loop-i.i in
     let own = c.requires.known i c.loop-i-test.true in
-    let place : ℕ = place_of sorted i in
-    let there : place < length c.loop-i.marks.items = omega (arith, in_targets (map target_of c.args.targets.now) place own.0 own.1, length-map c.args.targets.now target_of, c.loop-i.invariant.number) in
+    let row_number : ℕ = row_number_of sorted i in
+    let there : row_number < length c.loop-i.marks.items = omega (arith, in_targets (map target_of c.args.targets.now) row_number own.0 own.1, length-map c.args.targets.now target_of, c.loop-i.invariant.number) in
     record {
       number = c.loop-i.invariant.number;
       null = λ j short null.
-          let other : j ≢ place = λ e. not_both (get_or (map target_of c.args.targets.now) place None) own.0 (ap (λ n. get_or (map target_of c.args.targets.now) n None) (sym e) ∙ null) own.1 in
-          get_or-set_other c.loop-i.marks.items place j (get_or c.args.answers.now i false) false other ∙ c.loop-i.invariant.null j short null;
+          let other : j ≢ row_number = λ e. not_both (get_or (map target_of c.args.targets.now) row_number None) own.0 (ap (λ n. get_or (map target_of c.args.targets.now) n None) (sym e) ∙ null) own.1 in
+          get_or-set_other c.loop-i.marks.items row_number j (get_or c.args.answers.now i false) false other ∙ c.loop-i.invariant.null j short null;
       answered = λ k h. elim (cases_lt k i) [
         | inl g ↦
-            let other : place_of sorted k ≢ place = c.requires.apart k i g c.loop-i-test.true in
-            get_or-set_other c.loop-i.marks.items place (place_of sorted k) (get_or c.args.answers.now i false) false other ∙ c.loop-i.invariant.answered k g
+            let other : row_number_of sorted k ≢ row_number = c.requires.apart k i g c.loop-i-test.true in
+            get_or-set_other c.loop-i.marks.items row_number (row_number_of sorted k) (get_or c.args.answers.now i false) false other ∙ c.loop-i.invariant.answered k g
         | inr g ↦
             let same : i ≡ k = omega arith in
-            subst (λ n. get_or (set c.loop-i.marks.items place (get_or c.args.answers.now i false)) (place_of sorted n) false ≡ get_or c.args.answers.now n false) same
-            (get_or-set_same c.loop-i.marks.items place (get_or c.args.answers.now i false) false there)
+            subst (λ n. get_or (set c.loop-i.marks.items row_number (get_or c.args.answers.now i false)) (row_number_of sorted n) false ≡ get_or c.args.answers.now n false) same
+            (get_or-set_same c.loop-i.marks.items row_number (get_or c.args.answers.now i false) false there)
       ];
     }

@@ -5,7 +5,7 @@ use Rattle.span_token.specs.Sweeps.{is_of_token}
 use Rattle.span_token.specs.declared.classes.Class.TheVariants.{Space}
 use Rattle.span_token.specs.declared.span.Span.{Span}
 use Rattle.span_token.specs.declared.sweep.Sweep.{Sweep}
-use Rattle.span_token.proofs.SweepLemmas.{swept_none, swept_all, swept_as, found_with}
+use Rattle.span_token.proofs.SweepLemmas.{IsSwept-none, IsSwept-all, IsSwept-as, found_with}
 use Rattle.span_token.proofs.ascii.ascii_tokens.Goals.{then-is_in_token+in_ok-push, else-is_in_token}
 use Rattle.span_token.proofs.ascii.ascii_tokens.Goals as goal
 
@@ -16,7 +16,7 @@ loop-at-init c =
     record {
       within = omega arith;
       begun = omega (arith, start);
-      swept = swept_as c.args.bytes.now [] _ 0 0 _ Space _ (sym (ap (map extent_of) c.new-spans.ensures.items)) (sym start) (sym last) (swept_none c.args.bytes.now);
+      tokens = IsSwept-as c.args.bytes.now [] _ 0 0 _ Space _ (sym (ap (map extent_of) c.new-spans.ensures.items)) (sym start) (sym last) (IsSwept-none c.args.bytes.now);
     }
 
 pub loop-at-preserved : goal.loop-at-preserved
@@ -26,7 +26,7 @@ loop-at-preserved c =
     record {
       within = omega arith;
       begun = c.sweep_stretch-count.ensures.begun;
-      swept = swept_as c.args.bytes.now _ _ c.min-past.result _ _ _ _ (sym found) refl refl (c.sweep_stretch-count.ensures.swept _ c.loop-at.invariant.swept);
+      tokens = IsSwept-as c.args.bytes.now _ _ c.min-past.result _ _ _ _ (sym found) refl refl (c.sweep_stretch-count.ensures.tokens _ c.loop-at.invariant.tokens);
     }
 
 pub returns : goal.returns
@@ -34,7 +34,7 @@ returns c =
     let cs = c.args.bytes.now in
     let found = map extent_of c.loop-at.spans.items in
     let begin = c.loop-at.sweep.begin in
-    let all = swept_all cs (map extent_of c.loop-at.spans.items) c.loop-at.at c.loop-at.sweep.begin c.loop-at.sweep.last (omega (arith, c.loop-at.invariant.within, c.loop-at-test.false)) c.loop-at.invariant.swept in
+    let all = IsSwept-all cs (map extent_of c.loop-at.spans.items) c.loop-at.at c.loop-at.sweep.begin c.loop-at.sweep.last (omega (arith, c.loop-at.invariant.within, c.loop-at-test.false)) c.loop-at.invariant.tokens in
     elim c.if-is_in_token.branch [
       | then-is_in_token+in_ok-push w ↦ let is : is_of_token c.loop-at.sweep.last ≡ true = sym c.is_in_token.ensures ∙ w.if-is_in_token.true in
           ap (λ (v : Vec Span Global). map extent_of v.items) w.spans-is ∙ ap (map extent_of) w.in_ok-push.ensures.items ∙ map-append extent_of c.loop-at.spans.items _

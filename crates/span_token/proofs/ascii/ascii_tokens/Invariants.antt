@@ -7,7 +7,7 @@ abbrev pub invariant-loop-at : goal.invariant-loop-at
 invariant-loop-at l = record {
   within : l.at ≤ length l.bytes;
   begun : l.sweep.begin ≤ l.at;
-  swept : IsSwept l.bytes (map extent_of l.spans.items) l.at l.sweep.begin l.sweep.last;
+  tokens : IsSwept l.bytes (map extent_of l.spans.items) l.at l.sweep.begin l.sweep.last;
 }
 
 abbrev pub decreases-loop-at : goal.decreases-loop-at

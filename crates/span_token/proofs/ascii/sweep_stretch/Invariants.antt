@@ -7,6 +7,6 @@ abbrev pub invariant-loop-at : goal.invariant-loop-at
 invariant-loop-at l = record {
   room : l.count + l.fn.from ≤ l.at;
   begun : l.sweep.begin ≤ l.at;
-  swept : (found : List Extent) → IsSwept l.bytes found l.from l.fn.sweep.begin l.fn.sweep.last →
+  tokens : (found : List Extent) → IsSwept l.bytes found l.from l.fn.sweep.begin l.fn.sweep.last →
       IsSwept l.bytes (found ++ map extent_of (take l.count l.ended)) l.at l.sweep.begin l.sweep.last;
 }

@@ -7,10 +7,10 @@ use Rattle.span_token.proofs.decoded.decoded_tokens.Given as goal
 
 abbrev pub invariant-loop-offsets : goal.invariant-loop-offsets
 invariant-loop-offsets l = record {
-  point : IsAtPoint l.text l.swept;
-  swept : IsSwept (chars l.text) (map extent_of l.spans.items) l.swept.at.place l.swept.sweep.begin l.swept.sweep.last;
+  point : IsAtPoint l.text l.text_sweep;
+  tokens : IsSwept (chars l.text) (map extent_of l.spans.items) l.text_sweep.at.place l.text_sweep.sweep.begin l.text_sweep.sweep.last;
   pairs : ArePairs l.text (map extent_of l.spans.items) l.offsets.items;
 }
 
 abbrev pub decreases-loop-offsets : goal.decreases-loop-offsets
-decreases-loop-offsets l = length (chars l.text) - l.swept.at.place
+decreases-loop-offsets l = length (chars l.text) - l.text_sweep.at.place

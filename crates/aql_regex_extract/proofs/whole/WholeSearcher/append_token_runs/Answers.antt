@@ -23,8 +23,8 @@ returns-clause-runs c =
     let pattern = c.self.inside.pattern.now in
     let source = extent_of c.args.source in
     let finds = c.self.invariant in
-    let are = rows_by-source pattern c.args.low c.args.high c.args.groups.now c.in_ok-tokens.tokens.doc c.args.doc.now c.in_ok-tokens.tokens.tokens source
-    c.in_ok-tokens.ensures.doc c.in_ok-tokens.ensures.tokens in
+    let are = rows_by-source pattern c.args.low c.args.high c.args.groups.now c.of-tokens.result.doc c.args.doc.now c.of-tokens.result.tokens source
+    c.of-tokens.ensures.doc c.of-tokens.ensures.tokens in
     let rows = are ∙ ap (λ (p : List ℕ). run_rows p c.args.doc.now source c.args.low c.args.high c.args.groups.now) c.self.view_is in (
       c.in_ok-number.ensures.number pattern finds ∙ ap length rows,
       c.in_ok-number.ensures.runs pattern finds

@@ -17,5 +17,5 @@ returns c =
     (λ i dict at.
     let kept = ap (λ (ds : List DictUse). slice_get ds i) c.self.view_is ∙ at in
     subst (λ (es : List Extent). OnOk r (extents_for i (map dict_and_extent new) ≡ extents_for i (map dict_and_extent old) ++ es))
-    (ap₂ (matches_among dict) c.in_ok-tokens.ensures.doc c.in_ok-tokens.ensures.tokens)
+    (ap₂ (matches_among dict) c.of-tokens.ensures.doc c.of-tokens.ensures.tokens)
     (c.push_matches.ensures.matches c.self.inside.dicts i dict c.self.invariant.tree kept))

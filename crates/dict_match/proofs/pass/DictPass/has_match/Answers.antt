@@ -12,8 +12,8 @@ pub returns-clause-meaning : goal.returns-clause-meaning
 returns-clause-meaning c = λ the at.
     let kept = ap (λ (ds : List DictUse). slice_get ds c.args.dict) c.self.view_is ∙ at in
     let told = c.has_run.ensures c.self.inside.dicts the c.self.invariant.tree kept in
-    subst (λ (d : Doc). IfOk c.has_run.result (λ found. IsTrue found ↔ (e : Extent) × IsMatch the d (tokens_in c.args.doc.now (extent_of c.args.source)) e)) c.in_ok-tokens.ensures.doc
-    (subst (λ (ts : List Extent). IfOk c.has_run.result (λ found. IsTrue found ↔ (e : Extent) × IsMatch the c.in_ok-tokens.tokens.doc ts e)) c.in_ok-tokens.ensures.tokens told)
+    subst (λ (d : Doc). IfOk c.has_run.result (λ found. IsTrue found ↔ (e : Extent) × IsMatch the d (tokens_in c.args.doc.now (extent_of c.args.source)) e)) c.of-tokens.ensures.doc
+    (subst (λ (ts : List Extent). IfOk c.has_run.result (λ found. IsTrue found ↔ (e : Extent) × IsMatch the c.of-tokens.result.doc ts e)) c.of-tokens.ensures.tokens told)
 
 pub returns-clause-test : goal.returns-clause-test
 returns-clause-test c = λ the at.

@@ -21,7 +21,7 @@ put_rows-requires c =
     let made = number-of_rows c.in_ok-rows.rows.items c.len.result c.in_ok-rows.ensures in
     let number : length c.args.self.now ≡ length c.in_ok-rows.rows.items = sym (made ∙ c.len.ensures ∙ ap (λ (ds : List DictUse). length ds) c.self.view_is) in
     All-same (λ (m : ℕ × Extent). m.0 < length c.in_ok-rows.rows.items) _ _ given
-    (subst (λ (n : ℕ). All (λ (m : ℕ × Extent). m.0 < n) a.added) number a.places)
+    (subst (λ (n : ℕ). All (λ (m : ℕ × Extent). m.0 < n) a.added) number a.below)
 
 pub returns-clause-matches : goal.returns-clause-matches
 returns-clause-matches c =

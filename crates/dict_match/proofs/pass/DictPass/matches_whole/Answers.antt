@@ -10,7 +10,7 @@ use Rattle.dict_match.proofs.pass.DictPass.matches_whole.Goals as goal
 pub returns-clause-meaning : goal.returns-clause-meaning
 returns-clause-meaning c = λ the at.
     let kept = ap (λ (ds : List DictUse). slice_get ds c.args.dict) c.self.view_is ∙ at in
-    subst (λ (texts : List (List ℕ)). IfOk c.is_entry.result (λ found. IsTrue found ↔ AgreesWith the texts)) (ap₂ texts_of c.in_ok-tokens.ensures.doc c.in_ok-tokens.ensures.tokens)
+    subst (λ (texts : List (List ℕ)). IfOk c.is_entry.result (λ found. IsTrue found ↔ AgreesWith the texts)) (ap₂ texts_of c.of-tokens.ensures.doc c.of-tokens.ensures.tokens)
     (c.is_entry.ensures c.self.inside.dicts the c.self.invariant.tree kept)
 
 pub returns-clause-test : goal.returns-clause-test

@@ -17,7 +17,7 @@ loop-entry-preserved c =
     let item = c.as_str.result.now in
     let same = c.as_slice-entry-items.ensures in
     let lt : i < length entries = omega (arith, c.loop-entry-test.true, ap length same) in
-    let put_one = put_entry c.args.place c.args.dict.now.exact in
+    let put_one = put_entry c.args.dict_number c.args.dict.now.exact in
     let is : item ≡ slice_index_or entries i item =
     c.as_str.ensures ∙ c.entry-item.is ∙ ap (λ (es : List (List ℕ)). slice_index_or es i c.entry-item.result) same ∙ get_or_default entries i c.entry-item.result item lt in
     let next : take i entries ++ item ∷ [] ≡ take (i + 1) entries = ap (λ (x : List ℕ). take i entries ++ x ∷ []) is ∙ sym (take_more entries i item lt) in

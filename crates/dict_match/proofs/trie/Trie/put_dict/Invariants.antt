@@ -7,6 +7,6 @@ use Rattle.dict_match.proofs.trie.Trie.put_dict.Given as goal
 
 abbrev pub invariant-loop-entry : goal.invariant-loop-entry
 invariant-loop-entry l = record {
-  tree : (put : List (List (List ℕ) × End)) → Reaches l.fn.self put 0 [] → Reaches l.self (put ++ flat_map (put_entry l.place l.dict.exact) (take l.entry-index l.dict.entries)) 0 [];
+  tree : (put : List (List (List ℕ) × End)) → Reaches l.fn.self put 0 [] → Reaches l.self (put ++ flat_map (put_entry l.dict_number l.dict.exact) (take l.entry-index l.dict.entries)) 0 [];
   most : HaveAtMost l.most (take l.entry-index l.dict.entries);
 }

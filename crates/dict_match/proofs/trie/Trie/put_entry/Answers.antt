@@ -15,12 +15,12 @@ put_end-requires c = record { there = node-there c.node_of.new.self c.requires.t
 
 pub returns-clause-put : goal.returns-clause-put
 returns-clause-put c = λ put r.
-    let texts : List (List ℕ) = texts_of c.in_ok-tokens.tokens.doc c.in_ok-tokens.tokens.tokens in
-    let doc = c.in_ok-tokens.ensures.doc ∙ c.in_ok-doc.ensures.document in
+    let texts : List (List ℕ) = texts_of c.all-tokens.result.doc c.all-tokens.result.tokens in
+    let doc = c.all-tokens.ensures.doc ∙ c.in_ok-doc.ensures.document in
     let same : texts ≡ entry_texts c.args.entry.now =
-    ap₂ texts_of doc (c.in_ok-tokens.ensures.tokens ∙ ap (λ (d : Doc). tokens_of (characters d)) c.in_ok-doc.ensures.document) in
+    ap₂ texts_of doc (c.all-tokens.ensures.tokens ∙ ap (λ (d : Doc). tokens_of (characters d)) c.in_ok-doc.ensures.document) in
     let some : 0 < length (entry_texts c.args.entry.now) =
-    omega (arith, ap length same, length-map c.in_ok-tokens.tokens.tokens (text_in c.in_ok-tokens.tokens.doc), c.len-number.ensures.len, c.if-number-eq0.false) in
+    omega (arith, ap length same, length-map c.all-tokens.result.tokens (text_in c.all-tokens.result.doc), c.len-number.ensures.len, c.if-number-eq0.false) in
     let spelled : c.if-exact.spelled ≡ cond c.args.exact (Some (entry_texts c.args.entry.now)) None = elim c.if-exact.branch [
       | then-exact+in_ok-spelled_out w ↦
           w.spelled-is ∙ ap Some (w.in_ok-spelled_out.ensures ∙ same) ∙ ap (λ (b : Bool). cond b (Some (entry_texts c.args.entry.now)) None) (sym w.if-exact.true)
@@ -34,7 +34,7 @@ returns-clause-put c = λ put r.
 
 pub returns-clause-number : goal.returns-clause-number
 returns-clause-number c =
-    let doc = c.in_ok-tokens.ensures.doc ∙ c.in_ok-doc.ensures.document in
-    let same : texts_of c.in_ok-tokens.tokens.doc c.in_ok-tokens.tokens.tokens ≡ entry_texts c.args.entry.now =
-    ap₂ texts_of doc (c.in_ok-tokens.ensures.tokens ∙ ap (λ (d : Doc). tokens_of (characters d)) c.in_ok-doc.ensures.document) in
-    omega (arith, ap length same, length-map c.in_ok-tokens.tokens.tokens (text_in c.in_ok-tokens.tokens.doc), c.len-number.ensures.len)
+    let doc = c.all-tokens.ensures.doc ∙ c.in_ok-doc.ensures.document in
+    let same : texts_of c.all-tokens.result.doc c.all-tokens.result.tokens ≡ entry_texts c.args.entry.now =
+    ap₂ texts_of doc (c.all-tokens.ensures.tokens ∙ ap (λ (d : Doc). tokens_of (characters d)) c.in_ok-doc.ensures.document) in
+    omega (arith, ap length same, length-map c.all-tokens.result.tokens (text_in c.all-tokens.result.doc), c.len-number.ensures.len)

@@ -9,7 +9,7 @@ invariant_of-result c = record {
   ordered = omega arith;
   in_list = omega (arith, c.token_count-past.ensures.count);
   fits = omega arith;
-  offsets = c.in_ok-offsets.ensures.offsets;
+  offsets = c.kept_bytes-offsets.ensures;
 }
 
 pub returns-clause-tokens : goal.returns-clause-tokens

@@ -1,19 +1,15 @@
 use Rattle.std.proofs.Common.{sym, subst, arith}
 use Rattle.span_token.specs.Extents.{extent_of}
 use Rattle.span_token.specs.SourceTokens.{HoldsTokens}
-use Rattle.span_token.proofs.SourceLemmas.{source_ahead, source_holds}
+use Rattle.span_token.proofs.SourceLemmas.{source_holds}
 use Rattle.span_token.proofs.source_tokens.SourceTokens.of.Goals as goal
-
-pub token_bytes-requires-clause-ahead : goal.token_bytes-requires-clause-ahead
-token_bytes-requires-clause-ahead c =
-    λ k low high. source_ahead c.args.doc.now (extent_of c.args.source) c.tokens_in-first.result.0 c.tokens_in-first.result.1 k c.tokens_in-first.ensures.tokens low high
 
 pub invariant_of-result : goal.invariant_of-result
 invariant_of-result c = record {
   ordered = c.tokens_in-first.ensures.tokens.ordered;
   in_list = c.tokens_in-first.ensures.tokens.in_list;
   fits = omega arith;
-  offsets = c.in_ok-offsets.ensures.offsets;
+  offsets = c.kept_bytes-offsets.ensures;
 }
 
 pub returns-clause-tokens : goal.returns-clause-tokens

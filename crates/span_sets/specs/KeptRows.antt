@@ -1,4 +1,4 @@
--- Consolidation as a function: the rules of the policies as tests, and the places that stay.
+-- Consolidation as a function: the rules of the policies as tests, and the rows that stay.
 use Rattle.std.specs.Prelude.{ℕ, zero, suc, Bool, true, not, ◌&&◌, ◌||◌, ◌==◌, nat_lt, List, [], ◌∷◌, Option, Some, None, length, map, filter, slice_index_or}
 use Rattle.std.specs.List.{list_any, range_with_len}
 use Rattle.row_values.specs.Datums.{Datum}
@@ -8,7 +8,7 @@ use Rattle.span_sets.specs.Consolidation.{rows_in_order, targets_in_order}
 use Rattle.span_sets.specs.declared.policy.Policy.{Policy}
 use Rattle.span_sets.specs.declared.policy.Policy.TheVariants.{ContainedWithin, NotContainedWithin, ContainsButNotEqual, ExactMatch, LeftToRight}
 
--- each target that isn't Null passes the test, with its place; the first place is i
+-- each target that isn't Null passes the test, with its row's number; the first row's is i
 abbrev pub each_passes : (ℕ → Extent → Bool) → ℕ → List (Option Extent) → Bool
 each_passes passes i [] = true
 each_passes passes i (None ∷ targets) = each_passes passes (suc i) targets
@@ -46,23 +46,23 @@ does_allow NotContainedWithin targets kept i t = is_innermost targets t && is_fi
 does_allow ExactMatch targets kept i t = is_first_of_equal targets i t
 does_allow LeftToRight targets kept i t = is_free targets kept i t
 
--- a place stays where its target is Null, or the policy allows it
+-- row i stays where its target is Null, or the policy allows it
 abbrev pub does_stay : Policy → List (Option Extent) → List ℕ → ℕ → Option Extent → Bool
 does_stay policy targets kept i None = true
 does_stay policy targets kept i (Some t) = does_allow policy targets kept i t
 
--- the places that stay where those of the round before stay, from no places on
+-- the numbers of the rows that stay where those of the round before stay, from no rows on
 abbrev pub kept_after : ℕ → Policy → List (Option Extent) → List ℕ
 kept_after zero policy targets = []
 kept_after (suc n) policy targets = filter (λ i. does_stay policy targets (kept_after n policy targets) i (slice_index_or targets i None)) (range_with_len 0 (length targets))
 
--- the places that stay: a round more than there are places settles each
-unfoldable pub kept_places : Policy → List (Option Extent) → List ℕ
-kept_places policy targets = kept_after (suc (length targets)) policy targets
+-- the numbers of the rows that stay: a round more than there are rows settles each
+unfoldable pub kept_numbers : Policy → List (Option Extent) → List ℕ
+kept_numbers policy targets = kept_after (suc (length targets)) policy targets
 
 -- the rows that stay, in row order, each with its target
 unfoldable pub consolidated_by : Policy → List (List Datum) → List (Option Extent) → List (List Datum)
-consolidated_by policy rows targets = map (λ i. slice_index_or (rows_in_order rows targets) i []) (kept_places policy (targets_in_order rows targets))
+consolidated_by policy rows targets = map (λ i. slice_index_or (rows_in_order rows targets) i []) (kept_numbers policy (targets_in_order rows targets))
 
 -- the rows that stay, where the target is told by the row
 abbrev pub consolidated : Policy → (List Datum → Option Extent) → List (List Datum) → List (List Datum)
