@@ -27,6 +27,50 @@ pub struct SyntaxFault {
     pub line: u32,
 }
 
+/// The statements whose tokens these are, or the first statement that has no tree.
+///
+/// A statement is the tokens up to and with a `;`; tokens after the last `;` are one more, which has
+/// no tree. `module` is the first statement or none. Each `at` is the number, from 0, of its node's
+/// first token. No statement may nest deeper than `MAX_NESTING`, 64, as `measure` counts.
+///
+/// `SyntaxFault` comes exactly where some statement has no tree, and names the first one. The only
+/// other refusal is want of memory.
+///
+/// The trees have the shape that the grammar asks for, and `print` takes each of them where the tokens
+/// are those that `lex` gives of a text.
+///
+/// Meaning: `AreTokensOf` and `placed_in`, `aql_syntax`'s `specs/Programs.antt`; `IsFaultOf` and
+/// `IsDecided`, `specs/Faults.antt`; the grammar, `aql_syntax`'s `specs/Grammar`; `IsFormed`, its
+/// `specs/Shapes.antt`.
+pub fn parse(alloc: Global, toks: &[Tok]) -> Result<Vec<Statement>, Failure<SyntaxFault>>
+    requires few { length toks.now < 2 ^ 32 }
+    requires nested { NestsWithin nesting_limit (kinds_of toks.now) }
+    ensures trees { IfOk result (λ trees. AreTokensOf (kinds_of toks.now) (map statement_of trees.items)) }
+    ensures placed { IfOk result (λ trees. placed_in (kinds_of toks.now) (map statement_of trees.items)
+        ≡ map statement_of trees.items) }
+    ensures only { (others : List Tree) → AreTokensOf (kinds_of toks.now) others → MatchResult result
+        (λ trees. map statement_of trees.items ≡ placed_in (kinds_of toks.now) others)
+        (λ failure. failure ≡ Failure.OutOfMemory) }
+    ensures fault { IfErr result (IsFaultOf (map token_of toks.now)) }
+    ensures decided { IsDecided (map token_of toks.now) }
+    ensures formed { IfOk result (λ trees. All IsFormed (map statement_of trees.items)) }
+    ensures printable { (text : List ℕ) → IsReading text (map token_of toks.now) → IfOk result (λ trees. All (λ tree. CanBePrinted (statement_of tree)) trees.items) }
+{
+    let mut trees = Vec::new(alloc);
+    let mut rest = toks;
+    while let [first, ..] = rest {
+        let at = toks.len() - rest.len();
+        let len = first_run(rest).len;
+        let tree = match whole(alloc, &rest[..len], at as u32, trees.len()) {
+            Ok(tree) => tree,
+            Err(refused) => return Err(named(refused, trees.len() as u32 + 1, first.line)),
+        };
+        trees.push(tree)?;
+        rest = &rest[len..];
+    }
+    Ok(trees)
+}
+
 fn is_module(tree: &Statement) -> bool
     ensures { result ≡ is_module (statement_of tree.now) }
 {
@@ -72,48 +116,4 @@ fn named(refused: Refused, statement: u32, line: u32) -> Failure<SyntaxFault>
         Failure::OutOfMemory => Failure::OutOfMemory,
         Failure::Fault(NoTree) => Failure::Fault(SyntaxFault { statement, line }),
     }
-}
-
-/// The statements whose tokens these are, or the first statement that has no tree.
-///
-/// A statement is the tokens up to and with a `;`; tokens after the last `;` are one more, which has
-/// no tree. `module` is the first statement or none. Each `at` is the number, from 0, of its node's
-/// first token. No statement may nest deeper than `MAX_NESTING`, 64, as `measure` counts.
-///
-/// `SyntaxFault` comes exactly where some statement has no tree, and names the first one. The only
-/// other refusal is want of memory.
-///
-/// The trees have the shape that the grammar asks for, and `print` takes each of them where the tokens
-/// are those that `lex` gives of a text.
-///
-/// Meaning: `AreTokensOf` and `placed_in`, `aql_syntax`'s `specs/Programs.antt`; `IsFaultOf` and
-/// `IsDecided`, `specs/Faults.antt`; the grammar, `aql_syntax`'s `specs/Grammar`; `IsFormed`, its
-/// `specs/Shapes.antt`.
-pub fn parse(alloc: Global, toks: &[Tok]) -> Result<Vec<Statement>, Failure<SyntaxFault>>
-    requires few { length toks.now < 2 ^ 32 }
-    requires nested { NestsWithin nesting_limit (kinds_of toks.now) }
-    ensures trees { IfOk result (λ trees. AreTokensOf (kinds_of toks.now) (map statement_of trees.items)) }
-    ensures placed { IfOk result (λ trees. placed_in (kinds_of toks.now) (map statement_of trees.items)
-        ≡ map statement_of trees.items) }
-    ensures only { (others : List Tree) → AreTokensOf (kinds_of toks.now) others → MatchResult result
-        (λ trees. map statement_of trees.items ≡ placed_in (kinds_of toks.now) others)
-        (λ failure. failure ≡ Failure.OutOfMemory) }
-    ensures fault { IfErr result (IsFaultOf (map token_of toks.now)) }
-    ensures decided { IsDecided (map token_of toks.now) }
-    ensures formed { IfOk result (λ trees. All IsFormed (map statement_of trees.items)) }
-    ensures printable { (text : List ℕ) → IsReading text (map token_of toks.now) → IfOk result (λ trees. All (λ tree. CanBePrinted (statement_of tree)) trees.items) }
-{
-    let mut trees = Vec::new(alloc);
-    let mut rest = toks;
-    while let [first, ..] = rest {
-        let at = toks.len() - rest.len();
-        let len = first_run(rest).len;
-        let tree = match whole(alloc, &rest[..len], at as u32, trees.len()) {
-            Ok(tree) => tree,
-            Err(refused) => return Err(named(refused, trees.len() as u32 + 1, first.line)),
-        };
-        trees.push(tree)?;
-        rest = &rest[len..];
-    }
-    Ok(trees)
 }
