@@ -1,6 +1,6 @@
 //! Whole programs.
 
-ghost use Rattle.std.specs.Prelude.{◌≡◌, ◌<◌, ◌^◌, ◌+◌, ◌&&◌, ℕ, List, All, length, map, IfOk, IfErr, MatchResult};
+ghost use Rattle.std.specs.Prelude.{◌≡◌, ◌<◌, ◌^◌, ◌+◌, ◌↔◌, ℕ, List, [], All, length, map, true, IsTrue, IfOk, IfErr, MatchResult};
 ghost use Rattle.aql_lexer.specs.Kinds.{kinds_of, token_of};
 ghost use Rattle.aql_lexer.specs.Reading.{IsReading};
 ghost use Rattle.aql_syntax.specs.Trees.{Statement as Tree};
@@ -74,10 +74,7 @@ pub fn parse(alloc: Global, toks: &[Tok]) -> Result<Vec<Statement>, Failure<Synt
 fn is_module(tree: &Statement) -> bool
     ensures { result ≡ is_module (statement_of tree.now) }
 {
-    match tree {
-        Statement::Module(_) => true,
-        _ => false,
-    }
+    matches!(tree, Statement::Module(_))
 }
 
 /// Whether the statement may have so many before it.
@@ -87,13 +84,18 @@ fn may_follow(tree: &Statement, before: usize) -> bool
     before == 0 || !is_module(tree)
 }
 
-/// The statement, where nothing speaks against it.
-fn kept(tree: Statement, read_whole: bool, follows: bool) -> Result<Statement, Refused>
-    ensures { IsKept tree (read_whole && follows) result }
+/// Whether no token is left, and the statement may have so many before it.
+fn is_whole(toks: &Cursor<'_>, tree: &Statement, before: usize) -> bool
+    ensures { IsTrue result ↔ ((toks.now.kinds ≡ []) × (may_follow before (statement_of tree.now) ≡ true)) }
 {
-    (read_whole && follows)
-        .then_some(tree)
-        .ok_or(Failure::Fault(NoTree))
+    toks.is_done() && may_follow(tree, before)
+}
+
+/// The statement, where it is one.
+fn kept(tree: Statement, is_whole: bool) -> Result<Statement, Refused>
+    ensures { IsKept tree is_whole result }
+{
+    is_whole.then_some(tree).ok_or(Failure::Fault(NoTree))
 }
 
 /// The statement whose tokens are all of `run`, where `before` statements stand before it.
@@ -104,8 +106,8 @@ fn whole(alloc: Global, run: &[Tok], at: u32, before: usize) -> Result<Statement
 {
     let mut toks = Cursor::new(run, at);
     let tree = statement(alloc, MAX_NESTING, &mut toks)?;
-    let follows = may_follow(&tree, before);
-    kept(tree, toks.is_done(), follows)
+    let stands = is_whole(&toks, &tree, before);
+    kept(tree, stands)
 }
 
 /// The refusal, with the statement and the line at which it stands.
