@@ -6,6 +6,7 @@ ghost use Rattle.aql_lexer.specs.Reading.{IsReading};
 ghost use Rattle.aql_syntax.specs.Trees.{Statement as Tree};
 ghost use Rattle.aql_syntax.specs.Views.{statement_of};
 ghost use Rattle.aql_syntax.specs.Printing.{CanBePrinted};
+ghost use Rattle.aql_syntax.specs.PlacedTokens.{IsSpelled};
 ghost use Rattle.aql_syntax.specs.Programs.{AreTokensOf, placed_in};
 ghost use Rattle.aql_syntax.specs.Shapes.{IsFormed};
 ghost use Rattle.aql_parser.specs.Nesting.{NestsWithin, IsWithin, nesting_limit};
@@ -31,7 +32,8 @@ pub struct SyntaxFault {
 ///
 /// A statement is the tokens up to and with a `;`; tokens after the last `;` are one more, which has
 /// no tree. `module` is the first statement or none. Each `at` is the number, from 0, of its node's
-/// first token. No statement may nest deeper than `MAX_NESTING`, 64, as `measure` counts.
+/// first token, so the token with the number of a name, a value or a call is the one that spells it. No
+/// statement may nest deeper than `MAX_NESTING`, 64, as `measure` counts.
 ///
 /// `SyntaxFault` comes exactly where some statement has no tree, and names the first one. The only
 /// other refusal is want of memory.
@@ -39,15 +41,16 @@ pub struct SyntaxFault {
 /// The trees have the shape that the grammar asks for, and `print` takes each of them where the tokens
 /// are those that `lex` gives of a text.
 ///
-/// Meaning: `AreTokensOf` and `placed_in`, `aql_syntax`'s `specs/Programs.antt`; `IsFaultOf` and
-/// `IsDecided`, `specs/Faults.antt`; the grammar, `aql_syntax`'s `specs/Grammar`; `IsFormed`, its
-/// `specs/Shapes.antt`.
+/// Meaning: `AreTokensOf` and `placed_in`, `aql_syntax`'s `specs/Programs.antt`; `IsSpelled`, its
+/// `specs/PlacedTokens.antt`; `IsFaultOf` and `IsDecided`, `specs/Faults.antt`; the grammar, `aql_syntax`'s
+/// `specs/Grammar`; `IsFormed`, its `specs/Shapes.antt`.
 pub fn parse(alloc: Global, toks: &[Tok]) -> Result<Vec<Statement>, Failure<SyntaxFault>>
     requires few { length toks.now < 2 ^ 32 }
     requires nested { NestsWithin nesting_limit (kinds_of toks.now) }
     ensures trees { IfOk result (λ trees. AreTokensOf (kinds_of toks.now) (map statement_of trees.items)) }
     ensures placed { IfOk result (λ trees. placed_in (kinds_of toks.now) (map statement_of trees.items)
         ≡ map statement_of trees.items) }
+    ensures spelled { IfOk result (λ trees. All (IsSpelled (kinds_of toks.now)) (map statement_of trees.items)) }
     ensures only { (others : List Tree) → AreTokensOf (kinds_of toks.now) others → MatchResult result
         (λ trees. map statement_of trees.items ≡ placed_in (kinds_of toks.now) others)
         (λ failure. failure ≡ Failure.OutOfMemory) }
