@@ -11,7 +11,7 @@ use Rattle.aql_syntax.specs.Places.{placed_optional, placed_separated, placed_cl
 use Rattle.aql_syntax.specs.Trees.{Name, Number, Term, Cons, Clauses, Tail}
 use Rattle.aql_parser.specs.Readers.{◌▷◌, optional, separated, sees, sees_sign, keyword, a_string}
 use Rattle.aql_parser.specs.Reading.Expressions.{read_term}
-use Rattle.aql_parser.specs.Reading.Queries.{read_conds, read_keys, made_cons, read_cons, read_limit, made_clauses, read_clauses, made_tail, read_tail}
+use Rattle.aql_parser.specs.Reading.Queries.{read_conds, read_keys, made_cons, read_cons, read_limit, made_clauses, read_keys_and_limit, read_clauses, made_tail, read_tail}
 use Rattle.aql_parser.proofs.Rules.{Reads, takes_keyword, reads_keyword, reads_pair, reads_after, reads_mapped, reads_after_mapped, reads_where, reads_optional, reads_as}
 use Rattle.aql_parser.proofs.ListRules.{reads_separated, reads_clause}
 use Rattle.aql_parser.proofs.NameRules.{reads_string, reads_int}
@@ -82,7 +82,7 @@ module _ (d : ℕ) where
   conds_end w c conds ks rest e h = clause_ends 0 (Keyword free w) (Keyword free "and") (IsTerm free) (λ ks rest h. keyword_ends 0 w c ks rest h) conds ks rest e h
 
   pub reads_clauses : Reads (read_clauses d) (AreClauses free) placed_clauses d (Ends 5)
-  unfolding read_clauses
+  unfolding read_clauses read_keys_and_limit
   reads_clauses =
       reads_mapped d made_clauses
       (reads_pair d (reads_conds "where" (λ ks e. ends_no_where e))

@@ -1,8 +1,11 @@
 -- A loop that reads a list: what it has and what the rest of the list gives is what all of it gives.
-use Rattle.std.proofs.Common.{◌≡◌, ◌∙◌, ℕ, suc, ◌+◌, ◌-◌, ◌<◌, ◌≤◌, Bool, true, false, List, [], ◌∷◌, ◌++◌, length, Option, Some, None, map, refl, ap, sym, append_assoc, arith}
+use Rattle.std.proofs.Common.{◌≡◌, ◌∙◌, ℕ, suc, ◌+◌, ◌-◌, ◌<◌, ◌≤◌, Bool, true, false, List, [], ◌∷◌, ◌++◌, length, Option, Some, None, Ok, Err, Result, map, refl, ap, sym, append_assoc, arith}
+use Rattle.std.specs.Result.{IsErrAnd}
 use Rattle.std.proofs.lemmas.List.{map-append, append-nil}
+use Rattle.span_token.specs.declared.refusal.Failure.{Failure}
+use Rattle.span_token.specs.declared.refusal.Failure.TheVariants.{OutOfMemory, Fault}
 use Rattle.aql_lexer.specs.Kinds.{Kind}
-use Rattle.aql_parser.specs.Readers.{Left, Eats, Reader, prefixed, listed, separated, until, repeated, after}
+use Rattle.aql_parser.specs.Readers.{Left, Eats, Gives, Reader, prefixed, listed, separated, until, repeated, after}
 
 prefixed_nil : {A : Type 0} (r : Option (List A × ℕ × List Kind)) → prefixed [] r ≡ r
 prefixed_nil None = refl
@@ -46,6 +49,24 @@ module _ {A : Type 0} (separates : List Kind → Bool) (item : Reader A) where
       let zero_left : end - turn ≡ 0 = omega arith in
       rw zero_left refl
 
+  -- so the rest of the list has none
+  pub list_stops : (whole : Option (List A × ℕ × List Kind)) (front : List A) (turn end n : ℕ) (ks : List Kind) → prefixed front (listed separates item (end - turn) n ks) ≡ whole → end ≤ turn → whole ≡ None
+  list_stops whole front turn end n ks so_far done = sym so_far ∙ list_without_turns front turn end n ks done
+
+-- what is refused is passed on
+gives_refused : {X Y A B F : Type 0} (answer : Result Y (Failure F)) (refused : Failure F) (view : X → A) (seen : Y → B) (read : Option (A × ℕ × List Kind)) (whole : Option (B × ℕ × List Kind)) (mid last : Left)
+    → (read ≡ None → whole ≡ None) → Gives view read (Err refused) mid → IsErrAnd answer (λ e. e ≡ refused) → Gives seen whole answer last
+gives_refused (Ok y) refused view seen read whole mid last none gives same = absurd same
+gives_refused (Err e) OutOfMemory view seen read whole mid last none gives same = rw same tt
+gives_refused (Err e) (Fault f) view seen read whole mid last none gives same = rw same (none gives)
+
+-- an item is refused, and so is the list
+pub list_fails : {X Y A F : Type 0} (answer : Result Y (Failure F)) (refused : Failure F) (view : X → A) (seen : Y → List A) (separates : List Kind → Bool) (item : Reader A) (whole : Option (List A × ℕ × List Kind)) (front : List A) (turn end : ℕ) (left mid last : Left)
+    → prefixed front (listed separates item (end - turn) left.at left.kinds) ≡ whole → turn < end
+    → Gives view (item left.at left.kinds) (Err refused) mid → IsErrAnd answer (λ e. e ≡ refused) → Gives seen whole answer last
+list_fails answer refused view seen separates item whole front turn end left mid last so_far turn_left gives same =
+    gives_refused answer refused view seen (item left.at left.kinds) whole mid last (λ none. sym so_far ∙ list_refused separates item front turn end turn_left left.at left.kinds none) gives same
+
 -- the same of a loop that pushes what it reads, seen by `view`
 module _ {X A : Type 0} (view : X → A) (separates : List Kind → Bool) (item : Reader A) (whole : Option (List A × ℕ × List Kind))
     (old new : List X) (x : X) (turn end : ℕ) (left mid next : Left)
@@ -70,6 +91,12 @@ module _ {A : Type 0} (ends : List Kind → Bool) (item : Reader A) where
   unfolding repeated
   items_begin turns n ks all = prefixed_nil (until ends item turns n ks) ∙ ap (λ t. until ends item t n ks) all
 
+  -- no turn is left
+  pub items_stop : (whole : Option (List A × ℕ × List Kind)) (front : List A) (turn end n : ℕ) (ks : List Kind) → prefixed front (until ends item (end - turn) n ks) ≡ whole → end ≤ turn → whole ≡ None
+  items_stop whole front turn end n ks so_far done =
+      let zero_left : end - turn ≡ 0 = omega arith in
+      sym so_far ∙ rw zero_left refl
+
 module _ {X A : Type 0} (view : X → A) (ends : List Kind → Bool) (item : Reader A) (whole : Option (List A × ℕ × List Kind))
     (old : List X) (turn end : ℕ) (left : Left)
     (so_far : prefixed (map view old) (until ends item (end - turn) left.at left.kinds) ≡ whole) (turn_left : turn < end) where
@@ -92,6 +119,13 @@ module _ {X A : Type 0} (view : X → A) (ends : List Kind → Bool) (item : Rea
         let turned : prefixed (map view old) (until ends item (end - turn) left.at left.kinds) ≡ prefixed (map view old ++ view x ∷ []) (until ends item (end - (turn + 1)) next.at next.kinds) =
         rw (this_turn, goes_on, reads) (prefixed_append (map view old) (view x ∷ []) (until ends item (end - (turn + 1)) next.at next.kinds)) in
         rw seen (sym turned ∙ so_far)
+
+-- an item is refused, and so are the items
+pub items_fail : {X Y A F : Type 0} (answer : Result Y (Failure F)) (refused : Failure F) (view : X → A) (seen : Y → List A) (ends : List Kind → Bool) (item : Reader A) (whole : Option (List A × ℕ × List Kind)) (old : List X) (turn end : ℕ) (left mid last : Left)
+    → prefixed (map view old) (until ends item (end - turn) left.at left.kinds) ≡ whole → turn < end → ends left.kinds ≡ false
+    → Gives view (item left.at left.kinds) (Err refused) mid → IsErrAnd answer (λ e. e ≡ refused) → Gives seen whole answer last
+items_fail answer refused view seen ends item whole old turn end left mid last so_far turn_left goes_on gives same =
+    gives_refused answer refused view seen (item left.at left.kinds) whole mid last (items_refused view ends item whole old turn end left so_far turn_left goes_on) gives same
 
 -- the same of a loop that pushes what it reads as it is
 module _ {A : Type 0} (separates : List Kind → Bool) (item : Reader A) (whole : Option (List A × ℕ × List Kind))

@@ -1,5 +1,5 @@
 -- Programs: what their statements are read as, and that they have one list of statements or one fault.
-use Rattle.std.proofs.Common.{◌≡◌, ◌∙◌, ◌⊎◌, inl, inr, ⊎_elim, ℕ, zero, suc, ◌+◌, ◌-◌, ◌<◌, ◌≤◌, Bool, true, false, ◌&&◌, Decides, if◌then◌else◌, List, [], ◌∷◌, ◌++◌, length, map, take, drop, get_or, Option, Some, None, Ok, Err, Result, refl, ap, sym, subst, arith, append_assoc}
+use Rattle.std.proofs.Common.{◌≡◌, ◌∙◌, ◌⊎◌, inl, inr, ⊎_elim, ℕ, zero, suc, ◌+◌, ◌-◌, ◌<◌, ◌≤◌, Bool, true, false, Decides, if◌then◌else◌, List, [], ◌∷◌, ◌++◌, length, map, take, drop, get_or, Option, Some, None, Ok, Err, Result, refl, ap, sym, subst, arith, append_assoc}
 use Rattle.std.specs.Bool.{⊤}
 use Rattle.std.specs.List.{All, AllZip, sum_by}
 use Rattle.std.proofs.lemmas.Bool.{false≢true}
@@ -113,21 +113,29 @@ pub tree_refused : {F : Type 0} (d at before : ℕ) (run : List Kind) (e : Failu
 tree_refused d at before run OutOfMemory from left within is h = tt
 tree_refused d at before run (Fault f) from left within is h = none_read d at before run within (rw is at h)
 
+-- what leaves tokens over, or may not stand there, has no tree
+not_whole : (d at before : ℕ) (run : List Kind) (s : Statement) (left : Left) → IsWithin d run → read_statement d at run ≡ Some (s, left.at, left.kinds) → (left.kinds ≡ [] → may_follow before s ≡ true → ⊥) → ¬ (HasTree before run)
+not_whole d at before run s left within reads not_both = by_rest left.kinds refl
+  where
+    by_follow : left.kinds ≡ [] → (b : Bool) → may_follow before s ≡ b → ¬ (HasTree before run)
+    by_follow none true may = absurd (not_both none may)
+    by_follow none false may = late before run s (read_whole d at left.at run s within (rw none at reads)).0 may
+
+    by_rest : (rest : List Kind) → left.kinds ≡ rest → ¬ (HasTree before run)
+    by_rest [] is = by_follow is (may_follow before s) refl
+    by_rest (kind ∷ rest) is = left_over d at before left.at run left.kinds s within reads (λ e. cc)
+
 -- a statement is kept where all tokens are read and it may stand there
-pub tree_kept : {F : Type 0} (d at before : ℕ) (run : List Kind) (s : Written) (left : Left) (read_all follows : Bool) (answer : Result Written (Failure F)) → IsWithin d run → read_statement d at run ≡ Some (statement_of s, left.at, left.kinds) → Decides read_all (left.kinds ≡ []) → follows ≡ may_follow before (statement_of s) → IsKept s (read_all && follows) answer → IsTreeOf at run before answer
-tree_kept d at before run s left true true answer within reads all may h =
-    let none = all.0 refl in
+pub tree_kept : {F : Type 0} (d at before : ℕ) (run : List Kind) (s : Written) (left : Left) (is_whole : Bool) (answer : Result Written (Failure F)) → IsWithin d run → read_statement d at run ≡ Some (statement_of s, left.at, left.kinds) → Decides is_whole ((left.kinds ≡ []) × (may_follow before (statement_of s) ≡ true)) → IsKept s is_whole answer → IsTreeOf at run before answer
+tree_kept d at before run s left true answer within reads whole h =
+    let both = whole.0 refl in
+    let none : left.kinds ≡ [] = both.0 in
     let read = read_whole d at left.at run (statement_of s) within (rw none at reads) in
-    rw h (record { tokens = read.0; follows = does_follow before (statement_of s) (sym may); placed = read.1 })
-tree_kept d at before run s left true false (Err (Fault f)) within reads all may h =
-    let none = all.0 refl in
-    late before run (statement_of s) (read_whole d at left.at run (statement_of s) within (rw none at reads)).0 (sym may)
-tree_kept d at before run s left true false (Err OutOfMemory) within reads all may h = absurd h
-tree_kept d at before run s left true false (Ok t) within reads all may h = absurd h
-tree_kept d at before run s left false follows (Err (Fault f)) within reads all may h =
-    left_over d at before left.at run left.kinds (statement_of s) within reads (λ e. false≢true (all.1 e))
-tree_kept d at before run s left false follows (Err OutOfMemory) within reads all may h = absurd h
-tree_kept d at before run s left false follows (Ok t) within reads all may h = absurd h
+    rw h (record { tokens = read.0; follows = does_follow before (statement_of s) both.1; placed = read.1 })
+tree_kept d at before run s left false (Err (Fault f)) within reads whole h =
+    not_whole d at before run (statement_of s) left within reads (λ none may. false≢true (whole.1 (none, may)))
+tree_kept d at before run s left false (Err OutOfMemory) within reads whole h = absurd h
+tree_kept d at before run s left false (Ok t) within reads whole h = absurd h
 
 -- ---- runs
 

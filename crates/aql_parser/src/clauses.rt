@@ -78,7 +78,13 @@ fn consolidate(alloc: Global, depth: u32, toks: &mut Cursor<'_>) -> Result<Cons,
 {
     toks.expect_word("on")?;
     let target = expression(alloc, depth, toks)?;
-    let policy = policy(alloc, toks)?;
+    let policy = match policy(alloc, toks) {
+        Ok(policy) => policy,
+        Err(refused) => {
+            drop(target);
+            return Err(refused);
+        }
+    };
     Ok(Cons { target, policy })
 }
 
@@ -105,6 +111,21 @@ pub fn limit(toks: &mut Cursor<'_>) -> Result<Option<Number>, Refused>
     Ok(None)
 }
 
+/// `group by`, `order by` and the limit, each if it is written.
+#[tactic(auto, unfolding(crate::specs::Reading::Queries::read_keys_and_limit))]
+fn keys_and_limit(
+    alloc: Global,
+    depth: u32,
+    toks: &mut Cursor<'_>,
+) -> Result<(Vec<Ast>, Vec<Ast>, Option<Number>), Refused>
+    ensures { Gives (λ ends. (map term_of ends.0.items, (map term_of ends.1.items, option_map number_of ends.2))) (spec.read_keys_and_limit depth toks.old.at toks.old.kinds) result toks.new }
+{
+    let group = keys(alloc, depth, toks, "group")?;
+    let order = keys(alloc, depth, toks, "order")?;
+    let limit = limit(toks)?;
+    Ok((group, order, limit))
+}
+
 /// The clauses of a selection.
 #[tactic(auto, unfolding(crate::specs::Reading::Queries::read_clauses))]
 pub fn clauses(alloc: Global, depth: u32, toks: &mut Cursor<'_>) -> Result<SelectClauses, Refused>
@@ -112,9 +133,13 @@ pub fn clauses(alloc: Global, depth: u32, toks: &mut Cursor<'_>) -> Result<Selec
 {
     let conds = conds(alloc, depth, toks, "where")?;
     let cons = cons(alloc, depth, toks)?;
-    let group = keys(alloc, depth, toks, "group")?;
-    let order = keys(alloc, depth, toks, "order")?;
-    let limit = limit(toks)?;
+    let (group, order, limit) = match keys_and_limit(alloc, depth, toks) {
+        Ok(ends) => ends,
+        Err(refused) => {
+            drop(cons);
+            return Err(refused);
+        }
+    };
     Ok(SelectClauses {
         conds,
         cons,
@@ -131,6 +156,12 @@ pub fn tail(alloc: Global, depth: u32, toks: &mut Cursor<'_>) -> Result<ExtractT
 {
     let conds = conds(alloc, depth, toks, "having")?;
     let cons = cons(alloc, depth, toks)?;
-    let limit = limit(toks)?;
+    let limit = match limit(toks) {
+        Ok(limit) => limit,
+        Err(refused) => {
+            drop(cons);
+            return Err(refused);
+        }
+    };
     Ok(ExtractTail { conds, cons, limit })
 }

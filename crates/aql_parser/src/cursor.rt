@@ -340,28 +340,19 @@ fn is_exactly(kind: &TokKind, word: &str) -> bool
 fn is_int(kind: &TokKind) -> bool
     ensures { result ≡ looks.sees_int (kind_of kind.now ∷ []) }
 {
-    match kind {
-        TokKind::Int(_) => true,
-        _ => false,
-    }
+    matches!(kind, TokKind::Int(_))
 }
 
 fn is_string(kind: &TokKind) -> bool
     ensures { result ≡ looks.sees_string (kind_of kind.now ∷ []) }
 {
-    match kind {
-        TokKind::Str(_) => true,
-        _ => false,
-    }
+    matches!(kind, TokKind::Str(_))
 }
 
 fn is_regex(kind: &TokKind) -> bool
     ensures { result ≡ looks.sees_regex (kind_of kind.now ∷ []) }
 {
-    match kind {
-        TokKind::Regex(_) => true,
-        _ => false,
-    }
+    matches!(kind, TokKind::Regex(_))
 }
 
 fn is_name(kind: &TokKind) -> bool

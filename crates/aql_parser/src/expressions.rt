@@ -183,10 +183,7 @@ pub fn conditions(alloc: Global, depth: u32, toks: &mut Cursor<'_>) -> Result<Ve
 fn is_column(ast: &Ast) -> bool
     ensures { result ≡ spec.is_column (term_of ast.now) }
 {
-    match &ast.form {
-        Form::Column(_, _) => true,
-        _ => false,
-    }
+    matches!(&ast.form, Form::Column(_, _))
 }
 
 /// What follows an item's expression: a name, which only a column can do without.
@@ -194,7 +191,13 @@ fn after_expression(alloc: Global, toks: &mut Cursor<'_>, expr: Ast) -> Result<I
     ensures { Gives item_of (spec.after_expression (term_of expr) toks.old.at toks.old.kinds) result toks.new }
 {
     if toks.eat_word("as") {
-        let name = toks.name(alloc)?;
+        let name = match toks.name(alloc) {
+            Ok(name) => name,
+            Err(refused) => {
+                drop(expr);
+                return Err(refused);
+            }
+        };
         return Ok(Item {
             expr,
             name: Some(name),
@@ -203,6 +206,7 @@ fn after_expression(alloc: Global, toks: &mut Cursor<'_>, expr: Ast) -> Result<I
     if is_column(&expr) {
         return Ok(Item { expr, name: None });
     }
+    drop(expr);
     Err(Failure::Fault(NoTree))
 }
 

@@ -4,6 +4,9 @@
 //! statement that has no tree. `measure` counts statements and nested parentheses first and takes no
 //! memory. Stands on `aql_lexer` for tokens, on `aql_syntax` for trees and their grammar, and on
 //! `span_token` for owned text and refusals.
+//!
+//! A tree that waits for what follows it is dropped by a call where that is refused, `drop` or
+//! `expect_after`: a drop that `?` puts there would be proved field by field, at each such place.
 #![tactic(auto)]
 
 mod clauses;

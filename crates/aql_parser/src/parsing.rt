@@ -1,11 +1,12 @@
 //! Whole programs.
 
-ghost use Rattle.std.specs.Prelude.{◌≡◌, ◌<◌, ◌^◌, ◌+◌, ◌&&◌, ℕ, List, All, length, map, IfOk, IfErr, MatchResult};
+ghost use Rattle.std.specs.Prelude.{◌≡◌, ◌<◌, ◌^◌, ◌+◌, ◌↔◌, ℕ, List, [], All, length, map, true, IsTrue, IfOk, IfErr, MatchResult};
 ghost use Rattle.aql_lexer.specs.Kinds.{kinds_of, token_of};
 ghost use Rattle.aql_lexer.specs.Reading.{IsReading};
 ghost use Rattle.aql_syntax.specs.Trees.{Statement as Tree};
 ghost use Rattle.aql_syntax.specs.Views.{statement_of};
 ghost use Rattle.aql_syntax.specs.Printing.{CanBePrinted};
+ghost use Rattle.aql_syntax.specs.PlacedTokens.{IsSpelled};
 ghost use Rattle.aql_syntax.specs.Programs.{AreTokensOf, placed_in};
 ghost use Rattle.aql_syntax.specs.Shapes.{IsFormed};
 ghost use Rattle.aql_parser.specs.Nesting.{NestsWithin, IsWithin, nesting_limit};
@@ -27,58 +28,12 @@ pub struct SyntaxFault {
     pub line: u32,
 }
 
-fn is_module(tree: &Statement) -> bool
-    ensures { result ≡ is_module (statement_of tree.now) }
-{
-    match tree {
-        Statement::Module(_) => true,
-        _ => false,
-    }
-}
-
-/// Whether the statement may have so many before it.
-fn may_follow(tree: &Statement, before: usize) -> bool
-    ensures { result ≡ may_follow before (statement_of tree.now) }
-{
-    before == 0 || !is_module(tree)
-}
-
-/// The statement, where nothing speaks against it.
-fn kept(tree: Statement, read_whole: bool, follows: bool) -> Result<Statement, Refused>
-    ensures { IsKept tree (read_whole && follows) result }
-{
-    (read_whole && follows)
-        .then_some(tree)
-        .ok_or(Failure::Fault(NoTree))
-}
-
-/// The statement whose tokens are all of `run`, where `before` statements stand before it.
-fn whole(alloc: Global, run: &[Tok], at: u32, before: usize) -> Result<Statement, Refused>
-    requires few { at + length run.now < 2 ^ 32 }
-    requires nested { IsWithin nesting_limit (kinds_of run.now) }
-    ensures { IsTreeOf at (kinds_of run.now) before result }
-{
-    let mut toks = Cursor::new(run, at);
-    let tree = statement(alloc, MAX_NESTING, &mut toks)?;
-    let follows = may_follow(&tree, before);
-    kept(tree, toks.is_done(), follows)
-}
-
-/// The refusal, with the statement and the line at which it stands.
-fn named(refused: Refused, statement: u32, line: u32) -> Failure<SyntaxFault>
-    ensures { IsNamed refused statement line result }
-{
-    match refused {
-        Failure::OutOfMemory => Failure::OutOfMemory,
-        Failure::Fault(NoTree) => Failure::Fault(SyntaxFault { statement, line }),
-    }
-}
-
 /// The statements whose tokens these are, or the first statement that has no tree.
 ///
 /// A statement is the tokens up to and with a `;`; tokens after the last `;` are one more, which has
 /// no tree. `module` is the first statement or none. Each `at` is the number, from 0, of its node's
-/// first token. No statement may nest deeper than `MAX_NESTING`, 64, as `measure` counts.
+/// first token, so the token with the number of a name, a value or a call is the one that spells it. No
+/// statement may nest deeper than `MAX_NESTING`, 64, as `measure` counts.
 ///
 /// `SyntaxFault` comes exactly where some statement has no tree, and names the first one. The only
 /// other refusal is want of memory.
@@ -86,15 +41,16 @@ fn named(refused: Refused, statement: u32, line: u32) -> Failure<SyntaxFault>
 /// The trees have the shape that the grammar asks for, and `print` takes each of them where the tokens
 /// are those that `lex` gives of a text.
 ///
-/// Meaning: `AreTokensOf` and `placed_in`, `aql_syntax`'s `specs/Programs.antt`; `IsFaultOf` and
-/// `IsDecided`, `specs/Faults.antt`; the grammar, `aql_syntax`'s `specs/Grammar`; `IsFormed`, its
-/// `specs/Shapes.antt`.
+/// Meaning: `AreTokensOf` and `placed_in`, `aql_syntax`'s `specs/Programs.antt`; `IsSpelled`, its
+/// `specs/PlacedTokens.antt`; `IsFaultOf` and `IsDecided`, `specs/Faults.antt`; the grammar, `aql_syntax`'s
+/// `specs/Grammar`; `IsFormed`, its `specs/Shapes.antt`.
 pub fn parse(alloc: Global, toks: &[Tok]) -> Result<Vec<Statement>, Failure<SyntaxFault>>
     requires few { length toks.now < 2 ^ 32 }
     requires nested { NestsWithin nesting_limit (kinds_of toks.now) }
     ensures trees { IfOk result (λ trees. AreTokensOf (kinds_of toks.now) (map statement_of trees.items)) }
     ensures placed { IfOk result (λ trees. placed_in (kinds_of toks.now) (map statement_of trees.items)
         ≡ map statement_of trees.items) }
+    ensures spelled { IfOk result (λ trees. All (IsSpelled (kinds_of toks.now)) (map statement_of trees.items)) }
     ensures only { (others : List Tree) → AreTokensOf (kinds_of toks.now) others → MatchResult result
         (λ trees. map statement_of trees.items ≡ placed_in (kinds_of toks.now) others)
         (λ failure. failure ≡ Failure.OutOfMemory) }
@@ -116,4 +72,53 @@ pub fn parse(alloc: Global, toks: &[Tok]) -> Result<Vec<Statement>, Failure<Synt
         rest = &rest[len..];
     }
     Ok(trees)
+}
+
+fn is_module(tree: &Statement) -> bool
+    ensures { result ≡ is_module (statement_of tree.now) }
+{
+    matches!(tree, Statement::Module(_))
+}
+
+/// Whether the statement may have so many before it.
+fn may_follow(tree: &Statement, before: usize) -> bool
+    ensures { result ≡ may_follow before (statement_of tree.now) }
+{
+    before == 0 || !is_module(tree)
+}
+
+/// Whether no token is left, and the statement may have so many before it.
+fn is_whole(toks: &Cursor<'_>, tree: &Statement, before: usize) -> bool
+    ensures { IsTrue result ↔ ((toks.now.kinds ≡ []) × (may_follow before (statement_of tree.now) ≡ true)) }
+{
+    toks.is_done() && may_follow(tree, before)
+}
+
+/// The statement, where it is one.
+fn kept(tree: Statement, is_whole: bool) -> Result<Statement, Refused>
+    ensures { IsKept tree is_whole result }
+{
+    is_whole.then_some(tree).ok_or(Failure::Fault(NoTree))
+}
+
+/// The statement whose tokens are all of `run`, where `before` statements stand before it.
+fn whole(alloc: Global, run: &[Tok], at: u32, before: usize) -> Result<Statement, Refused>
+    requires few { at + length run.now < 2 ^ 32 }
+    requires nested { IsWithin nesting_limit (kinds_of run.now) }
+    ensures { IsTreeOf at (kinds_of run.now) before result }
+{
+    let mut toks = Cursor::new(run, at);
+    let tree = statement(alloc, MAX_NESTING, &mut toks)?;
+    let stands = is_whole(&toks, &tree, before);
+    kept(tree, stands)
+}
+
+/// The refusal, with the statement and the line at which it stands.
+fn named(refused: Refused, statement: u32, line: u32) -> Failure<SyntaxFault>
+    ensures { IsNamed refused statement line result }
+{
+    match refused {
+        Failure::OutOfMemory => Failure::OutOfMemory,
+        Failure::Fault(NoTree) => Failure::Fault(SyntaxFault { statement, line }),
+    }
 }

@@ -2,7 +2,7 @@
 
 ghost use Rattle.std.specs.Prelude.{◌≡◌, ◌∷◌, [], map, option_map, box_value, IfOk};
 ghost use Rattle.aql_syntax.specs.Views.{name_of, item_of, spec_of, source_of, query_of};
-ghost use Rattle.aql_parser.specs.Readers.{Gives, separated, sees, sees_sign, prefixed, where_seen, sees_name, a_name, symbol, ◌◁◌, ◌▷◌};
+ghost use Rattle.aql_parser.specs.Readers.{Gives, separated, sees, sees_sign, prefixed, where_seen, sees_name, a_name, symbol, keyword, ◌⊗◌, ◌◁◌, ◌▷◌};
 ghost use Rattle.aql_parser.specs.Reading.Queries as spec;
 ghost use Rattle.aql_parser.specs.ClauseViews.{select_clauses, extract_tail};
 ghost use Rattle.aql_syntax.specs.Trees.{minus, nested, extract};
@@ -26,8 +26,7 @@ fn item_before(alloc: Global, depth: u32, toks: &mut Cursor<'_>) -> Result<Item,
     ensures { Gives item_of (spec.item_before depth toks.old.at toks.old.kinds) result toks.new }
 {
     let one = item(alloc, depth, toks)?;
-    toks.expect(b',')?;
-    Ok(one)
+    toks.expect_after(one, b',')
 }
 
 /// Items with a comma after each, up to what the extraction looks for.
@@ -191,7 +190,13 @@ fn source(alloc: Global, depth: u32, toks: &mut Cursor<'_>) -> Result<FromPart, 
 {
     if toks.eat(b'(') {
         let query = parenthesis(alloc, depth, toks)?;
-        let alias = toks.name(alloc)?;
+        let alias = match toks.name(alloc) {
+            Ok(alias) => alias,
+            Err(refused) => {
+                drop(query);
+                return Err(refused);
+            }
+        };
         return Ok(nested(alloc, query, alias)?);
     }
     view(alloc, toks)
@@ -265,22 +270,49 @@ fn select(at: u32, items: Vec<Item>, sources: Vec<FromPart>, clauses: SelectClau
     })
 }
 
+/// `from`, the source of an extraction, and its clauses.
+#[cycle(query)]
+fn source_and_tail(
+    alloc: Global,
+    depth: u32,
+    toks: &mut Cursor<'_>,
+) -> Result<(FromPart, ExtractTail), Refused>
+    ensures { Gives (λ pair. (source_of pair.0, extract_tail pair.1)) ((keyword "from" ▷ spec.read_source depth ⊗ spec.read_tail depth) toks.old.at toks.old.kinds) result toks.new }
+{
+    toks.expect_word("from")?;
+    let source = source(alloc, depth, toks)?;
+    let tail = match tail(alloc, depth, toks) {
+        Ok(tail) => tail,
+        Err(refused) => {
+            drop(source);
+            return Err(refused);
+        }
+    };
+    Ok((source, tail))
+}
+
 /// An extraction, after its `extract`, which has the number `at`.
 #[cycle(query)]
 #[tactic(auto, unfolding(crate::specs::Reading::Queries::extraction))]
 fn extraction(alloc: Global, depth: u32, toks: &mut Cursor<'_>, at: u32) -> Result<Query, Refused>
     ensures { Gives query_of (spec.extraction depth (spec.within depth) at toks.old.at toks.old.kinds) result toks.new }
 {
-    let (items, spec) = extracted(alloc, depth, toks)?;
-    toks.expect_word("from")?;
-    let source = source(alloc, depth, toks)?;
-    let tail = tail(alloc, depth, toks)?;
-    Ok(extract(at, items, spec, source, tail))
+    let found = extracted(alloc, depth, toks)?;
+    let rest = match source_and_tail(alloc, depth, toks) {
+        Ok(rest) => rest,
+        Err(refused) => {
+            drop(found);
+            return Err(refused);
+        }
+    };
+    Ok(extract(at, found, rest))
 }
 
-fn extract(at: u32, items: Vec<Item>, spec: Spec, source: FromPart, tail: ExtractTail) -> Query
-    ensures { query_of result ≡ extract at (map item_of items.items) (spec_of spec) (source_of source) (extract_tail tail) }
+fn extract(at: u32, found: (Vec<Item>, Spec), rest: (FromPart, ExtractTail)) -> Query
+    ensures { query_of result ≡ extract at (map item_of found.0.items) (spec_of found.1) (source_of rest.0) (extract_tail rest.1) }
 {
+    let (items, spec) = found;
+    let (source, tail) = rest;
     let ExtractTail { conds, cons, limit } = tail;
     Query::Extract(Extract {
         at,

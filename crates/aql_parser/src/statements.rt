@@ -2,13 +2,14 @@
 
 ghost use Rattle.std.specs.Prelude.{◌≡◌, ◌∷◌, [], map, option_map};
 ghost use Rattle.aql_lexer.specs.Kinds.{kind_of};
-ghost use Rattle.aql_syntax.specs.Views.{statement_of};
-ghost use Rattle.aql_parser.specs.Readers.{Gives, optional, separated, sees, sees_sign, take_if};
+ghost use Rattle.aql_syntax.specs.Views.{query_of, statement_of};
+ghost use Rattle.aql_parser.specs.Readers.{Gives, optional, separated, sees, sees_sign, symbol, take_if, ◌◁◌};
+ghost use Rattle.aql_parser.specs.Reading.Queries.{read_query};
 ghost use Rattle.aql_parser.specs.Reading.Statements as spec;
 
 use crate::cursor::{Cursor, NoTree, Refused};
 use crate::queries::query;
-use aql_syntax::Statement;
+use aql_syntax::{Query, Statement};
 use span_token::{Failure, OwnedText};
 use std::alloc::Global;
 
@@ -86,14 +87,21 @@ fn after_dictionary(alloc: Global, toks: &mut Cursor<'_>) -> Result<Statement, R
     Ok(Statement::Dictionary { name, entries })
 }
 
+/// A query and its `;`.
+fn ended_query(alloc: Global, depth: u32, toks: &mut Cursor<'_>) -> Result<Query, Refused>
+    ensures { Gives query_of ((read_query depth ◁ symbol ";") toks.old.at toks.old.kinds) result toks.new }
+{
+    let query = query(alloc, depth, toks)?;
+    toks.expect_after(query, b';')
+}
+
 #[tactic(auto, unfolding(crate::specs::Reading::Statements::after_view))]
 fn after_view(alloc: Global, depth: u32, toks: &mut Cursor<'_>) -> Result<Statement, Refused>
     ensures { Gives statement_of (spec.after_view depth toks.old.at toks.old.kinds) result toks.new }
 {
     let name = toks.name(alloc)?;
     toks.expect_word("as")?;
-    let query = query(alloc, depth, toks)?;
-    toks.expect(b';')?;
+    let query = ended_query(alloc, depth, toks)?;
     Ok(Statement::View { name, query })
 }
 

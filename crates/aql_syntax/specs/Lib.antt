@@ -9,12 +9,15 @@ pub mod Sameness
 pub mod Spellings
 pub mod Parts
 pub mod Places
+pub mod PlacedTokens
 -- the grammar
 pub mod Grammar
 pub mod Programs
 -- the shape that each statement with tokens has
 pub mod Shapes
 pub mod ShapeLaws
+-- the places of trees are right
+pub mod PlaceLaws
 -- expressions that are equal but for places
 pub mod SamenessLaws
 pub mod LawProofs

@@ -6,6 +6,13 @@ ghost use Rattle.aql_syntax.specs.Naming as spec;
 
 use crate::tree::{Ast, Form, FromPart, Ident, Item, Statement};
 
+/// Whether the function with this name takes a dictionary as its first argument.
+pub fn is_dictionary_predicate(name: &str) -> bool
+    ensures { result ≡ spec.is_dictionary_predicate name.now }
+{
+    name == "ContainsDict" || name == "MatchesDict"
+}
+
 impl FromPart {
     /// The name by which a query speaks of the source: its alias, or else its view's name.
     pub fn alias(&self) -> &Ident
@@ -58,11 +65,4 @@ fn name_in(ast: &Ast) -> Option<&Ident>
         Form::Column(_, name) => Some(name),
         _ => None,
     }
-}
-
-/// Whether the function with this name takes a dictionary as its first argument.
-pub fn is_dictionary_predicate(name: &str) -> bool
-    ensures { result ≡ spec.is_dictionary_predicate name.now }
-{
-    name == "ContainsDict" || name == "MatchesDict"
 }

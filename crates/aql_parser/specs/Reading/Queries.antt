@@ -34,10 +34,12 @@ made_clauses parts = record {
   limit = parts.1.1.1.1;
 }
 
+unfoldable pub read_keys_and_limit : ℕ → Reader (List Term × (List Term × Option Number))
+read_keys_and_limit depth = read_keys "group" depth ⊗ read_keys "order" depth ⊗ read_limit
+
 unfoldable pub read_clauses : ℕ → Reader Clauses
 read_clauses depth =
-    mapped made_clauses (read_conds "where" depth ⊗ read_cons depth ⊗ read_keys "group" depth ⊗
-    read_keys "order" depth ⊗ read_limit)
+    mapped made_clauses (read_conds "where" depth ⊗ read_cons depth ⊗ read_keys_and_limit depth)
 
 abbrev pub made_tail : List Term × (Option Cons × Option Number) → Tail
 made_tail parts = record { conds = parts.0; cons = parts.1.0; limit = parts.1.1 }

@@ -4,6 +4,7 @@ use Rattle.aql_lexer.specs.Kinds.{token_of}
 use Rattle.aql_syntax.specs.Views.{statement_of}
 use Rattle.aql_lexer.specs.Kinds.{kinds_of}
 use Rattle.aql_syntax.specs.ShapeLaws.{formed}
+use Rattle.aql_syntax.specs.PlaceLaws.{spelled}
 use Rattle.aql_parser.specs.Nesting.{nesting_limit}
 use Rattle.aql_parser.proofs.ProgramRules.{decided, few_parsed, run_nested, fault_is, next_parsed, all_parsed, only_these, only_memory}
 use Rattle.aql_parser.proofs.Standing.{printable}
@@ -65,6 +66,11 @@ returns-clause-trees c =
 pub returns-clause-placed : goal.returns-clause-placed
 returns-clause-placed c =
     (all_parsed c.args.toks.now c.loop-rest.rest.now (map statement_of c.loop-rest.trees.items) c.loop-rest.invariant c.in_default.len_below).placed
+
+pub returns-clause-spelled : goal.returns-clause-spelled
+returns-clause-spelled c =
+    let all = all_parsed c.args.toks.now c.loop-rest.rest.now (map statement_of c.loop-rest.trees.items) c.loop-rest.invariant c.in_default.len_below in
+    spelled (kinds_of c.args.toks.now) (map statement_of c.loop-rest.trees.items) all.tokens all.placed
 
 pub returns-clause-only : goal.returns-clause-only
 returns-clause-only c = λ others h.

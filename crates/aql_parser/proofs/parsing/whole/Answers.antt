@@ -18,5 +18,5 @@ returns-in_err-tree c =
 
 pub returns : goal.returns
 returns c =
-    tree_kept nesting_limit c.args.at c.args.before (kinds_of c.args.run.now) c.in_ok-tree.tree c.statement.new.toks c.is_done.result c.may_follow-follows.result c.kept.result
-    c.requires.nested (rw c.new-toks.ensures at c.in_ok-tree.ensures) c.is_done.ensures c.may_follow-follows.ensures c.kept.ensures
+    tree_kept nesting_limit c.args.at c.args.before (kinds_of c.args.run.now) c.in_ok-tree.tree c.statement.new.toks c.is_whole-stands.result c.kept.result
+    c.requires.nested (rw c.new-toks.ensures at c.in_ok-tree.ensures) c.is_whole-stands.ensures c.kept.ensures

@@ -1,9 +1,9 @@
-use Rattle.std.proofs.Common.{subst, sym, arith}
+use Rattle.std.proofs.Common.{subst, sym, arith, map}
 use Rattle.aql_syntax.specs.Trees.{Query}
 use Rattle.aql_syntax.specs.Views.{query_of, source_of}
 use Rattle.aql_parser.specs.Readers.{Reader, Gives, sees, sees_sign, symbol}
 use Rattle.aql_parser.specs.Reading.Queries.{side, within, read_source, read_query}
-use Rattle.aql_parser.proofs.Lists.{list_begins, list_begins_after, list_returns, list_continues}
+use Rattle.aql_parser.proofs.Lists.{list_stops, list_fails, list_begins, list_begins_after, list_returns, list_continues}
 use Rattle.aql_parser.proofs.Depths.{within_more, within_none}
 use Rattle.aql_parser.proofs.Followed.{given_after}
 use Rattle.aql_parser.proofs.queries.+query.Goals as goal
@@ -47,3 +47,19 @@ parenthesis-returns-then-depth-eq0 t c = within_none c.args.depth c.if-depth-eq0
 pub closed-returns : goal.closed-returns
 closed-returns t c =
     given_after query_of c.in_ok-inner.inner (read_query c.args.depth) (symbol ")") _ _ _ _ c.expect_after.result _ c.in_ok-inner.ensures c.expect_after.ensures
+
+pub sources-returns : goal.sources-returns
+sources-returns t c = list_stops (sees_sign ",") (read_source c.args.depth) _ _ _ _ _ _ c.loop-turn.invariant c.loop-turn-test.false
+
+pub sides_after-returns : goal.sides_after-returns
+sides_after-returns t c = list_stops (sees "union") (side c.args.depth (within c.args.depth)) _ _ _ _ _ _ c.loop-turn.invariant c.loop-turn-test.false
+
+pub sources-returns-in_err-one : goal.sources-returns-in_err-one
+sources-returns-in_err-one t c =
+    list_fails c.from_residual.result c.in_err-one.field-0.0 source_of (λ sources. map source_of sources.items) (sees_sign ",") (read_source c.args.depth) _ _ _ _ _ _ _
+    c.loop-turn.invariant c.loop-turn-test.true c.in_err-one.ensures c.from_residual.ensures.1
+
+pub sides_after-returns-in_err-other : goal.sides_after-returns-in_err-other
+sides_after-returns-in_err-other t c =
+    list_fails c.from_residual.result c.in_err-other.field-0.0 query_of (λ all. map query_of all.items) (sees "union") (side c.args.depth (within c.args.depth)) _ _ _ _ _ _ _
+    c.loop-turn.invariant c.loop-turn-test.true c.in_err-other.ensures c.from_residual.ensures.1

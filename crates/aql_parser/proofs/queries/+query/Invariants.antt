@@ -31,6 +31,9 @@ decreases-selection l = 10 * l.depth + 4
 abbrev pub decreases-extraction : goal.decreases-extraction
 decreases-extraction l = 10 * l.depth + 4
 
+abbrev pub decreases-source_and_tail : goal.decreases-source_and_tail
+decreases-source_and_tail l = 10 * l.depth + 3
+
 abbrev pub decreases-sources : goal.decreases-sources
 decreases-sources l = 10 * l.depth + 3
 
