@@ -21,14 +21,17 @@ fn dict_of(alloc: Global, entries: &[&str], exact: bool) -> Result<DictUse, Fail
     })
 }
 
-fn pass_of(alloc: Global, dicts: &[Dict<'_>]) -> Result<DictPass, Fail> {
+fn dicts_of(alloc: Global, dicts: &[Dict<'_>]) -> Result<Vec<DictUse>, Fail> {
     let mut uses = Vec::new(alloc);
     for given in dicts {
-        let dict = dict_of(alloc, given.0, given.1)?;
-        uses.push(dict)?;
+        uses.push(dict_of(alloc, given.0, given.1)?)?;
     }
-    let pass = DictPass::new(alloc, uses.as_slice())?;
-    Ok(pass)
+    Ok(uses)
+}
+
+fn pass_of(alloc: Global, dicts: &[Dict<'_>]) -> Result<DictPass, Fail> {
+    let uses = dicts_of(alloc, dicts)?;
+    Ok(DictPass::new(alloc, uses.as_slice())?)
 }
 
 fn are_places(spans: &[Span], want: &[Place]) -> bool {
@@ -55,15 +58,58 @@ fn are_rows(rows: &[Vec<Span>], want: &[&[Place]]) -> bool {
     true
 }
 
-/// Whether these are the matches in the whole text, and the same are put behind what a kept list holds.
-fn matches(alloc: Global, dicts: &[Dict<'_>], text: &str, want: &[&[Place]]) -> Result<bool, Fail> {
-    if text.len() > TEXT_LIMIT {
+/// Whether these are the matches of each dictionary in a part of the document.
+fn are_found(
+    alloc: Global,
+    pass: &DictPass,
+    doc: &Document<'_>,
+    part: Place,
+    want: &[&[Place]],
+) -> Result<bool, Fail> {
+    let (begin, end) = part;
+    if begin > end || end > doc.len() {
         return Ok(false);
     }
-    let pass = pass_of(alloc, dicts)?;
-    let doc = Document::new(alloc, text, None)?;
-    let rows = pass.matches(alloc, &doc, doc.whole())?;
-    Ok(are_rows(&rows, want) && are_put_behind(alloc, &pass, &doc, want)?)
+    let rows = pass.matches(alloc, doc, Span { begin, end })?;
+    Ok(are_rows(&rows, want))
+}
+
+/// What two calls with one scratch put.
+fn put_twice(
+    alloc: Global,
+    pass: &DictPass,
+    doc: &Document<'_>,
+) -> Result<Vec<dict_match::DictMatch>, Fail> {
+    let mut scratch = DictScratch::new(alloc);
+    let mut found = Vec::new(alloc);
+    for _call in 0..2 {
+        pass.append_matches(doc, doc.whole(), &mut scratch, &mut found)?;
+    }
+    Ok(found)
+}
+
+/// The spans of one dictionary.
+fn spans_of(
+    alloc: Global,
+    found: &[dict_match::DictMatch],
+    dict: usize,
+) -> Result<Vec<Span>, Fail> {
+    let mut spans = Vec::new(alloc);
+    for one in found {
+        if one.dict == dict {
+            spans.push(one.span)?;
+        }
+    }
+    Ok(spans)
+}
+
+/// Whether these are the places, and then the same ones.
+fn are_twice(spans: &[Span], places: &[Place]) -> bool {
+    if spans.len() < places.len() {
+        return false;
+    }
+    let (first, second) = spans.split_at(places.len());
+    are_places(first, places) && are_places(second, places)
 }
 
 /// Whether two calls with one scratch put these matches of each dictionary twice.
@@ -73,28 +119,47 @@ fn are_put_behind(
     doc: &Document<'_>,
     want: &[&[Place]],
 ) -> Result<bool, Fail> {
-    let mut scratch = DictScratch::new(alloc);
-    let mut found = Vec::new(alloc);
-    pass.append_matches(doc, doc.whole(), &mut scratch, &mut found)?;
-    pass.append_matches(doc, doc.whole(), &mut scratch, &mut found)?;
+    let found = put_twice(alloc, pass, doc)?;
     for (dict, places) in want.iter().enumerate() {
-        let mut twice = Vec::new(alloc);
-        for _round in 0..2 {
-            for place in *places {
-                twice.push(*place)?;
-            }
-        }
-        let mut spans = Vec::new(alloc);
-        for one in &found {
-            if one.dict == dict {
-                spans.push(one.span)?;
-            }
-        }
-        if !are_places(spans.as_slice(), twice.as_slice()) {
+        if !are_twice(&spans_of(alloc, &found, dict)?, places) {
             return Ok(false);
         }
     }
     Ok(true)
+}
+
+/// Whether these are the matches in the whole document, and the same are put behind what a kept list holds.
+fn are_found_and_put(
+    alloc: Global,
+    pass: &DictPass,
+    doc: &Document<'_>,
+    want: &[&[Place]],
+) -> Result<bool, Fail> {
+    let whole = doc.whole();
+    if !are_found(alloc, pass, doc, (whole.begin, whole.end), want)? {
+        return Ok(false);
+    }
+    are_put_behind(alloc, pass, doc, want)
+}
+
+/// The same of a text.
+fn pass_matches(
+    alloc: Global,
+    pass: &DictPass,
+    text: &str,
+    want: &[&[Place]],
+) -> Result<bool, Fail> {
+    if text.len() > TEXT_LIMIT {
+        return Ok(false);
+    }
+    let doc = Document::new(alloc, text, None)?;
+    are_found_and_put(alloc, pass, &doc, want)
+}
+
+/// The same of dictionaries.
+fn matches(alloc: Global, dicts: &[Dict<'_>], text: &str, want: &[&[Place]]) -> Result<bool, Fail> {
+    let pass = pass_of(alloc, dicts)?;
+    pass_matches(alloc, &pass, text, want)
 }
 
 #[test]
@@ -114,6 +179,21 @@ fn a_span_comes_once_and_over_any_white_space(rt: HostRuntime) -> Result<(), Fai
     Ok(())
 }
 
+/// How many lists of matches a document has, and whether the first has one match.
+fn number_found(alloc: Global, pass: &DictPass, doc: &Document<'_>) -> Result<(usize, bool), Fail> {
+    let found = pass.matches(alloc, doc, doc.whole())?;
+    Ok((found.len(), found.len() > 0 && found[0].len() == 1))
+}
+
+/// The same of a text.
+fn number_in(alloc: Global, pass: &DictPass, text: &str) -> Result<(usize, bool), Fail> {
+    if text.len() > TEXT_LIMIT {
+        return Ok((0, false));
+    }
+    let doc = Document::new(alloc, text, None)?;
+    number_found(alloc, pass, &doc)
+}
+
 #[test]
 fn case_is_folded_in_full_beyond_ascii(rt: HostRuntime) -> Result<(), Fail> {
     let alloc = rt.alloc();
@@ -130,12 +210,8 @@ fn case_is_folded_in_full_beyond_ascii(rt: HostRuntime) -> Result<(), Fail> {
     for (entry, text, exact, does) in rows {
         let entries = [entry];
         let dicts: [Dict<'_>; 1] = [(&entries, exact)];
-        let pass = pass_of(alloc, &dicts)?;
-        assert!(rt; text.len() <= 100);
-        let doc = Document::new(alloc, text, None)?;
-        let found = pass.matches(alloc, &doc, doc.whole())?;
-        assert_eq!(rt; found.len(), 1);
-        assert_eq!(rt; found[0].len() == 1, does, "{entry} in {text}");
+        let found = number_in(alloc, &pass_of(alloc, &dicts)?, text)?;
+        assert_eq!(rt; found, (1, does), "{entry} in {text}");
     }
     Ok(())
 }
@@ -177,12 +253,26 @@ fn entries_overlap_and_stand_in_several_dictionaries(rt: HostRuntime) -> Result<
     Ok(())
 }
 
+/// Whether these are the matches of a pass with one dictionary in a part of a text.
+fn part_matches(
+    alloc: Global,
+    pass: &DictPass,
+    text: &str,
+    part: Place,
+    want: &[Place],
+) -> Result<bool, Fail> {
+    if text.len() > TEXT_LIMIT {
+        return Ok(false);
+    }
+    let doc = Document::new(alloc, text, None)?;
+    are_found(alloc, pass, &doc, part, &[want])
+}
+
 #[test]
 fn only_tokens_wholly_in_the_source_count(rt: HostRuntime) -> Result<(), Fail> {
     let alloc = rt.alloc();
     let dict: Dict<'_> = (&["New York", "York"], false);
     let pass = pass_of(alloc, &[dict])?;
-    let doc = Document::new(alloc, "in New York now", None)?;
     let sources: [(Place, &[Place]); 4] = [
         ((3, 11), &[(3, 11), (7, 11)]),
         ((4, 11), &[(7, 11)]),
@@ -190,10 +280,8 @@ fn only_tokens_wholly_in_the_source_count(rt: HostRuntime) -> Result<(), Fail> {
         ((8, 15), &[]),
     ];
     for ((begin, end), want) in sources {
-        assert!(rt; begin <= end && end <= doc.len());
-        let rows = pass.matches(alloc, &doc, Span { begin, end })?;
-        assert_eq!(rt; rows.len(), 1);
-        assert!(rt; are_places(&rows[0], want), "from {begin} to {end}");
+        let are = part_matches(alloc, &pass, "in New York now", (begin, end), want)?;
+        assert!(rt; are, "from {begin} to {end}");
     }
     Ok(())
 }
@@ -218,13 +306,28 @@ fn answers(
     ])
 }
 
+/// The same in a text.
+fn answers_in(
+    alloc: Global,
+    pass: &DictPass,
+    text: &str,
+    place: Place,
+    scratch: &mut DictScratch,
+) -> Result<[bool; 4], OutOfMemory> {
+    if text.len() > TEXT_LIMIT {
+        return Ok([true; 4]);
+    }
+    let doc = Document::new(alloc, text, None)?;
+    answers(pass, &doc, place, scratch)
+}
+
 #[test]
 fn whether_a_dictionary_matches_in_a_span_and_all_of_it(rt: HostRuntime) -> Result<(), Fail> {
     let alloc = rt.alloc();
     let cities: Dict<'_> = (&["New York", "York", ""], false);
     let exact: Dict<'_> = (&["new york"], true);
     let pass = pass_of(alloc, &[cities, exact])?;
-    let doc = Document::new(alloc, "in New  York, éa new york", None)?;
+    let text = "in New  York, éa new york";
     let mut scratch = DictScratch::new(alloc);
     let rows: [(Place, [bool; 4]); 8] = [
         ((0, 25), [true, true, false, false]),
@@ -237,7 +340,7 @@ fn whether_a_dictionary_matches_in_a_span_and_all_of_it(rt: HostRuntime) -> Resu
         ((5, 5), [false, false, false, false]),
     ];
     for (place, want) in rows {
-        let found = answers(&pass, &doc, place, &mut scratch)?;
+        let found = answers_in(alloc, &pass, text, place, &mut scratch)?;
         assert!(rt; found == want, "from {} to {}", place.0, place.1);
     }
     Ok(())
@@ -263,21 +366,29 @@ fn a_match_has_as_many_tokens_as_the_longest_entry(rt: HostRuntime) -> Result<()
     Ok(())
 }
 
-#[test]
-fn an_entry_longer_than_a_text_is_want_of_memory(rt: HostRuntime) -> Result<(), Fail> {
-    let alloc = rt.alloc();
+/// As many blanks as a text has at most.
+fn blanks(alloc: Global) -> Result<String, Fail> {
     let mut long = String::from_str(alloc, " ")?;
     for _i in 0..24 {
         long = format!(in alloc; "{long}{long}")?;
     }
+    Ok(long)
+}
+
+/// Whether there is a pass with this entry alone.
+fn is_entry(alloc: Global, entry: &str) -> Result<bool, Fail> {
+    let dict = dict_of(alloc, &[entry], false)?;
+    Ok(DictPass::new(alloc, &[dict]).is_ok())
+}
+
+#[test]
+fn an_entry_longer_than_a_text_is_want_of_memory(rt: HostRuntime) -> Result<(), Fail> {
+    let alloc = rt.alloc();
+    let mut long = blanks(alloc)?;
     assert_eq!(rt; long.len(), TEXT_LIMIT);
-    let fits: [&str; 1] = [long.as_str()];
-    let dict = dict_of(alloc, &fits, false)?;
-    assert!(rt; DictPass::new(alloc, &[dict]).is_ok());
+    assert!(rt; is_entry(alloc, long.as_str())?);
     long.push_str(" ")?;
-    let past: [&str; 1] = [long.as_str()];
-    let dict = dict_of(alloc, &past, false)?;
-    assert!(rt; DictPass::new(alloc, &[dict]).is_err());
+    assert!(rt; !is_entry(alloc, long.as_str())?);
     Ok(())
 }
 
@@ -320,25 +431,30 @@ fn try_in_threads<R: Threads + Sync>(
     );
 }
 
+/// Trials of the texts, each with a scratch of its own.
+fn trials_of<'t>(alloc: Global, texts: &[&'t str]) -> Result<Vec<Trial<'t>>, Fail> {
+    let mut trials = Vec::new(alloc);
+    for text in texts {
+        trials.push(Trial {
+            text: *text,
+            scratch: DictScratch::new(alloc),
+            found: 0,
+        })?;
+    }
+    Ok(trials)
+}
+
 #[test]
 fn several_threads_share_a_pass(rt: HostRuntime) -> Result<(), Fail> {
     let alloc = rt.alloc();
     let names: Dict<'_> = (&["Ann", "John Doe"], false);
     let pass = pass_of(alloc, &[names, names])?;
-    let mut trials = Vec::new(alloc);
-    for text in ["ann and Ann", "nobody", "John Doe", "Doe John"] {
-        trials.push(Trial {
-            text,
-            scratch: DictScratch::new(alloc),
-            found: 0,
-        })?;
-    }
+    let mut trials = trials_of(alloc, &["ann and Ann", "nobody", "John Doe", "Doe John"])?;
     try_in_threads(&rt, alloc, &pass, &mut trials);
-    let mut found = Vec::new(alloc);
-    for trial in &trials {
-        found.push(trial.found)?;
+    assert!(rt; trials.len() == 4);
+    for (trial, want) in trials.iter().zip([4usize, 0, 2, 0]) {
+        assert_eq!(rt; trial.found, want);
     }
-    assert_eq!(rt; found.as_slice(), [4usize, 0, 2, 0].as_slice());
     Ok(())
 }
 
@@ -361,24 +477,29 @@ fn move_to_threads<R: Threads + Sync>(rt: &R, alloc: Global, text: &str, seats: 
     );
 }
 
+/// A seat for each dictionary.
+fn seats_of(alloc: Global, dicts: &[Dict<'_>]) -> Result<Vec<Seat>, Fail> {
+    let mut seats = Vec::new(alloc);
+    for dict in dicts {
+        seats.push(Seat {
+            pass: pass_of(alloc, &[*dict])?,
+            scratch: DictScratch::new(alloc),
+            found: 0,
+        })?;
+    }
+    Ok(seats)
+}
+
 #[test]
 fn each_thread_has_a_pass_of_its_own(rt: HostRuntime) -> Result<(), Fail> {
     let alloc = rt.alloc();
     let names: Dict<'_> = (&["Ann", "John Doe"], false);
     let cities: Dict<'_> = (&["York", "New York"], true);
-    let mut seats = Vec::new(alloc);
-    for dict in [names, cities] {
-        seats.push(Seat {
-            pass: pass_of(alloc, &[dict])?,
-            scratch: DictScratch::new(alloc),
-            found: 0,
-        })?;
-    }
+    let mut seats = seats_of(alloc, &[names, cities])?;
     move_to_threads(&rt, alloc, "ann and John  Doe of New York", &mut seats);
-    let mut found = Vec::new(alloc);
-    for seat in &seats {
-        found.push(seat.found)?;
+    assert!(rt; seats.len() == 2);
+    for (seat, want) in seats.iter().zip([2usize, 2]) {
+        assert_eq!(rt; seat.found, want);
     }
-    assert_eq!(rt; found.as_slice(), [2usize, 2].as_slice());
     Ok(())
 }

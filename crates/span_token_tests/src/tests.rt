@@ -24,6 +24,40 @@ fn span(begin: u32, end: u32) -> Span
     Span { begin, end }
 }
 
+/// The document of a text, with its tokens kept or looked for in each call.
+fn document<'d, R: Abort + AllocGlobal>(
+    rt: &R,
+    text: &'d str,
+    keeps: bool,
+) -> Result<Document<'d>, Fail> {
+    assert!(rt; text.len() <= TEXT_LIMIT);
+    if keeps {
+        Ok(Document::new(rt.alloc(), text, None)?)
+    } else {
+        Ok(Document::plain(rt.alloc(), text, None)?)
+    }
+}
+
+/// The text that is found of `of` is the wanted one.
+fn is_text(rt: &impl Abort, found: &str, want: &str, of: &str) {
+    assert_eq!(rt; found, want, "of {of:?}");
+}
+
+/// The number that is found of `of` is the wanted one.
+fn is_number(rt: &impl Abort, found: u32, want: u32, of: u32) {
+    assert_eq!(rt; found, want, "of {of}");
+}
+
+/// The span that is found of `of` has the wanted ends.
+fn has_ends(rt: &impl Abort, found: Span, want: (u32, u32), of: (u32, u32, i64)) {
+    assert_eq!(rt; (found.begin, found.end), want, "of {of:?}");
+}
+
+/// The truth that is found of two spans is the wanted one.
+fn is_told(rt: &impl Abort, found: bool, want: bool, of: (u32, u32, u32, u32)) {
+    assert_eq!(rt; found, want, "of {of:?}");
+}
+
 /// The texts of a document's tokens, with bars between.
 fn barred(rt: &impl AllocGlobal, doc: &Document<'_>) -> Result<String, Fail> {
     let mut all = String::new(rt.alloc());
@@ -36,13 +70,17 @@ fn barred(rt: &impl AllocGlobal, doc: &Document<'_>) -> Result<String, Fail> {
     Ok(all)
 }
 
+/// A document has these tokens.
+fn has_texts<R: Abort + AllocGlobal>(rt: &R, doc: &Document<'_>, want: &str) -> Result<(), Fail> {
+    is_text(rt, barred(rt, doc)?.as_str(), want, doc.text());
+    Ok(())
+}
+
 /// A document that keeps its tokens and one that doesn't have these tokens.
 fn has_tokens<R: Abort + AllocGlobal>(rt: &R, text: &str, want: &str) -> Result<(), Fail> {
-    assert!(rt; text.len() <= TEXT_LIMIT);
-    let kept = barred(rt, &Document::new(rt.alloc(), text, None)?)?;
-    assert_eq!(rt; kept.as_str(), want, "kept of {text:?}");
-    let plain = barred(rt, &Document::plain(rt.alloc(), text, None)?)?;
-    assert_eq!(rt; plain.as_str(), want, "found in {text:?}");
+    for keeps in [true, false] {
+        has_texts(rt, &document(rt, text, keeps)?, want)?;
+    }
     Ok(())
 }
 
@@ -90,7 +128,7 @@ fn tokens_count_characters(rt: HostRuntime) -> Result<(), Fail> {
 
 #[test]
 fn tokens_in_a_span_lie_wholly_in_it(rt: HostRuntime) -> Result<(), Fail> {
-    let doc = Document::new(rt.alloc(), TEXT, None)?;
+    let doc = document(&rt, TEXT, true)?;
     for (begin, end, want) in [
         (0, 24, (0, 8)),
         (1, 11, (1, 4)),
@@ -105,16 +143,8 @@ fn tokens_in_a_span_lie_wholly_in_it(rt: HostRuntime) -> Result<(), Fail> {
     Ok(())
 }
 
-/// The texts of a source's tokens, with bars between, and the text and span of their run.
-fn texts_and_run<R: Abort + AllocGlobal>(
-    rt: &R,
-    doc: &Document<'_>,
-    source: Span,
-    want: (&str, &str),
-) -> Result<(), Fail>
-    requires { LiesIn (extent_of source) doc.now }
-{
-    let tokens = SourceTokens::of(doc, source);
+/// The texts of a source's tokens, with bars between.
+fn source_barred(rt: &impl AllocGlobal, tokens: &SourceTokens<'_, '_>) -> Result<String, Fail> {
     let mut texts = String::new(rt.alloc());
     for i in 0..tokens.len() {
         if i > 0 {
@@ -122,13 +152,48 @@ fn texts_and_run<R: Abort + AllocGlobal>(
         }
         texts.push_str(tokens.text(i))?;
     }
-    assert_eq!(rt; texts.as_str(), want.0);
+    Ok(texts)
+}
+
+/// The run of all tokens of a source has this text, and the ends of its first and last token.
+fn has_run(rt: &impl Abort, tokens: &SourceTokens<'_, '_>, want: &str) {
     assert!(rt; tokens.len() > 0);
     let last = tokens.len() - 1;
-    assert_eq!(rt; tokens.run_text(0, last), want.1);
-    assert_eq!(rt; tokens.run(0, last).begin, tokens.get(0).begin);
-    assert_eq!(rt; tokens.run(0, last).end, tokens.get(last).end);
+    is_text(rt, tokens.run_text(0, last), want, "the run");
+    let ends = (tokens.get(0).begin, tokens.get(last).end);
+    has_ends(rt, tokens.run(0, last), ends, (ends.0, ends.1, 0));
+}
+
+/// The texts of a source's tokens, with bars between, and the text and span of their run.
+fn texts_and_run<R: Abort + AllocGlobal>(
+    rt: &R,
+    tokens: &SourceTokens<'_, '_>,
+    want: (&str, &str),
+) -> Result<(), Fail> {
+    is_text(rt, source_barred(rt, tokens)?.as_str(), want.0, want.1);
+    has_run(rt, tokens, want.1);
     Ok(())
+}
+
+/// The same of a part of a text, in a document that keeps its tokens or one that doesn't.
+fn part_has<R: Abort + AllocGlobal>(
+    rt: &R,
+    text: &str,
+    keeps: bool,
+    part: (u32, u32),
+    want: (&str, &str),
+) -> Result<(), Fail> {
+    let doc = document(rt, text, keeps)?;
+    let (begin, end) = part;
+    assert!(rt; begin <= end && end <= doc.len());
+    let tokens = SourceTokens::of(&doc, span(begin, end));
+    texts_and_run(rt, &tokens, want)
+}
+
+/// The number of tokens of a whole text.
+fn number_in<R: Abort + AllocGlobal>(rt: &R, text: &str, keeps: bool) -> Result<usize, Fail> {
+    let doc = document(rt, text, keeps)?;
+    Ok(SourceTokens::all(&doc).len())
 }
 
 #[test]
@@ -138,16 +203,11 @@ fn the_tokens_of_a_source_have_their_texts_and_runs(rt: HostRuntime) -> Result<(
         ("Zoë traf Bö, 漢😀 é", 1, 15, "traf|Bö|,|漢|😀", "traf Bö, 漢😀"),
         ("Zoë traf Bö", 0, 11, "Zoë|traf|Bö", "Zoë traf Bö"),
     ] {
-        assert!(rt; text.len() <= TEXT_LIMIT);
-        let doc = Document::new(rt.alloc(), text, None)?;
-        assert!(rt; begin <= end && end <= doc.len());
-        texts_and_run(&rt, &doc, span(begin, end), (texts, run))?;
+        part_has(&rt, text, true, (begin, end), (texts, run))?;
     }
-    let doc = Document::new(rt.alloc(), "né", None)?;
-    assert_eq!(rt; SourceTokens::all(&doc).len(), 1);
-    let plain = Document::plain(rt.alloc(), "né", None)?;
-    assert_eq!(rt; SourceTokens::all(&plain).len(), 1);
-    texts_and_run(&rt, &plain, plain.whole(), ("né", "né"))
+    assert_eq!(rt; number_in(&rt, "né", true)?, 1);
+    assert_eq!(rt; number_in(&rt, "né", false)?, 1);
+    part_has(&rt, "né", false, (0, 2), ("né", "né"))
 }
 
 #[test]
@@ -165,11 +225,8 @@ fn gaps_in_characters(rt: HostRuntime) {
         (5, 5, 5, 5, 0, 0, true),
     ] {
         assert!(rt; a <= b && c <= d);
-        assert_eq!(rt;
-            follows(span(a, b), span(c, d), min, max),
-            want,
-            "{a}-{b} and {c}-{d}"
-        );
+        let found = follows(span(a, b), span(c, d), min, max);
+        is_told(&rt, found, want, (a, b, c, d));
     }
 }
 
@@ -188,14 +245,15 @@ fn has_gaps(rt: &impl Abort, doc: &Document<'_>) {
     ] {
         assert!(rt; a <= b && c <= d && b <= doc.len() && d <= doc.len());
         let found = follows_tok(doc, span(a, b), span(c, d), min, max);
-        assert_eq!(rt; found, want, "{a}-{b} and {c}-{d}");
+        is_told(rt, found, want, (a, b, c, d));
     }
 }
 
 #[test]
 fn gaps_in_tokens(rt: HostRuntime) -> Result<(), Fail> {
-    has_gaps(&rt, &Document::new(rt.alloc(), TEXT, None)?);
-    has_gaps(&rt, &Document::plain(rt.alloc(), TEXT, None)?);
+    for keeps in [true, false] {
+        has_gaps(&rt, &document(&rt, TEXT, keeps)?);
+    }
     Ok(())
 }
 
@@ -214,11 +272,7 @@ fn spans_that_share_a_character_or_are_equal_overlap(rt: HostRuntime) {
         (7, 7, 4, 7, false),
     ] {
         assert!(rt; a <= b && c <= d);
-        assert_eq!(rt;
-            overlaps(span(a, b), span(c, d)),
-            want,
-            "{a}-{b} and {c}-{d}"
-        );
+        is_told(&rt, overlaps(span(a, b), span(c, d)), want, (a, b, c, d));
     }
 }
 
@@ -235,11 +289,7 @@ fn a_span_contains_itself_and_what_lies_in_it(rt: HostRuntime) {
         (5, 5, 5, 5, true),
     ] {
         assert!(rt; a <= b && c <= d);
-        assert_eq!(rt;
-            contains(span(a, b), span(c, d)),
-            want,
-            "{a}-{b} and {c}-{d}"
-        );
+        is_told(&rt, contains(span(a, b), span(c, d)), want, (a, b, c, d));
     }
 }
 
@@ -254,20 +304,15 @@ fn combined_spans_and_the_span_between(rt: HostRuntime) {
         (0, 5, 4, 7, (0, 7), (5, 5)),
     ] {
         assert!(rt; a <= b && c <= d);
-        let combined = combine(span(a, b), span(c, d));
-        assert_eq!(rt;
-            (combined.begin, combined.end),
-            whole,
-            "{a}-{b} and {c}-{d}"
-        );
-        let between = between(span(a, b), span(c, d));
-        assert_eq!(rt; (between.begin, between.end), gap, "{a}-{b} and {c}-{d}");
+        let of = (a, b, i64::from(c));
+        has_ends(&rt, combine(span(a, b), span(c, d)), whole, of);
+        has_ends(&rt, between(span(a, b), span(c, d)), gap, of);
     }
 }
 
 #[test]
 fn contexts_in_characters_end_at_the_document(rt: HostRuntime) -> Result<(), Fail> {
-    let doc = Document::new(rt.alloc(), TEXT, None)?;
+    let doc = document(&rt, TEXT, true)?;
     for (n, before, after) in [
         (2, 2, 22),
         (4, 0, 24),
@@ -278,10 +323,13 @@ fn contexts_in_characters_end_at_the_document(rt: HostRuntime) -> Result<(), Fai
         (i64::MIN, 4, 20),
     ] {
         assert!(rt; 20 <= doc.len());
-        let left = left_context(span(4, 20), n);
-        assert_eq!(rt; (left.begin, left.end), (before, 4), "with {n}");
-        let right = right_context(&doc, span(4, 20), n);
-        assert_eq!(rt; (right.begin, right.end), (20, after), "with {n}");
+        has_ends(&rt, left_context(span(4, 20), n), (before, 4), (4, 20, n));
+        has_ends(
+            &rt,
+            right_context(&doc, span(4, 20), n),
+            (20, after),
+            (4, 20, n),
+        );
     }
     Ok(())
 }
@@ -300,24 +348,17 @@ fn has_contexts(rt: &impl Abort, doc: &Document<'_>) {
     ] {
         assert!(rt; begin <= end && end <= doc.len());
         let left = left_context_tok(doc, span(begin, end), n);
-        assert_eq!(rt;
-            (left.begin, left.end),
-            (before, begin),
-            "of {begin}-{end} with {n}"
-        );
+        has_ends(rt, left, (before, begin), (begin, end, n));
         let right = right_context_tok(doc, span(begin, end), n);
-        assert_eq!(rt;
-            (right.begin, right.end),
-            (end, after),
-            "of {begin}-{end} with {n}"
-        );
+        has_ends(rt, right, (end, after), (begin, end, n));
     }
 }
 
 #[test]
 fn contexts_in_tokens_have_whole_tokens(rt: HostRuntime) -> Result<(), Fail> {
-    has_contexts(&rt, &Document::new(rt.alloc(), TEXT, None)?);
-    has_contexts(&rt, &Document::plain(rt.alloc(), TEXT, None)?);
+    for keeps in [true, false] {
+        has_contexts(&rt, &document(&rt, TEXT, keeps)?);
+    }
     Ok(())
 }
 
@@ -325,15 +366,15 @@ fn contexts_in_tokens_have_whole_tokens(rt: HostRuntime) -> Result<(), Fail> {
 fn a_document_gives_what_it_was_made_of(rt: HostRuntime) -> Result<(), Fail> {
     let doc = Document::new(rt.alloc(), "aé漢😀z", Some("mixed"))?;
     assert_eq!(rt; doc.label(), Some("mixed"));
-    assert_eq!(rt; doc.text(), "aé漢😀z");
-    assert_eq!(rt; doc.len(), 5);
-    assert_eq!(rt; doc.text_of(doc.whole()), "aé漢😀z");
+    is_text(&rt, doc.text(), "aé漢😀z", "the text");
+    is_number(&rt, doc.len(), 5, 0);
+    is_text(&rt, doc.text_of(doc.whole()), "aé漢😀z", "the whole");
     Ok(())
 }
 
 #[test]
 fn characters_are_told_from_bytes(rt: HostRuntime) -> Result<(), Fail> {
-    let doc = Document::new(rt.alloc(), "aé漢😀z", None)?;
+    let doc = document(&rt, "aé漢😀z", true)?;
     for (byte, place, text) in [
         (0, 0, "aé漢😀z"),
         (1, 1, "é漢😀z"),
@@ -343,28 +384,37 @@ fn characters_are_told_from_bytes(rt: HostRuntime) -> Result<(), Fail> {
         (11, 5, ""),
     ] {
         assert!(rt; doc.text().is_char_boundary(byte as usize) && place <= doc.len());
-        assert_eq!(rt; doc.char_at(byte), place, "at byte {byte}");
-        assert_eq!(rt; doc.text_of(span(place, doc.len())), text, "from {place}");
+        is_number(&rt, doc.char_at(byte), place, byte);
+        is_text(&rt, doc.text_of(span(place, doc.len())), text, text);
     }
     Ok(())
 }
 
-#[test]
-fn places_hold_past_many_blocks(rt: HostRuntime) -> Result<(), Fail> {
+/// A hundred blocks of characters of one to four bytes.
+fn blocks(rt: &impl AllocGlobal) -> Result<String, Fail> {
     let mut text = String::new(rt.alloc());
     for _ in 0..100 {
         text.push_str("aé漢😀")?;
     }
-    assert!(rt; text.len() <= TEXT_LIMIT);
-    let doc = Document::new(rt.alloc(), text.as_str(), None)?;
+    Ok(text)
+}
+
+/// The places of the second and third character of each block are found.
+fn has_blocks(rt: &impl Abort, doc: &Document<'_>) {
     for round in 0..100u32 {
         let begin = 4 * round + 1;
         assert!(rt; begin + 2 <= doc.len());
-        assert_eq!(rt; doc.text_of(span(begin, begin + 2)), "é漢", "from {begin}");
+        is_text(rt, doc.text_of(span(begin, begin + 2)), "é漢", "a block");
         let byte = 10 * round + 3;
         assert!(rt; doc.text().is_char_boundary(byte as usize));
-        assert_eq!(rt; doc.char_at(byte), begin + 1, "at byte {byte}");
+        is_number(rt, doc.char_at(byte), begin + 1, byte);
     }
+}
+
+#[test]
+fn places_hold_past_many_blocks(rt: HostRuntime) -> Result<(), Fail> {
+    let text = blocks(&rt)?;
+    has_blocks(&rt, &document(&rt, text.as_str(), true)?);
     Ok(())
 }
 
@@ -379,7 +429,7 @@ fn from_b(doc: &Document<'_>, source: Span) -> Option<Span>
 
 #[test]
 fn bytes_of_a_span_are_moved_to_the_document(rt: HostRuntime) -> Result<(), Fail> {
-    let doc = Document::new(rt.alloc(), "éé Bö, ü", None)?;
+    let doc = document(&rt, "éé Bö, ü", true)?;
     assert!(rt; doc.len() == 8);
     assert_eq!(rt; from_b(&doc, span(1, 5)), Some(span(3, 5)));
     assert_eq!(rt; from_b(&doc, span(4, 8)), None);
@@ -388,7 +438,7 @@ fn bytes_of_a_span_are_moved_to_the_document(rt: HostRuntime) -> Result<(), Fail
 
 #[test]
 fn a_document_is_shared_among_threads(rt: HostRuntime) -> Result<(), Fail> {
-    let doc = Document::new(rt.alloc(), "Zoë met Bo.", None)?;
+    let doc = document(&rt, "Zoë met Bo.", true)?;
     let mut counts = [0, 0, 0, 0];
     thread::for_each_mut(&rt, &mut counts, 2, &|_, count| *count = doc.token_count());
     assert_eq!(rt; counts, [4, 4, 4, 4]);
@@ -397,8 +447,8 @@ fn a_document_is_shared_among_threads(rt: HostRuntime) -> Result<(), Fail> {
 
 #[test]
 fn a_document_is_sent_to_a_thread(rt: HostRuntime) -> Result<(), Fail> {
-    let here = Document::new(rt.alloc(), "Zoë met Bo.", None)?;
-    let sent = Document::new(rt.alloc(), "no one", None)?;
+    let here = document(&rt, "Zoë met Bo.", true)?;
+    let sent = document(&rt, "no one", true)?;
     let counts = thread::join(&rt, || here.token_count(), move || sent.token_count());
     assert_eq!(rt; counts, (4, 2));
     Ok(())
@@ -431,19 +481,34 @@ fn documents_are_kept_in_a_list(rt: HostRuntime) -> Result<(), Fail> {
     Ok(())
 }
 
+/// A text is kept as it is given, as a slice and as a string.
+fn keeps_text(rt: &impl Abort, text: OwnedText, want: &str) {
+    is_text(rt, text.as_str(), want, "a slice");
+    let again = OwnedText::from(text.into_string());
+    is_text(rt, again.as_str(), want, "a string");
+}
+
+/// A list has these elements.
+fn has_elements(rt: &impl Abort, list: &OwnedList<i32>, want: &[i32]) {
+    assert_eq!(rt; list.as_slice(), want);
+}
+
+/// The list of the elements.
+fn list_of(rt: &impl AllocGlobal, elements: &[i32]) -> Result<OwnedList<i32>, Fail> {
+    let mut list = OwnedList::new(rt.alloc());
+    for element in elements {
+        list.push(*element)?;
+    }
+    Ok(list)
+}
+
 #[test]
 fn owned_texts_and_lists_keep_what_they_are_given(rt: HostRuntime) -> Result<(), Fail> {
-    let text = OwnedText::copied(rt.alloc(), "né")?;
-    assert_eq!(rt; text.as_str(), "né");
-    let again = OwnedText::from(text.into_string());
-    assert_eq!(rt; again.as_str(), "né");
-    let mut list = OwnedList::new(rt.alloc());
-    list.push(7)?;
-    list.push(5)?;
+    keeps_text(&rt, OwnedText::copied(rt.alloc(), "né")?, "né");
+    let list = list_of(&rt, &[7, 5])?;
     assert_eq!(rt; list.len(), 2);
-    assert_eq!(rt; list.as_slice(), [7, 5].as_slice());
-    let again = OwnedList::from(list.into_vec());
-    assert_eq!(rt; again.as_slice(), [7, 5].as_slice());
+    has_elements(&rt, &list, &[7, 5]);
+    has_elements(&rt, &OwnedList::from(list.into_vec()), &[7, 5]);
     Ok(())
 }
 
@@ -459,13 +524,18 @@ fn first_word(alloc: Global, text: &str) -> Result<OwnedText, Failure<u8>> {
 
 #[test]
 fn a_failure_names_its_cause(rt: HostRuntime) -> Result<(), Fail> {
-    assert_eq!(rt; first_word(rt.alloc(), "one two")?.as_str(), "one.");
+    is_text(
+        &rt,
+        first_word(rt.alloc(), "one two")?.as_str(),
+        "one.",
+        "one two",
+    );
     let Err(failure) = first_word(rt.alloc(), "one") else {
         return Err(Fail::from("a word"));
     };
     assert!(rt; failure == Failure::Fault(1));
     assert!(rt; failure.renamed(|fault: u8| fault < 2) == Failure::Fault(true));
     let shown = format!(in rt.alloc(); "{}", OutOfMemory)?;
-    assert_eq!(rt; shown.as_str(), "out of memory");
+    is_text(&rt, shown.as_str(), "out of memory", "want of memory");
     Ok(())
 }
