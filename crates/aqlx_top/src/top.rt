@@ -26,8 +26,8 @@ use std::thread::Threads;
 /// `ok`, and `plan PROGRAM` the text of the program's plan. `gen N` writes N generated documents as a
 /// corpus, and `demo N` the summary of the demonstration on them, N from 0 to 100,000.
 ///
-/// Words that ask for nothing have the status `Usage`. At most 1,048,577 bytes of the program file are
-/// read, and a program with a fault is refused for its first one (`ProgramFault`). A status of 1 to 4 has
+/// Words that ask for nothing have the status `Usage`. Of the program file at most one byte more than
+/// `PROGRAM_LIMIT` is read, and a program with a fault is refused for its first one (`ProgramFault`). A status of 1 to 4 has
 /// its one line on `err`. With the statuses 1 and 2, and in other modes than `run`, nothing is read of the
 /// corpus. With 1 and 2 nothing is written to `out`; with 0 all is written and flushed, and so are with 3,
 /// and with 4 after a failed read of the corpus, the lines of all documents before the bad line or the
