@@ -3,7 +3,7 @@ use Rattle.std.specs.Prelude.{◌≤◌}
 use Rattle.aqlx_top.specs.declared.words.Asked.{Asked}
 use Rattle.aqlx_top.specs.declared.words.Order.{Order as Told}
 use Rattle.aqlx_top.specs.declared.words.Order.TheVariants.{Run, Check, Plan, Gen, Demo}
-use Rattle.aqlx_top.specs.Words.{Order, to_run, to_check, to_plan, to_generate, to_demonstrate}
+use Rattle.aqlx_top.specs.Words.{Order, to_run, to_check, to_plan, to_generate, to_demonstrate, worker_limit}
 
 abbrev pub order_told : Told → Order
 order_told (Run name) = to_run name.now
@@ -15,6 +15,6 @@ order_told (Demo count) = to_demonstrate count
 abbrev pub asked_told : Asked → Order
 asked_told asked = order_told asked.order
 
--- it is asked for 1 to 16 workers
+-- it is asked for one worker at least, and for no more than may be asked for
 abbrev pub IsForWorkers : Asked → Type 0
-IsForWorkers asked = (1 ≤ asked.workers) × (asked.workers ≤ 16)
+IsForWorkers asked = (1 ≤ asked.workers) × (asked.workers ≤ worker_limit)

@@ -7,6 +7,7 @@ ghost use Rattle.plan_operators.specs.Boards.{Holds};
 ghost use Rattle.run_pool.specs.Answers.{IsAnswer};
 ghost use Rattle.run_pool.specs.Entries.{entry_of, AreHanded};
 ghost use Rattle.run_pool.specs.Lines.{names_in, rows_by};
+ghost use Rattle.span_token.specs.Limits.{text_limit};
 ghost use Rattle.aqlx_top.specs.Devices.{sink_between, IsUntouched};
 ghost use Rattle.aqlx_top.specs.Handing.{pool_between, IsHandedAll, IsHandedFront, IsUnasked};
 ghost use Rattle.aqlx_top.specs.PoolRuns.{summary_from, IsCountedInPart};
@@ -134,7 +135,7 @@ fn count_rows<P: Pool>(
 ) -> Result<(), OutOfMemory>
     requires layout { layout.now ≡ names_in schedule.now }
     requires tables { tools.old ≡ schedule.now.lists }
-    requires short { length input.text.now ≤ 16777216 }
+    requires short { length input.text.now ≤ text_limit }
     requires one_of_each { length totals.old.totals ≡ length schedule.now.outputs }
     requires room { totals.old.documents < 2 ^ 32 - 1 }
     ensures counted { OnOk result (IsCounted (length schedule.now.outputs) (P.means pool.old schedule.now (doc_of_ref input.entry)) totals.old totals.new) }

@@ -35,8 +35,8 @@ pub enum ProgramFault {
     Text {
         place: u32,
     },
-    /// There is more of something than a program may have, and how many there are: 1,048,577 bytes, where
-    /// there are more than 1,048,576, or the number of statements, or the deepest nesting.
+    /// There is more of something than a program may have, and how many there are: one byte more than
+    /// `PROGRAM_LIMIT`, where there are more bytes, or the number of statements, or the deepest nesting.
     Large {
         what: What,
         number: u64,
@@ -69,9 +69,9 @@ pub enum What {
 pub enum CorpusFault {
     /// This line is neither blank nor a document.
     BadLine(u64),
-    /// This line has more than 16,777,216 bytes, its line feed left out.
+    /// This line has more than `LINE_LIMIT` bytes, its line feed left out.
     LineLong(u64),
-    /// 2^40 bytes were taken, and no line before is bad.
+    /// `CORPUS_LIMIT` bytes were taken, and no line before is bad.
     CorpusLarge,
 }
 

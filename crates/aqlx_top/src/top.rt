@@ -26,13 +26,14 @@ use std::thread::Threads;
 /// `ok`, and `plan PROGRAM` the text of the program's plan. `gen N` writes N generated documents as a
 /// corpus, and `demo N` the summary of the demonstration on them, N from 0 to 100,000.
 ///
-/// Words that ask for nothing have the status `Usage`. At most 1,048,577 bytes of the program file are
-/// read, and a program with a fault is refused for its first one (`ProgramFault`). A status of 1 to 4 has
-/// its one line on `err`. With the statuses 1 and 2, and in other modes than `run`, nothing is read of the
-/// corpus. With 1 and 2 nothing is written to `out`; with 0 all is written and flushed, and so are with 3,
-/// and with 4 after a failed read of the corpus, the lines of all documents before the bad line or the
-/// failed read; with 5 and after want of memory a prefix is written. `run` holds one line of the corpus, and
-/// one piece of output beyond the lines of one document; `plan` and `demo` hold their text.
+/// Words that ask for nothing have the status `Usage`. Of the program file at most one byte more than
+/// `PROGRAM_LIMIT` is read, and a program with a fault is refused for its first one (`ProgramFault`). A
+/// status of 1 to 4 has its one line on `err`. With the statuses 1 and 2, and in other modes than `run`,
+/// nothing is read of the corpus. With 1 and 2 nothing is written to `out`; with 0 all is written and
+/// flushed, and so are with 3, and with 4 after a failed read of the corpus, the lines of all documents
+/// before the bad line or the failed read; with 5 and after want of memory a prefix is written. `run` holds
+/// one line of the corpus, and one piece of output beyond the lines of one document; `plan` and `demo` hold
+/// their text.
 ///
 /// `run` and `demo` hand each document to `pool`, in order and once, with a plan whose text `plan` writes, and write or
 /// count the rows that it answered. The program's pool is `Workers`; a sound pool's lines are those that the program

@@ -6,6 +6,7 @@ ghost use Rattle.algebra.specs.Plans.{Parts};
 ghost use Rattle.aql_io.specs.Causes.{Rose};
 ghost use Rattle.corpus_json.specs.Documents.{documents, is_bad_line};
 ghost use Rattle.corpus_json.specs.Inputs.{doc_of};
+ghost use Rattle.corpus_json.specs.Limits.{line_limit};
 ghost use Rattle.run_pool.specs.Lines.{rows_by};
 ghost use Rattle.span_token.specs.Documents.{Doc};
 ghost use Rattle.aqlx_top.specs.Devices.{source_ends, source_between, sink_between};
@@ -260,7 +261,7 @@ fn take_given<R: Threads + Sync, P: Pool>(
     requires as_found { P.means pool.now ≡ rows_by }
     requires untold { P.told pool.now ≡ None }
     requires below { length work.old.window.items < work.old.most }
-    requires line { length work.old.line.items ≤ 16777216 }
+    requires line { length work.old.line.items ≤ line_limit }
     ensures given { IfOk result (IsGiven (line_by work.old.plan.now) work.old work.new) }
     ensures fits { IfOk result (λ _. (plan : Parts) → Fits plan work.old → Fits plan work.new) }
 {
@@ -283,7 +284,7 @@ fn answer_or_take<R: Threads + Sync, P: Pool>(
     requires as_found { P.means pool.now ≡ rows_by }
     requires untold { P.told pool.now ≡ None }
     requires below { length work.old.window.items < work.old.most }
-    requires line { length work.old.line.items ≤ 16777216 }
+    requires line { length work.old.line.items ≤ line_limit }
     requires empty { work.old.window.items ≡ [] }
     ensures given { IfOk result (IsGiven (line_by work.old.plan.now) work.old work.new) }
     ensures fits { IfOk result (λ _. (plan : Parts) → Fits plan work.old → Fits plan work.new) }
@@ -357,7 +358,7 @@ fn answer_ready<R: Threads + Sync, P: Pool>(
 
 /// Puts the document of the line that was given behind those of the window; a blank line has none.
 fn take_document(alloc: Global, work: &mut Windowed<'_>) -> Result<Turn, OutOfMemory>
-    requires line { length work.old.line.items ≤ 16777216 }
+    requires line { length work.old.line.items ≤ line_limit }
     requires short { AreShort work.old.window.items }
     requires below { length work.old.window.items < work.old.most }
     ensures taken { IfOk result (HasTaken work.old work.new) }
@@ -379,7 +380,7 @@ fn put_document(
     line: &[u8],
     window: &mut Vec<Input>,
 ) -> Result<bool, OutOfMemory>
-    requires line { length line.now ≤ 16777216 }
+    requires line { length line.now ≤ line_limit }
     requires short { AreShort window.old.items }
     ensures good { IfOk result (λ good. is_bad_line line.now ≡ not good) }
     ensures documents { IfOk result (λ good. map doc_of window.new.items ≡ map doc_of window.old.items ++ documents (line.now ∷ [])) }

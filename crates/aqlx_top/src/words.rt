@@ -5,7 +5,7 @@ ghost use Rattle.std.specs.Char.{is_ascii_digit};
 ghost use Rattle.std.specs.List.{list_all};
 ghost use Rattle.std.specs.Str.{bytes_eq};
 ghost use Rattle.aqlx_top.specs.Orders.{asked_told, order_told, IsForWorkers};
-ghost use Rattle.aqlx_top.specs.Words.{count_of, is_option, is_workers, number_behind, order_by, order_in_four, order_of};
+ghost use Rattle.aqlx_top.specs.Words.{count_of, document_limit, is_option, is_workers, number_behind, order_by, order_in_four, order_of, worker_limit};
 
 /// The most workers that may be asked for.
 const MOST_WORKERS: u32 = 16;
@@ -69,7 +69,7 @@ fn order_in_four<'w>(a: &'w str, b: &'w str, c: &'w str, d: &'w str) -> Option<A
 
 /// An order, where there is one, for so many workers.
 fn by_workers<'w>(order: Option<Order<'w>>, workers: u32) -> Option<Asked<'w>>
-    requires within { (1 ≤ workers) × (workers ≤ 16) }
+    requires within { (1 ≤ workers) × (workers ≤ worker_limit) }
     ensures order { option_map asked_told result ≡ option_map order_told order.entry }
     ensures workers { IfSome result IsForWorkers }
 {
@@ -129,7 +129,7 @@ fn is_workers(word: &str) -> bool
 /// The number of workers that a word asks for; 1 for a word that asks for none.
 fn workers_of(word: &str) -> u32
     ensures number { is_workers word.now ≡ true → result ≡ number_behind 0 word.now }
-    ensures within { (1 ≤ result) × (result ≤ 16) }
+    ensures within { (1 ≤ result) × (result ≤ worker_limit) }
 {
     match number_of(word, MOST_WORKERS) {
         Some(number) => number.max(1),
@@ -150,7 +150,7 @@ fn count_of(word: &str) -> Option<u32>
 /// The number that a word of digits writes, where it is at most `most`; 0 for no digit.
 #[tactic(auto, using(crate::proofs::Numbers::cut_behind))]
 fn number_of(word: &str, most: u32) -> Option<u32>
-    requires small { most ≤ 100000 }
+    requires small { most ≤ document_limit }
     ensures { result ≡ (if list_all is_ascii_digit word.now && nat_le (number_behind 0 word.now) most then Some (number_behind 0 word.now) else None) }
 {
     let mut number: u32 = 0;

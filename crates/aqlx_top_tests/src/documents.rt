@@ -1,5 +1,6 @@
 //! What is written for documents, and which lines are none.
-use crate::setup::{NO_NUMBERS, NUMBERS, Setup, run, usual};
+use crate::setup::{DIGIT, NO_MATCH, NO_NUMBERS, NUMBERS, Setup, comes_to, repeated, usual};
+use std::alloc::Global;
 use std::test::Fail;
 
 /// Each row: a program, a corpus, and what is written.
@@ -52,86 +53,117 @@ const DONE: [(&str, &str, &str); 10] = [
     ),
 ];
 
+const BAD_LINE_1: &str = "aqlx: corpus line 1 is not a document\n";
+
 #[test]
 fn documents_are_written_in_order_with_their_matches(rt: HostRuntime) -> Result<(), Fail> {
-    for (program, corpus, wanted) in &DONE {
-        let ran = run(&rt, rt.alloc(), &usual(program, corpus))?;
-        assert_eq!(rt; ran.code, 0, "over {corpus}");
-        assert_eq!(rt; ran.out.bytes(), wanted.as_bytes(), "over {corpus}");
-        assert_eq!(rt; ran.err.bytes().len(), 0, "over {corpus}");
+    for (program, corpus, out) in &DONE {
+        let setup = usual(program, corpus);
+        comes_to(
+            &rt,
+            rt.alloc(),
+            &setup,
+            (0, out.as_bytes(), ""),
+            (corpus, 0),
+        )?;
     }
     Ok(())
 }
 
 #[test]
 fn a_document_cut_after_any_byte_is_a_bad_line(rt: HostRuntime) -> Result<(), Fail> {
-    let alloc = rt.alloc();
     let line = "{\"text\":\"\u{e9}\"}".as_bytes();
     for end in 0..line.len() + 1 {
-        let ran = run(
-            &rt,
-            alloc,
-            &Setup {
-                corpus: &line[..end],
-                ..usual(NUMBERS, "")
-            },
-        )?;
-        let whole = end == 0 || end == line.len();
-        let wanted = if whole { 0 } else { 3 };
-        assert_eq!(rt; ran.code, wanted, "cut after {end} bytes");
-    }
-    let no_text = b"{\"text\":\"\xff\"}".as_slice();
-    let ran = run(
-        &rt,
-        alloc,
-        &Setup {
-            corpus: no_text,
+        let setup = Setup {
+            corpus: &line[..end],
             ..usual(NUMBERS, "")
-        },
-    )?;
-    assert_eq!(rt; ran.code, 3);
-    assert_eq!(rt;
-        ran.err.bytes(),
-        b"aqlx: corpus line 1 is not a document\n".as_slice()
-    );
-    Ok(())
+        };
+        let (status, out, err) = if end == 0 {
+            (0, "", "")
+        } else if end == line.len() {
+            (0, NO_MATCH, "")
+        } else {
+            (3, "", BAD_LINE_1)
+        };
+        let wanted = (status, out.as_bytes(), err);
+        comes_to(
+            &rt,
+            rt.alloc(),
+            &setup,
+            wanted,
+            ("a document cut", end as u64),
+        )?;
+    }
+    let setup = Setup {
+        corpus: b"{\"text\":\"\xff\"}",
+        ..usual(NUMBERS, "")
+    };
+    comes_to(
+        &rt,
+        rt.alloc(),
+        &setup,
+        (3, b"", BAD_LINE_1),
+        ("a byte that is no text", 0),
+    )
 }
 
 #[test]
 fn a_hundred_documents_before_a_bad_line_are_written(rt: HostRuntime) -> Result<(), Fail> {
     let alloc = rt.alloc();
-    let mut corpus = String::new(alloc);
-    for _ in 0..100 {
-        corpus.push_str("{\"text\":\"1\"}\n")?;
-    }
-    corpus.push_str("[]\n{\"text\":\"1\"}\n")?;
-    let ran = run(&rt, alloc, &usual(NUMBERS, corpus.as_str()))?;
-    let line = "{\"views\":{\"P\":[{\"num\":{\"begin\":0,\"end\":1,\"text\":\"1\"}}]}}\n";
-    assert_eq!(rt; ran.code, 3);
-    assert_eq!(rt;
-        ran.err.bytes(),
-        b"aqlx: corpus line 101 is not a document\n".as_slice()
+    let documents = repeated(alloc, "{\"text\":\"1\"}\n", 100)?;
+    let corpus = format!(in alloc; "{documents}[]\n{{\"text\":\"1\"}}\n")?;
+    let out = repeated(alloc, DIGIT, 100)?;
+    let wanted = (
+        3,
+        out.as_bytes(),
+        "aqlx: corpus line 101 is not a document\n",
     );
-    assert_eq!(rt; ran.out.bytes().len(), 100 * line.len());
-    assert!(rt; ran.out.bytes().ends_with(line.as_bytes()));
-    Ok(())
+    comes_to(
+        &rt,
+        alloc,
+        &usual(NUMBERS, corpus.as_str()),
+        wanted,
+        ("a bad line", 101),
+    )
 }
+
+/// The line of a document of so many letters.
+fn line_of(alloc: Global, letters: usize) -> Result<Vec<u8>, Fail> {
+    let mut line = Vec::from_slice(alloc, b"{\"text\":\"")?;
+    let letter = vec![in alloc; b'a'; letters]?;
+    line.extend_from_slice(&letter)?;
+    line.extend_from_slice(b"\"}")?;
+    Ok(line)
+}
+
+/// Each row: how many letters a document has, the status, the output, and the line on standard error.
+const LIMIT: [(usize, u8, &str, &str); 2] = [
+    (16_777_205, 0, NO_MATCH, ""),
+    (
+        16_777_206,
+        3,
+        "",
+        "aqlx: corpus line 1 is longer than 16777216 bytes\n",
+    ),
+];
 
 #[test]
 fn a_line_of_the_limit_is_read_and_a_longer_one_is_not(rt: HostRuntime) -> Result<(), Fail> {
-    let alloc = rt.alloc();
-    for (letters, status) in [(16_777_205usize, 0), (16_777_206, 3)] {
-        let mut corpus = Vec::from_slice(alloc, b"{\"text\":\"")?;
-        let letter = vec![in alloc; b'a'; letters]?;
-        corpus.extend_from_slice(&letter)?;
-        corpus.extend_from_slice(b"\"}")?;
+    for (letters, status, out, err) in &LIMIT {
+        let line = line_of(rt.alloc(), *letters)?;
         let setup = Setup {
-            corpus: &corpus,
+            corpus: line.as_slice(),
             piece: 1 << 20,
             ..usual(NUMBERS, "")
         };
-        let ran = run(&rt, alloc, &setup)?;
-        assert_eq!(rt; ran.code, status, "at {letters} letters");
+        let wanted = (*status, out.as_bytes(), *err);
+        comes_to(
+            &rt,
+            rt.alloc(),
+            &setup,
+            wanted,
+            ("letters", *letters as u64),
+        )?;
     }
     Ok(())
 }

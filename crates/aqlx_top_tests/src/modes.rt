@@ -1,12 +1,8 @@
 //! The modes that read no corpus: what they write, and which words ask for them.
-use crate::setup::{NUMBERS, Setup, run, usual};
+use crate::setup::{DEMO_OF_2, NUMBERS, READ_FAULT, Setup, comes_to, usual};
 use std::test::Fail;
 
-/// The summary of the demonstration on two documents, written by another program.
-const DEMO_OF_2: &str =
-    "documents 2\nDate 2\nDigits 3\nFirstPerson 2\nLongName 3\nLowerName 0\nNumberRun 6\nPerson 5\nPersonCity 1\nPersonOrg 2\nPersonPhone 1\nPersonRole 0\n";
-
-/// On two hundred.
+/// The summary of the demonstration on two hundred documents, written by another program.
 const DEMO_OF_200: &str =
     "documents 200\nDate 75\nDigits 369\nFirstPerson 175\nLongName 225\nLowerName 75\nNumberRun 532\nPerson 300\nPersonCity 75\nPersonOrg 75\nPersonPhone 81\nPersonRole 0\n";
 
@@ -23,37 +19,34 @@ const PLAN: &str = "0 Doc\n1 Regex 0\n2 Project 1\nout P 2\n";
 
 const USAGE: &str = "aqlx: usage: aqlx MODE PROGRAM [--workers N]\n";
 
+/// Each row: words, and what comes of them: the status, the output, and the line on standard error.
+const MODES: [(&[&str], u8, &str, &str); 14] = [
+    (&["check", "p.aql"], 0, "ok\n", ""),
+    (&["check", "--workers", "4", "p.aql"], 0, "ok\n", ""),
+    (&["plan", "p.aql"], 0, PLAN, ""),
+    (&["plan", "q.aql"], 4, "", READ_FAULT),
+    (&["gen", "0"], 0, "", ""),
+    (&["gen", "01"], 0, GEN_OF_1, ""),
+    (&["demo", "0"], 0, DEMO_OF_0, ""),
+    (&["--workers", "16", "demo", "2"], 0, DEMO_OF_2, ""),
+    (&["demo", "200"], 0, DEMO_OF_200, ""),
+    (&["gen", ""], 2, "", USAGE),
+    (&["gen", "100001"], 2, "", USAGE),
+    (&["demo", "-1"], 2, "", USAGE),
+    (&["demo", "p.aql"], 2, "", USAGE),
+    (&["Check", "p.aql"], 2, "", USAGE),
+];
+
 #[test]
 fn each_mode_writes_its_text_and_reads_no_corpus(rt: HostRuntime) -> Result<(), Fail> {
-    let rows: [(&[&str], u8, &str, &str); 14] = [
-        (&["check", "p.aql"], 0, "ok\n", ""),
-        (&["check", "--workers", "4", "p.aql"], 0, "ok\n", ""),
-        (&["plan", "p.aql"], 0, PLAN, ""),
-        (&["plan", "q.aql"], 4, "", "aqlx: read fault\n"),
-        (&["gen", "0"], 0, "", ""),
-        (&["gen", "01"], 0, GEN_OF_1, ""),
-        (&["demo", "0"], 0, DEMO_OF_0, ""),
-        (&["--workers", "16", "demo", "2"], 0, DEMO_OF_2, ""),
-        (&["demo", "200"], 0, DEMO_OF_200, ""),
-        (&["gen", ""], 2, "", USAGE),
-        (&["gen", "100001"], 2, "", USAGE),
-        (&["demo", "-1"], 2, "", USAGE),
-        (&["demo", "p.aql"], 2, "", USAGE),
-        (&["Check", "p.aql"], 2, "", USAGE),
-    ];
-    for (words, status, out, err) in &rows {
-        let ran = run(
-            &rt,
-            rt.alloc(),
-            &Setup {
-                words,
-                source_fails: &[1],
-                ..usual(NUMBERS, "no document")
-            },
-        )?;
-        assert_eq!(rt; ran.code, *status, "of {out}{err}");
-        assert_eq!(rt; ran.out.bytes(), out.as_bytes());
-        assert_eq!(rt; ran.err.bytes(), err.as_bytes());
+    for (words, status, out, err) in &MODES {
+        let setup = Setup {
+            words,
+            source_fails: &[1],
+            ..usual(NUMBERS, "no document")
+        };
+        let wanted = (*status, out.as_bytes(), *err);
+        comes_to(&rt, rt.alloc(), &setup, wanted, (out, 0))?;
     }
     Ok(())
 }
@@ -61,54 +54,38 @@ fn each_mode_writes_its_text_and_reads_no_corpus(rt: HostRuntime) -> Result<(), 
 #[test]
 fn a_fault_is_told_in_each_mode_that_reads_a_program(rt: HostRuntime) -> Result<(), Fail> {
     for mode in &["check", "plan"] {
-        let ran = run(
-            &rt,
-            rt.alloc(),
-            &Setup {
-                words: &[mode, "p.aql"],
-                ..usual("output view P;", "")
-            },
-        )?;
-        assert_eq!(rt; ran.code, 1, "of {mode}");
-        assert_eq!(rt; ran.out.bytes().len(), 0, "of {mode}");
-        assert_eq!(rt;
-            ran.err.bytes(),
-            "aqlx: statement 1: no view P\n".as_bytes(),
-            "of {mode}"
-        );
+        let words = [*mode, "p.aql"];
+        let setup = Setup {
+            words: &words,
+            ..usual("output view P;", "")
+        };
+        let wanted = (1, b"".as_slice(), "aqlx: statement 1: no view P\n");
+        comes_to(&rt, rt.alloc(), &setup, wanted, (mode, 0))?;
     }
     Ok(())
 }
 
+/// Each row: words, and what they write.
+const WRITTEN: [(&[&str], &str); 4] = [
+    (&["check", "p.aql"], "ok\n"),
+    (&["plan", "p.aql"], PLAN),
+    (&["gen", "1"], GEN_OF_1),
+    (&["demo", "2"], DEMO_OF_2),
+];
+
 #[test]
 fn a_failed_write_of_each_mode_is_told(rt: HostRuntime) -> Result<(), Fail> {
-    let rows: [(&[&str], &str); 4] = [
-        (&["check", "p.aql"], "ok\n"),
-        (&["plan", "p.aql"], PLAN),
-        (&["gen", "1"], GEN_OF_1),
-        (&["demo", "2"], DEMO_OF_2),
-    ];
-    for (words, whole) in &rows {
+    for (words, whole) in &WRITTEN {
         // the first call writes ten bytes, or all; the second one writes or flushes
-        for call in 1u64..3 {
-            let fails = [call];
-            let ran = run(
-                &rt,
-                rt.alloc(),
-                &Setup {
-                    words,
-                    out_fails: &fails,
-                    ..usual(NUMBERS, "")
-                },
-            )?;
-            let written = if call == 1 { 0 } else { whole.len().min(10) };
-            assert_eq!(rt; ran.code, 5, "with call {call} failing before {whole}");
-            assert_eq!(rt;
-                ran.out.bytes(),
-                &whole.as_bytes()[..written],
-                "with call {call} failing"
-            );
-            assert_eq!(rt; ran.err.bytes().len(), 0, "with call {call} failing");
+        for (call, written) in &[(1u64, 0usize), (2, 10)] {
+            let fails = [*call];
+            let setup = Setup {
+                words,
+                out_fails: &fails,
+                ..usual(NUMBERS, "")
+            };
+            let front = &whole.as_bytes()[..whole.len().min(*written)];
+            comes_to(&rt, rt.alloc(), &setup, (5, front, ""), (whole, *call))?;
         }
     }
     Ok(())

@@ -1,5 +1,5 @@
 //! Which programs are refused, each with its line on standard error.
-use crate::setup::{NO_NUMBERS, Setup, run, usual};
+use crate::setup::{NO_NUMBERS, Setup, comes_to, repeated, usual};
 use std::alloc::Global;
 use std::test::Fail;
 
@@ -55,10 +55,8 @@ const UNRESOLVED: [(&str, &str); 12] = [
 #[test]
 fn names_that_cannot_be_resolved_are_told(rt: HostRuntime) -> Result<(), Fail> {
     for (program, line) in &UNRESOLVED {
-        let ran = run(&rt, rt.alloc(), &usual(program, NO_NUMBERS))?;
-        assert_eq!(rt; ran.code, 1, "of {program}");
-        assert_eq!(rt; ran.out.bytes().len(), 0, "of {program}");
-        assert_eq!(rt; ran.err.bytes(), line.as_bytes(), "of {program}");
+        let setup = usual(program, NO_NUMBERS);
+        comes_to(&rt, rt.alloc(), &setup, (1, b"", *line), (program, 0))?;
     }
     Ok(())
 }
@@ -134,39 +132,39 @@ const MISTYPED: [(&str, &str); 16] = [
 #[test]
 fn faults_of_types_have_their_place(rt: HostRuntime) -> Result<(), Fail> {
     for (program, line) in &MISTYPED {
-        let ran = run(&rt, rt.alloc(), &usual(program, NO_NUMBERS))?;
-        assert_eq!(rt; ran.code, 1, "of {program}");
-        assert_eq!(rt; ran.out.bytes().len(), 0, "of {program}");
-        assert_eq!(rt; ran.err.bytes(), line.as_bytes(), "of {program}");
+        let setup = usual(program, NO_NUMBERS);
+        comes_to(&rt, rt.alloc(), &setup, (1, b"", *line), (program, 0))?;
     }
     Ok(())
 }
 
+/// Each row: the bytes of a program that isn't read to its end, and its line.
+const UNREAD: [(&[u8], &str); 6] = [
+    (b"\x61\xff", "aqlx: program is not UTF-8 at byte 1\n"),
+    (b"# \xc3", "aqlx: program is not UTF-8 at byte 2\n"),
+    (b"create view P as #", "aqlx: no token at byte 17\n"),
+    (b"; 'a", "aqlx: no token at byte 2\n"),
+    (
+        b"create dictionary A as ('x');\ncreate dictionary B as ('y');\ncreate dictionary C as ('z';\n",
+        "aqlx: syntax: statement 3, line 3\n",
+    ),
+    (b"output view P; V1", "aqlx: syntax: statement 2, line 1\n"),
+];
+
 #[test]
 fn faults_of_text_tokens_and_syntax_have_their_place(rt: HostRuntime) -> Result<(), Fail> {
-    let rows: [(&[u8], &str); 6] = [
-        (b"\x61\xff", "aqlx: program is not UTF-8 at byte 1\n"),
-        (b"# \xc3", "aqlx: program is not UTF-8 at byte 2\n"),
-        (b"create view P as #", "aqlx: no token at byte 17\n"),
-        (b"; 'a", "aqlx: no token at byte 2\n"),
-        (
-            b"create dictionary A as ('x');\ncreate dictionary B as ('y');\ncreate dictionary C as ('z';\n",
-            "aqlx: syntax: statement 3, line 3\n",
-        ),
-        (b"output view P; V1", "aqlx: syntax: statement 2, line 1\n"),
-    ];
-    for (program, line) in &rows {
+    for (program, line) in &UNREAD {
         let setup = Setup {
             program,
             ..usual("", NO_NUMBERS)
         };
-        let ran = run(&rt, rt.alloc(), &setup)?;
-        assert_eq!(rt; ran.code, 1, "of {line}");
-        assert_eq!(rt; ran.out.bytes().len(), 0, "of {line}");
-        assert_eq!(rt; ran.err.bytes(), line.as_bytes(), "of {line}");
+        comes_to(&rt, rt.alloc(), &setup, (1, b"", *line), (line, 0))?;
     }
     Ok(())
 }
+
+/// What a program without an output writes for a document.
+const NO_VIEWS: &str = "{\"views\":{}}\n";
 
 /// So many views of a pattern, with names of their own.
 fn views(alloc: Global, count: u32) -> Result<String, Fail> {
@@ -184,14 +182,20 @@ fn views(alloc: Global, count: u32) -> Result<String, Fail> {
 fn two_thousand_statements_are_read_and_one_more_is_not(rt: HostRuntime) -> Result<(), Fail> {
     let alloc = rt.alloc();
     let rows = [
-        (2000u32, 0u8, ""),
-        (2001, 1, "aqlx: program too large: statements 2001\n"),
+        (2000u32, 0u8, NO_VIEWS, ""),
+        (2001, 1, "", "aqlx: program too large: statements 2001\n"),
     ];
-    for (count, code, line) in &rows {
+    for (count, status, out, line) in &rows {
         let program = views(alloc, *count)?;
-        let ran = run(&rt, alloc, &usual(program.as_str(), NO_NUMBERS))?;
-        assert_eq!(rt; ran.code, *code, "of {count} statements");
-        assert_eq!(rt; ran.err.bytes(), line.as_bytes(), "of {count} statements");
+        let setup = usual(program.as_str(), NO_NUMBERS);
+        let wanted = (*status, out.as_bytes(), *line);
+        comes_to(
+            &rt,
+            alloc,
+            &setup,
+            wanted,
+            ("statements", u64::from(*count)),
+        )?;
     }
     Ok(())
 }
@@ -200,25 +204,18 @@ fn two_thousand_statements_are_read_and_one_more_is_not(rt: HostRuntime) -> Resu
 fn sixty_four_parentheses_are_read_and_one_more_is_not(rt: HostRuntime) -> Result<(), Fail> {
     let alloc = rt.alloc();
     let rows = [
-        (63usize, 0u8, ""),
-        (64, 1, "aqlx: program too large: nesting 65\n"),
+        (63usize, 0u8, NO_VIEWS, ""),
+        (64, 1, "", "aqlx: program too large: nesting 65\n"),
     ];
-    for (count, code, line) in &rows {
-        let mut program = String::from_str(
-            alloc,
-            "create view P as select D.text from Document D where ",
+    for (count, status, out, line) in &rows {
+        let open = repeated(alloc, "Not(", *count)?;
+        let closed = repeated(alloc, ")", *count)?;
+        let program = format!(in alloc;
+            "create view P as select D.text from Document D where {open}Equals(1, 1{closed});"
         )?;
-        for _ in 0..*count {
-            program.push_str("Not(")?;
-        }
-        program.push_str("Equals(1, 1")?;
-        for _ in 0..*count {
-            program.push_str(")")?;
-        }
-        program.push_str(");")?;
-        let ran = run(&rt, alloc, &usual(program.as_str(), NO_NUMBERS))?;
-        assert_eq!(rt; ran.code, *code, "of {count} calls");
-        assert_eq!(rt; ran.err.bytes(), line.as_bytes(), "of {count} calls");
+        let setup = usual(program.as_str(), NO_NUMBERS);
+        let wanted = (*status, out.as_bytes(), *line);
+        comes_to(&rt, alloc, &setup, wanted, ("calls", *count as u64))?;
     }
     Ok(())
 }
@@ -227,19 +224,15 @@ fn sixty_four_parentheses_are_read_and_one_more_is_not(rt: HostRuntime) -> Resul
 fn a_program_of_the_limit_is_read_and_a_longer_one_is_not(rt: HostRuntime) -> Result<(), Fail> {
     let alloc = rt.alloc();
     let rows = [
-        (1_048_576usize, 0u8, ""),
-        (1_048_577, 1, "aqlx: program too large: bytes 1048577\n"),
-        (1_100_000, 1, "aqlx: program too large: bytes 1048577\n"),
+        (1_048_576usize, 0u8, NO_VIEWS, ""),
+        (1_048_577, 1, "", "aqlx: program too large: bytes 1048577\n"),
+        (1_100_000, 1, "", "aqlx: program too large: bytes 1048577\n"),
     ];
-    for (count, code, line) in &rows {
-        let spaces = vec![in alloc; b' '; *count]?;
-        let setup = Setup {
-            program: &spaces,
-            ..usual("", NO_NUMBERS)
-        };
-        let ran = run(&rt, alloc, &setup)?;
-        assert_eq!(rt; ran.code, *code, "of {count} bytes");
-        assert_eq!(rt; ran.err.bytes(), line.as_bytes(), "of {count} bytes");
+    for (count, status, out, line) in &rows {
+        let spaces = repeated(alloc, " ", *count)?;
+        let setup = usual(spaces.as_str(), NO_NUMBERS);
+        let wanted = (*status, out.as_bytes(), *line);
+        comes_to(&rt, alloc, &setup, wanted, ("spaces", *count as u64))?;
     }
     Ok(())
 }

@@ -1,15 +1,22 @@
 //! A run of the top call over files, a source and sinks in memory.
-use aql_io::{MemFiles, MemSink, MemSource};
+use aql_io::{MemFiles, MemSink, MemSource, Sink, Source};
 use aqlx_top::aqlx;
 use run_pool::{Pool, Workers};
 use std::alloc::Global;
 use std::collections::BTreeMap;
+use std::process::Abort;
 use std::test::Fail;
 use std::thread::Threads;
 
 /// The program of one view that finds numbers.
 pub const NUMBERS: &str =
     "create view P as extract regex /[0-9]+/ on D.text as num from Document D; output view P;";
+
+/// The line that it writes for a document whose text is the digit 1.
+pub const DIGIT: &str = "{\"views\":{\"P\":[{\"num\":{\"begin\":0,\"end\":1,\"text\":\"1\"}}]}}\n";
+
+/// And for one without a number.
+pub const NO_MATCH: &str = "{\"views\":{\"P\":[]}}\n";
 
 /// A program of persons and their telephone numbers, of two outputs.
 pub const PERSONS: &str =
@@ -23,6 +30,13 @@ pub const PERSONS_DOCUMENT: &str =
 pub const PERSONS_LINE: &str =
     r#"{"label":"m1","views":{"Person":[{"name":{"begin":5,"end":15,"text":"John Smith"}},{"name":{"begin":31,"end":38,"text":"Ann Lee"}}],"PersonPhone":[{"person":{"begin":5,"end":15,"text":"John Smith"},"phone":{"begin":19,"end":27,"text":"555-0134"}},{"person":{"begin":31,"end":38,"text":"Ann Lee"},"phone":{"begin":40,"end":48,"text":"555-0199"}}]}}"#;
 
+/// The summary of the demonstration on two documents, written by another program.
+pub const DEMO_OF_2: &str =
+    "documents 2\nDate 2\nDigits 3\nFirstPerson 2\nLongName 3\nLowerName 0\nNumberRun 6\nPerson 5\nPersonCity 1\nPersonOrg 2\nPersonPhone 1\nPersonRole 0\n";
+
+/// What stands on standard error after a read that failed.
+pub const READ_FAULT: &str = "aqlx: read fault\n";
+
 /// A corpus of one document without a number.
 pub const NO_NUMBERS: &str = "{\"text\":\"none\"}\n";
 
@@ -35,7 +49,7 @@ pub struct Ran {
 }
 
 /// How a run is set up: its words, program and corpus, the corpus's pieces, and the calls that fail.
-#[derive(Drop)]
+#[derive(Clone, Copy)]
 pub struct Setup<'a> {
     pub words: &'a [&'a str],
     pub program: &'a [u8],
@@ -63,6 +77,46 @@ pub(crate) fn usual<'a>(program: &'a str, corpus: &'a str) -> Setup<'a> {
     }
 }
 
+/// Runs it, and asserts what it comes to: its exit status, the output, and the line on standard error.
+///
+/// `row` says which run it is, where it comes to something else.
+pub(crate) fn comes_to<R: Threads + Sync + Abort>(
+    rt: &R,
+    alloc: Global,
+    setup: &Setup<'_>,
+    wanted: (u8, &[u8], &str),
+    row: (&str, u64),
+) -> Result<(), Fail> {
+    comes_by(rt, alloc, setup, &mut Workers, wanted, row)
+}
+
+/// Runs it by a pool, and asserts what it comes to.
+pub(crate) fn comes_by<R: Threads + Sync + Abort, P: Pool>(
+    rt: &R,
+    alloc: Global,
+    setup: &Setup<'_>,
+    pool: &mut P,
+    wanted: (u8, &[u8], &str),
+    row: (&str, u64),
+) -> Result<(), Fail> {
+    let (code, out, line) = wanted;
+    let (of, at) = row;
+    let ran = run_by(rt, alloc, setup, pool)?;
+    assert_eq!(rt; ran.err.bytes(), line.as_bytes(), "of {of}, {at}");
+    assert_eq!(rt; ran.code, code, "of {of}, {at}");
+    assert!(rt; ran.out.bytes() == out, "the output of {of}, {at}");
+    Ok(())
+}
+
+/// A text so many times, one behind another.
+pub(crate) fn repeated(alloc: Global, part: &str, count: usize) -> Result<String, Fail> {
+    let mut all = String::new(alloc);
+    for _ in 0..count {
+        all.push_str(part)?;
+    }
+    Ok(all)
+}
+
 /// Runs it over objects in memory.
 pub(crate) fn run<R: Threads + Sync>(
     rt: &R,
@@ -79,42 +133,63 @@ pub(crate) fn run_by<R: Threads + Sync, P: Pool>(
     setup: &Setup<'_>,
     pool: &mut P,
 ) -> Result<Ran, Fail> {
-    let mut words = Vec::new(alloc);
-    for word in setup.words {
-        words.push(String::from_str(alloc, word)?)?;
+    let mut corpus = source_of(alloc, setup)?;
+    let mut out = sink_of(alloc, 1 << 20, setup.out_piece, setup.out_fails)?;
+    let (code, err) = call(rt, alloc, setup, &mut corpus, &mut out, pool)?;
+    Ok(Ran { code, out, err })
+}
+
+/// Makes the call over this source and this sink: its exit status, and what stands on standard error.
+pub(crate) fn call<R: Threads + Sync, S: Source, O: Sink, P: Pool>(
+    rt: &R,
+    alloc: Global,
+    setup: &Setup<'_>,
+    corpus: &mut S,
+    out: &mut O,
+    pool: &mut P,
+) -> Result<(u8, MemSink), Fail> {
+    let words = words_of(alloc, setup.words)?;
+    let mut files = files_of(alloc, setup)?;
+    let mut err = sink_of(alloc, 4096, 4096, setup.err_fails)?;
+    let status = aqlx(rt, alloc, &words, &mut files, corpus, out, &mut err, pool)?;
+    Ok((status.code(), err))
+}
+
+/// The words of the command.
+fn words_of(alloc: Global, words: &[&str]) -> Result<Vec<String>, Fail> {
+    let mut all = Vec::new(alloc);
+    for word in words {
+        all.push(String::from_str(alloc, word)?)?;
     }
+    Ok(all)
+}
+
+/// The program file, whose reads fail where the setup says so.
+fn files_of(alloc: Global, setup: &Setup<'_>) -> Result<MemFiles, Fail> {
     let mut held = BTreeMap::new(alloc);
     held.insert(
         String::from_str(alloc, "p.aql")?,
         Vec::from_slice(alloc, setup.program)?,
     )?;
-    let mut files = MemFiles::new(held, Vec::from_slice(alloc, setup.file_fails)?);
+    Ok(MemFiles::new(held, Vec::from_slice(alloc, setup.file_fails)?))
+}
+
+/// The corpus, in pieces, whose reads fail where the setup says so.
+pub(crate) fn source_of(alloc: Global, setup: &Setup<'_>) -> Result<MemSource, Fail> {
     let bytes = Vec::from_slice(alloc, setup.corpus)?;
-    let mut corpus = MemSource::new(
-        bytes,
-        setup.piece.max(1),
-        Vec::from_slice(alloc, setup.source_fails)?,
-    );
-    let mut out = MemSink::new(
-        alloc,
-        1 << 20,
-        setup.out_piece.max(1),
-        Vec::from_slice(alloc, setup.out_fails)?,
-    )?;
-    let mut err = MemSink::new(alloc, 4096, 4096, Vec::from_slice(alloc, setup.err_fails)?)?;
-    let status = aqlx(
-        rt,
-        alloc,
-        &words,
-        &mut files,
-        &mut corpus,
-        &mut out,
-        &mut err,
-        pool,
-    )?;
-    Ok(Ran {
-        code: status.code(),
-        out,
-        err,
-    })
+    let fails = Vec::from_slice(alloc, setup.source_fails)?;
+    Ok(MemSource::new(bytes, setup.piece.max(1), fails))
+}
+
+/// A sink with room for so many bytes, that takes at most `piece` bytes in a call, and whose calls fail that are
+/// named.
+pub(crate) fn sink_of(
+    alloc: Global,
+    room: usize,
+    piece: usize,
+    fails: &[u64],
+) -> Result<MemSink, Fail> {
+    let fails = Vec::from_slice(alloc, fails)?;
+    let sink = MemSink::new(alloc, room, piece.max(1), fails)?;
+    Ok(sink)
 }

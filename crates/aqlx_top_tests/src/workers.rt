@@ -1,7 +1,9 @@
 //! Runs by several workers: the bytes are those of one worker.
-use crate::setup::{NUMBERS, Setup, run, usual};
+use crate::setup::{DIGIT, NO_MATCH, NUMBERS, READ_FAULT, Setup, comes_to, repeated, run, usual};
 use std::alloc::Global;
+use std::process::Abort;
 use std::test::Fail;
+use std::thread::Threads;
 
 /// Numbers with the words before them, where both stand in one document.
 const PAIRS: &str = "create view N as extract regex /[0-9]+/ on D.text as num from Document D; \
@@ -12,12 +14,6 @@ const PAIRS: &str = "create view N as extract regex /[0-9]+/ on D.text as num fr
 /// Numbers by their tokens.
 const TOKENS: &str = "create view P as extract regex /[0-9]+/ on 1 token in D.text as num \
     from Document D; output view P;";
-
-/// What a document without a number gives.
-const NONE: &str = "{\"views\":{\"P\":[]}}\n";
-
-/// What the document `1` gives.
-const ONE: &str = "{\"views\":{\"P\":[{\"num\":{\"begin\":0,\"end\":1,\"text\":\"1\"}}]}}\n";
 
 /// So many documents, every third without a number, and a blank line behind every fifth.
 fn corpus(alloc: Global, count: u32) -> Result<String, Fail> {
@@ -39,7 +35,7 @@ fn corpus(alloc: Global, count: u32) -> Result<String, Fail> {
 fn lines(alloc: Global, count: u32) -> Result<String, Fail> {
     let mut all = String::new(alloc);
     for i in 0..count {
-        all.push_str(if i % 3 == 2 { NONE } else { ONE })?;
+        all.push_str(if i % 3 == 2 { NO_MATCH } else { DIGIT })?;
     }
     Ok(all)
 }
@@ -51,7 +47,7 @@ fn each_number_of_workers_writes_each_line_in_the_order_of_the_corpus(
     let alloc = rt.alloc();
     for count in &[0u32, 1, 63, 64, 65, 200] {
         let corpus = corpus(alloc, *count)?;
-        let wanted = lines(alloc, *count)?;
+        let out = lines(alloc, *count)?;
         for workers in &["1", "2", "4", "16"] {
             let words = ["run", "p.aql", "--workers", *workers];
             let setup = Setup {
@@ -60,13 +56,8 @@ fn each_number_of_workers_writes_each_line_in_the_order_of_the_corpus(
                 out_piece: 65_536,
                 ..usual(NUMBERS, corpus.as_str())
             };
-            let ran = run(&rt, alloc, &setup)?;
-            assert_eq!(rt; ran.code, 0, "{workers} workers, {count} documents");
-            assert_eq!(rt;
-                ran.out.bytes(),
-                wanted.as_bytes(),
-                "{workers} workers, {count} documents"
-            );
+            let wanted = (0, out.as_bytes(), "");
+            comes_to(&rt, alloc, &setup, wanted, (workers, u64::from(*count)))?;
         }
     }
     Ok(())
@@ -79,7 +70,7 @@ fn a_bad_line_between_others_is_told_behind_the_lines_before_it(
     let alloc = rt.alloc();
     let mut text = corpus(alloc, 70)?;
     text.push_str("{\"text\":1}\n{\"text\":\"1\"}\n")?;
-    let wanted = lines(alloc, 70)?;
+    let out = lines(alloc, 70)?;
     for workers in &["1", "4", "16"] {
         let words = ["run", "--workers", *workers, "p.aql"];
         let setup = Setup {
@@ -87,37 +78,65 @@ fn a_bad_line_between_others_is_told_behind_the_lines_before_it(
             piece: 65_536,
             ..usual(NUMBERS, text.as_str())
         };
-        let ran = run(&rt, alloc, &setup)?;
-        assert_eq!(rt; ran.code, 3, "{workers} workers");
-        assert_eq!(rt; ran.out.bytes(), wanted.as_bytes(), "{workers} workers");
-        assert_eq!(rt;
-            ran.err.bytes(),
-            b"aqlx: corpus line 85 is not a document\n".as_slice()
+        let wanted = (
+            3,
+            out.as_bytes(),
+            "aqlx: corpus line 85 is not a document\n",
         );
+        comes_to(&rt, alloc, &setup, wanted, (workers, 85))?;
     }
+    Ok(())
+}
+
+/// Asserts that a run by workers comes to what a run by one worker does.
+fn is_as_alone<R: Threads + Sync + Abort>(
+    rt: &R,
+    alloc: Global,
+    program: &str,
+    corpus: &str,
+    status: u8,
+    line: &str,
+) -> Result<(), Fail> {
+    let alone = run(rt, alloc, &usual(program, corpus))?;
+    let wanted = (status, alone.out.bytes(), line);
+    for workers in &["2", "4", "16"] {
+        let words = ["--workers", *workers, "run", "p.aql"];
+        let setup = Setup {
+            words: &words,
+            piece: 1 << 20,
+            out_piece: 1 << 20,
+            ..usual(program, corpus)
+        };
+        comes_to(rt, alloc, &setup, wanted, (workers, corpus.len() as u64))?;
+    }
+    assert_eq!(rt; alone.code, status);
+    assert_eq!(rt; alone.err.bytes(), line.as_bytes());
     Ok(())
 }
 
 #[test]
 fn joins_and_several_outputs_are_the_same_by_workers(rt: HostRuntime) -> Result<(), Fail> {
     let alloc = rt.alloc();
-    let mut text = String::new(alloc);
-    for _ in 0..40 {
-        text.push_str("{\"text\":\"tel 12, fax 3 or 45\",\"label\":\"a\"}\n{\"text\":\"none\"}\n")?;
-    }
-    let alone = run(&rt, alloc, &usual(PAIRS, text.as_str()))?;
-    assert_eq!(rt; alone.code, 0);
-    for workers in &["4", "16"] {
-        let words = ["--workers", *workers, "run", "p.aql"];
-        let setup = Setup {
-            words: &words,
-            piece: 65_536,
-            ..usual(PAIRS, text.as_str())
-        };
-        let ran = run(&rt, alloc, &setup)?;
-        assert_eq!(rt; ran.code, 0, "{workers} workers");
-        assert_eq!(rt; ran.out.bytes(), alone.out.bytes(), "{workers} workers");
-    }
+    let text = repeated(
+        alloc,
+        "{\"text\":\"tel 12, fax 3 or 45\",\"label\":\"a\"}\n{\"text\":\"none\"}\n",
+        40,
+    )?;
+    is_as_alone(&rt, alloc, PAIRS, text.as_str(), 0, "")
+}
+
+/// Asserts that a run of which a write fails writes no more than a beginning of what it would have written.
+fn is_cut<R: Threads + Sync + Abort>(
+    rt: &R,
+    alloc: Global,
+    setup: &Setup<'_>,
+    whole: &[u8],
+    call: u64,
+) -> Result<(), Fail> {
+    let ran = run(rt, alloc, setup)?;
+    assert_eq!(rt; ran.code, 5, "call {call} fails");
+    assert!(rt; whole.starts_with(ran.out.bytes()), "call {call} fails");
+    assert_eq!(rt; ran.err.bytes(), b"".as_slice());
     Ok(())
 }
 
@@ -127,7 +146,7 @@ fn a_failed_write_of_a_run_by_workers_leaves_the_lines_written_before_it(
 ) -> Result<(), Fail> {
     let alloc = rt.alloc();
     let text = corpus(alloc, 100)?;
-    let wanted = lines(alloc, 100)?;
+    let whole = lines(alloc, 100)?;
     for call in &[1u64, 2, 7] {
         let fails = [*call];
         let setup = Setup {
@@ -137,13 +156,78 @@ fn a_failed_write_of_a_run_by_workers_leaves_the_lines_written_before_it(
             out_fails: &fails,
             ..usual(NUMBERS, text.as_str())
         };
-        let ran = run(&rt, alloc, &setup)?;
-        assert_eq!(rt; ran.code, 5, "call {call} fails");
-        assert!(rt;
-            wanted.as_bytes().starts_with(ran.out.bytes()),
-            "call {call} fails"
-        );
-        assert_eq!(rt; ran.err.bytes(), b"".as_slice());
+        is_cut(&rt, alloc, &setup, whole.as_bytes(), *call)?;
+    }
+    Ok(())
+}
+
+/// Each row: what stands behind 4,000 documents of 13 bytes each, which read of 20,000 bytes fails, how many
+/// documents were taken before, and the run's status and line.
+const ENDED: [(&str, &[u64], usize, u8, &str); 5] = [
+    ("", &[1], 0, 4, READ_FAULT),
+    ("", &[2], 1_538, 4, READ_FAULT),
+    ("", &[3], 3_076, 4, READ_FAULT),
+    ("", &[4], 4_000, 4, READ_FAULT),
+    (
+        "[]\n{\"text\":\"1\"}\n",
+        &[],
+        4_000,
+        3,
+        "aqlx: corpus line 4001 is not a document\n",
+    ),
+];
+
+/// Each row: which call of standard error fails, whether the run's status stands, and whether its line was written:
+/// that is one write, and then a flush.
+const TOLD: [(&[u64], bool, bool); 4] = [
+    (&[], true, true),
+    (&[1], false, false),
+    (&[2], false, true),
+    (&[3], true, true),
+];
+
+/// Asserts what a run comes to of which calls of standard error fail.
+fn is_told<R: Threads + Sync + Abort>(
+    rt: &R,
+    alloc: Global,
+    setup: &Setup<'_>,
+    wanted: (u8, &[u8], &str),
+    row: (&str, u64),
+) -> Result<(), Fail> {
+    let (status, out, line) = wanted;
+    for (err_fails, stands, is_written) in &TOLD {
+        let setup = Setup {
+            err_fails: *err_fails,
+            ..*setup
+        };
+        let status = if *stands { status } else { 5 };
+        let line = if *is_written { line } else { "" };
+        comes_to(rt, alloc, &setup, (status, out, line), row)?;
+    }
+    Ok(())
+}
+
+#[test]
+fn what_ends_a_run_by_workers_is_told_where_standard_error_takes_its_line(
+    rt: HostRuntime,
+) -> Result<(), Fail> {
+    let alloc = rt.alloc();
+    let documents = repeated(alloc, "{\"text\":\"1\"}\n", 4_000)?;
+    for (behind, source_fails, count, status, line) in &ENDED {
+        let corpus = format!(in alloc; "{documents}{behind}")?;
+        let out = repeated(alloc, DIGIT, *count)?;
+        for workers in &["1", "4"] {
+            let words = ["run", "p.aql", "--workers", *workers];
+            let setup = Setup {
+                words: &words,
+                piece: 20_000,
+                out_piece: 65_536,
+                source_fails: *source_fails,
+                ..usual(NUMBERS, corpus.as_str())
+            };
+            let wanted = (*status, out.as_bytes(), *line);
+            is_told(&rt, alloc, &setup, wanted, (workers, *count as u64))?;
+        }
     }
     Ok(())
 }
@@ -166,28 +250,15 @@ fn documents_of_every_size_give_the_same_lines(rt: HostRuntime) -> Result<(), Fa
     let alloc = rt.alloc();
     // short documents, pieces of which each worker takes; long ones with many rows, one after another by each;
     // and a few large ones, in a window
-    for (documents, words) in &[(1_030u32, 5u32), (12, 2_000), (3, 9_000)] {
+    let rows = [
+        (1_030u32, 5u32, "aqlx: corpus line 1031 is not a document\n"),
+        (12, 2_000, "aqlx: corpus line 13 is not a document\n"),
+        (3, 9_000, "aqlx: corpus line 4 is not a document\n"),
+    ];
+    for (documents, words, line) in &rows {
         let mut text = long(alloc, *documents, *words)?;
         text.push_str("[]\n{\"text\":\"1\"}\n")?;
-        let alone = run(&rt, alloc, &usual(TOKENS, text.as_str()))?;
-        assert_eq!(rt; alone.code, 3);
-        for workers in &["2", "4"] {
-            let words = ["run", "p.aql", "--workers", *workers];
-            let setup = Setup {
-                words: &words,
-                piece: 1 << 20,
-                out_piece: 1 << 20,
-                ..usual(TOKENS, text.as_str())
-            };
-            let ran = run(&rt, alloc, &setup)?;
-            assert_eq!(rt; ran.code, 3, "{workers} workers, {documents} documents");
-            assert_eq!(rt;
-                ran.out.bytes(),
-                alone.out.bytes(),
-                "{workers} workers, {documents} documents"
-            );
-            assert_eq!(rt; ran.err.bytes(), alone.err.bytes());
-        }
+        is_as_alone(&rt, alloc, TOKENS, text.as_str(), 3, line)?;
     }
     Ok(())
 }

@@ -3,12 +3,14 @@
 ghost use Rattle.std.specs.Prelude.{◌≡◌, ◌≤◌, ◌++◌, ◌∷◌, [], not, All, IfOk, OnOk, IsSome, None, ◌<◌, length, map, slice_index_or};
 ghost use Rattle.corpus_json.specs.Documents.{documents, is_bad_line};
 ghost use Rattle.corpus_json.specs.Inputs.{doc_of, doc_of_ref};
+ghost use Rattle.corpus_json.specs.Limits.{line_limit};
 ghost use Rattle.corpus_json.specs.Outputs.{output_line, rows_of, width_of};
 ghost use Rattle.plan_operators.specs.Boards.{Holds, rows_there};
 ghost use Rattle.row_values.specs.Rows.{RowsLieIn};
 ghost use Rattle.run_pool.specs.Answers.{IsAnswer};
 ghost use Rattle.run_pool.specs.Entries.{entry_of, AreHanded};
 ghost use Rattle.run_pool.specs.Lines.{line_from, names_in, rows_by};
+ghost use Rattle.span_token.specs.Limits.{text_limit};
 ghost use Rattle.window_lines.specs.Answered.{answer_to};
 
 use algebra::{Plan, PlanOut};
@@ -57,7 +59,7 @@ pub fn answer_line<P: Pool>(
 ) -> Result<bool, OutOfMemory>
     requires layout { layout.now ≡ names_in schedule.now }
     requires tables { tools.old ≡ schedule.now.lists }
-    requires short { length line.now ≤ 16777216 }
+    requires short { length line.now ≤ line_limit }
     ensures good { IfOk result (λ good. is_bad_line line.now ≡ not good) }
     ensures bytes { IfOk result (λ good. pending.new.items ≡ pending.old.items ++ answer_to (line_from (P.means pool.old) schedule.now) (line.now ∷ [])) }
     ensures handed { AreHanded (P.told pool.old) (P.told pool.new) (map (entry_of (P.means pool.old) schedule.now) (documents (line.now ∷ []))) result }
@@ -89,7 +91,7 @@ pub fn answer_line<P: Pool>(
 /// is pending; `line` is room for it.
 ///
 /// `schedule` is the plan's, `layout` has its outputs, and `tools` are made of its tables. `with_tokens` says
-/// whether the document keeps its tokens, and changes no byte. The text is no longer than a line of the corpus.
+/// whether the document keeps its tokens, and changes no byte. The text is no longer than a document's may be.
 ///
 /// Meaning: `line_from`, `specs/Lines.antt` of `run_pool`.
 pub fn append_answer<P: Pool>(
@@ -105,7 +107,7 @@ pub fn append_answer<P: Pool>(
 ) -> Result<(), OutOfMemory>
     requires layout { layout.now ≡ names_in schedule.now }
     requires tables { tools.old ≡ schedule.now.lists }
-    requires short { length input.text.now ≤ 16777216 }
+    requires short { length input.text.now ≤ text_limit }
     ensures bytes { OnOk result (pending.new.items ≡ pending.old.items ++ line_from (P.means pool.old) schedule.now (doc_of_ref input.entry)) }
     ensures handed { AreHanded (P.told pool.old) (P.told pool.new) (entry_of (P.means pool.old) schedule.now (doc_of_ref input.entry) ∷ []) result }
     ensures means { P.means pool.new ≡ P.means pool.old }
@@ -131,7 +133,7 @@ pub fn document_of<'d>(
     with_tokens: bool,
     input: InputRef<'d>,
 ) -> Result<Document<'d>, OutOfMemory>
-    requires short { length input.text.now ≤ 16777216 }
+    requires short { length input.text.now ≤ text_limit }
     ensures { IfOk result (λ document. document ≡ doc_of_ref input.entry) }
 {
     if with_tokens {

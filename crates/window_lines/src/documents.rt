@@ -3,6 +3,7 @@
 ghost use Rattle.std.specs.Prelude.{◌≡◌, ◌<◌, ◌≤◌, ◌*◌, ℕ, IfOk, length, map, vec_len, slice_index_or};
 ghost use Rattle.std.specs.Fork.{slice_chunk};
 ghost use Rattle.corpus_json.specs.Inputs.{doc_of};
+ghost use Rattle.span_token.specs.Limits.{text_limit};
 ghost use Rattle.window_lines.specs.Lines.{AreShort};
 
 use crate::answer::{document_of, lent};
@@ -125,7 +126,7 @@ fn document_from(
     with_tokens: bool,
     input: &Input,
 ) -> Result<Document<'_>, OutOfMemory>
-    requires short { length input.now.text ≤ 16777216 }
+    requires short { length input.now.text ≤ text_limit }
     ensures { IfOk result (λ document. document ≡ doc_of input.now) }
 {
     document_of(alloc, with_tokens, lent(input))

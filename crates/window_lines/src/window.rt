@@ -30,7 +30,7 @@ const MANY_ROWS: usize = 2_048;
 /// The plan is evaluated by the workers of `crew`, and where the window is large enough its documents are
 /// made, and its lines written, in `threads` threads at most; the bytes are the same for every number.
 /// `with_tokens` says whether documents keep their tokens, and changes no byte. `layout` has the plan's
-/// outputs, and the texts are no longer than a line of the corpus.
+/// outputs, and no text is longer than a document's may be.
 ///
 /// Meaning: `line_from`, `specs/Lines.antt` of `run_pool`: for each output the rows that the pool answers.
 pub fn append_window<R: Threads + Sync, P: Pool>(
