@@ -1,38 +1,59 @@
 //! Worked texts with their tokens, as the language's rules give them.
 
-use crate::{TokKind, lex};
+use crate::{Tok, TokKind, lex};
 use span_token::Failure;
 use std::alloc::Global;
+use std::fmt;
 use std::process::Abort;
 use std::test::Fail;
 
-/// The tokens of `text` as `KIND TEXT@BEGIN:LINE`, or the byte of its fault.
+/// A token's kind as `KIND TEXT`.
+#[derive(Drop)]
+struct ShownKind<'t> {
+    kind: &'t TokKind,
+}
+
+impl fmt::Display for ShownKind<'_> {
+    fn fmt<W: fmt::Write>(&self, f: &mut fmt::Formatter<W>) -> fmt::Result {
+        match self.kind {
+            TokKind::Word(text) => write!(f, "word {}", text.as_str()),
+            TokKind::Name(text) => write!(f, "name {}", text.as_str()),
+            TokKind::Int(number) => write!(f, "int {number}"),
+            TokKind::Str(text) => write!(f, "str {}", text.as_str()),
+            TokKind::Regex(text) => write!(f, "regex {}", text.as_str()),
+            TokKind::Symbol(byte) => write!(f, "symbol {}", char::from(*byte)),
+        }
+    }
+}
+
+/// Tokens as `KIND TEXT@BEGIN:LINE`, with bars between them.
+#[derive(Drop)]
+struct ShownToks<'t> {
+    toks: &'t [Tok],
+}
+
+impl fmt::Display for ShownToks<'_> {
+    fn fmt<W: fmt::Write>(&self, f: &mut fmt::Formatter<W>) -> fmt::Result {
+        let mut between = "";
+        for tok in self.toks {
+            let kind = ShownKind { kind: &tok.kind };
+            write!(f, "{between}{kind}@{}:{}", tok.begin, tok.line)?;
+            between = " | ";
+        }
+        Ok(())
+    }
+}
+
+/// The tokens of `text`, or the byte of its fault.
 fn shown(alloc: Global, text: &str) -> Result<String, Fail> {
     if text.len() > 10_000 {
         return Err(Fail::from("a text of the table is short"));
     }
-    let toks = match lex(alloc, text) {
-        Ok(toks) => toks,
-        Err(Failure::Fault(fault)) => return Ok(format!(in alloc; "fault {}", fault.place)?),
-        Err(Failure::OutOfMemory) => return Err(Fail::from("out of memory")),
-    };
-    let mut out = String::new(alloc);
-    for tok in &toks {
-        let kind = match &tok.kind {
-            TokKind::Word(text) => format!(in alloc; "word {}", text.as_str())?,
-            TokKind::Name(text) => format!(in alloc; "name {}", text.as_str())?,
-            TokKind::Int(number) => format!(in alloc; "int {number}")?,
-            TokKind::Str(text) => format!(in alloc; "str {}", text.as_str())?,
-            TokKind::Regex(text) => format!(in alloc; "regex {}", text.as_str())?,
-            TokKind::Symbol(byte) => format!(in alloc; "symbol {}", char::from(*byte))?,
-        };
-        if !out.is_empty() {
-            out.push_str(" | ")?;
-        }
-        let at = format!(in alloc; "{kind}@{}:{}", tok.begin, tok.line)?;
-        out.push_str(at.as_str())?;
+    match lex(alloc, text) {
+        Ok(toks) => Ok(format!(in alloc; "{}", ShownToks { toks: &toks })?),
+        Err(Failure::Fault(fault)) => Ok(format!(in alloc; "fault {}", fault.place)?),
+        Err(Failure::OutOfMemory) => Err(Fail::from("out of memory")),
     }
-    Ok(out)
 }
 
 fn check(rt: &impl Abort, alloc: Global, rows: &[(&str, &str)]) -> Result<(), Fail> {
