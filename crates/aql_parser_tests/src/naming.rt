@@ -1,7 +1,8 @@
 //! The names of a program's parts, and expressions that are equal but for places.
 
-use crate::reading::parsed;
+use crate::reading::{is_text, parsed};
 use aql_syntax::{Ast, Query, Select, Statement, is_dictionary_predicate, same_term};
+use std::alloc::Global;
 use std::process::Abort;
 use std::test::Fail;
 
@@ -36,25 +37,30 @@ fn two_conditions(select: &Select) -> Option<(&Ast, &Ast)> {
     }
 }
 
+/// Asks of a selection for the names of its sources and of its items.
+fn has_names(rt: &impl Abort, select: &Select) -> Result<(), Fail> {
+    for (source, want) in select.sources.iter().zip(["A", "b", "q"]) {
+        is_text(rt, source.alias().text.as_str(), want, "a source");
+    }
+    for (item, want) in select.items.iter().zip(["b", "c"]) {
+        match item.column_name() {
+            Some(name) => is_text(rt, name.text.as_str(), want, "an item"),
+            None => return Err(Fail::from("a name")),
+        }
+    }
+    Ok(())
+}
+
 #[test]
 fn a_source_has_its_alias_or_the_name_of_its_view(rt: HostRuntime) -> Result<(), Fail> {
-    let alloc = rt.alloc();
     let trees = parsed(
-        alloc,
+        rt.alloc(),
         "create view V as select A.b, f(A.b) as c from A, B b, (select A.b from A) q;",
     )?;
     for tree in &trees {
-        let Some(select) = selection(tree) else {
-            return Err(Fail::from("a selection"));
-        };
-        for (source, want) in select.sources.iter().zip(["A", "b", "q"]) {
-            assert_eq!(rt; source.alias().text.as_str(), want);
-        }
-        for (item, want) in select.items.iter().zip(["b", "c"]) {
-            match item.column_name() {
-                Some(name) => assert_eq!(rt; name.text.as_str(), want),
-                None => return Err(Fail::from("a name")),
-            }
+        match selection(tree) {
+            Some(select) => has_names(&rt, select)?,
+            None => return Err(Fail::from("a selection")),
         }
     }
     Ok(())
@@ -70,17 +76,30 @@ fn an_output_has_the_text_after_as_or_the_name_of_its_view(rt: HostRuntime) -> R
     Ok(())
 }
 
+/// The statements of a view with these conditions.
+fn conditioned(alloc: Global, conditions: &str) -> Result<Vec<Statement>, Fail> {
+    let text = format!(in alloc; "create view V as select A.b from A where {conditions};")?;
+    parsed(alloc, text.as_str())
+}
+
+/// Whether the first two conditions of a statement's selection are equal but for places; None where there
+/// aren't two.
+fn has_same_conditions(statement: &Statement) -> Option<bool> {
+    let (first, second) = selection(statement).and_then(two_conditions)?;
+    Some(same_term(first, second))
+}
+
+/// Asks whether something is so.
+fn is_so(rt: &impl Abort, got: Option<bool>, want: bool, case: &str) {
+    assert_eq!(rt; got, Some(want), "{case}");
+}
+
 #[test]
 fn expressions_are_equal_whatever_their_places_are(rt: HostRuntime) -> Result<(), Fail> {
-    let alloc = rt.alloc();
     for (conditions, want) in PAIRS {
-        let text = format!(in alloc; "create view V as select A.b from A where {conditions};")?;
-        let trees = parsed(alloc, text.as_str())?;
+        let trees = conditioned(rt.alloc(), conditions)?;
         for tree in &trees {
-            let Some((first, second)) = selection(tree).and_then(two_conditions) else {
-                return Err(Fail::from("two conditions"));
-            };
-            assert_eq!(rt; same_term(first, second), want, "{conditions}");
+            is_so(&rt, has_same_conditions(tree), want, conditions);
         }
     }
     Ok(())
@@ -94,7 +113,7 @@ fn two_functions_take_a_dictionary(rt: HostRuntime) -> Result<(), Fail> {
         ("ContainsRegex", false),
         ("containsdict", false),
     ] {
-        assert_eq!(rt; is_dictionary_predicate(name), want, "{name}");
+        is_so(&rt, Some(is_dictionary_predicate(name)), want, name);
     }
     Ok(())
 }

@@ -1,9 +1,13 @@
 //! Statements with the tokens that they are printed as.
 
-use crate::reading::parsed;
+ghost use Rattle.aql_syntax.specs.Printing.{CanBePrinted};
+ghost use Rattle.aql_syntax.specs.Views.{statement_of};
+
+use crate::reading::{is_text, parsed};
 use aql_lexer::TokKind;
-use aql_syntax::print;
+use aql_syntax::{Statement, print};
 use std::alloc::Global;
+use std::fmt;
 use std::process::Abort;
 use std::test::Fail;
 
@@ -35,35 +39,58 @@ static PRINTED: [(&str, &str); 6] = [
     ),
 ];
 
-/// The tokens as `KIND TEXT | KIND TEXT ..`.
-fn shown(alloc: Global, toks: &[TokKind]) -> Result<String, Fail> {
-    let mut out = String::new(alloc);
-    for tok in toks {
-        let kind = match tok {
-            TokKind::Word(text) => format!(in alloc; "word {}", text.as_str())?,
-            TokKind::Name(text) => format!(in alloc; "name {}", text.as_str())?,
-            TokKind::Int(number) => format!(in alloc; "int {number}")?,
-            TokKind::Str(text) => format!(in alloc; "str {}", text.as_str())?,
-            TokKind::Regex(text) => format!(in alloc; "regex {}", text.as_str())?,
-            TokKind::Symbol(byte) => format!(in alloc; "symbol {}", char::from(*byte))?,
-        };
-        if !out.is_empty() {
-            out.push_str(" | ")?;
+/// A token's kind as `KIND TEXT`.
+#[derive(Drop)]
+struct ShownKind<'t> {
+    kind: &'t TokKind,
+}
+
+impl fmt::Display for ShownKind<'_> {
+    fn fmt<W: fmt::Write>(&self, f: &mut fmt::Formatter<W>) -> fmt::Result {
+        match self.kind {
+            TokKind::Word(text) => write!(f, "word {}", text.as_str()),
+            TokKind::Name(text) => write!(f, "name {}", text.as_str()),
+            TokKind::Int(number) => write!(f, "int {number}"),
+            TokKind::Str(text) => write!(f, "str {}", text.as_str()),
+            TokKind::Regex(text) => write!(f, "regex {}", text.as_str()),
+            TokKind::Symbol(byte) => write!(f, "symbol {}", char::from(*byte)),
         }
-        out.push_str(kind.as_str())?;
     }
-    Ok(out)
+}
+
+/// The tokens as `KIND TEXT | KIND TEXT ..`.
+#[derive(Drop)]
+struct ShownKinds<'t> {
+    kinds: &'t [TokKind],
+}
+
+impl fmt::Display for ShownKinds<'_> {
+    fn fmt<W: fmt::Write>(&self, f: &mut fmt::Formatter<W>) -> fmt::Result {
+        let mut between = "";
+        for kind in self.kinds {
+            let kind = ShownKind { kind };
+            write!(f, "{between}{kind}")?;
+            between = " | ";
+        }
+        Ok(())
+    }
+}
+
+/// The tokens that a statement is printed as.
+fn printed_as(alloc: Global, tree: &Statement) -> Result<String, Fail>
+    requires { CanBePrinted (statement_of tree.now) }
+{
+    let kinds = print(alloc, tree)?;
+    Ok(format!(in alloc; "{}", ShownKinds { kinds: &kinds })?)
 }
 
 #[test]
 fn a_statement_is_printed_as_one_list_of_its_tokens(rt: HostRuntime) -> Result<(), Fail> {
-    let alloc = rt.alloc();
     for (text, want) in PRINTED {
-        let trees = parsed(alloc, text)?;
+        let trees = parsed(rt.alloc(), text)?;
         for tree in &trees {
-            let kinds = print(alloc, tree)?;
-            let got = shown(alloc, &kinds)?;
-            assert_eq!(rt; got.as_str(), want, "{text}");
+            let got = printed_as(rt.alloc(), tree)?;
+            is_text(&rt, got.as_str(), want, text);
         }
     }
     Ok(())

@@ -4,7 +4,7 @@ ghost use Rattle.std.specs.Prelude.{◌<◌, ◌^◌, All, length};
 ghost use Rattle.aql_syntax.specs.Printing.{CanBePrinted};
 ghost use Rattle.aql_syntax.specs.Views.{statement_of};
 
-use crate::reading::{lexed, parsed, shown};
+use crate::reading::{is_text, lexed, parsed, shown};
 use aql_lexer::{Tok, TokKind};
 use aql_parser::{Sizes, measure};
 use aql_syntax::{Statement, print};
@@ -156,25 +156,27 @@ fn shown_again(alloc: Global, text: &str) -> Result<String, Fail> {
     shown(alloc, &out)
 }
 
+/// The statements of a text as they look, or the statement and the line of the fault.
+fn read(alloc: Global, text: &str) -> Result<String, Fail> {
+    let toks = lexed(alloc, text)?;
+    shown(alloc, &toks)
+}
+
 #[test]
 fn what_is_read_is_printed_and_read_again(rt: HostRuntime) -> Result<(), Fail> {
-    let alloc = rt.alloc();
     for text in PROGRAMS {
-        let toks = lexed(alloc, text)?;
-        let read = shown(alloc, &toks)?;
-        let again = shown_again(alloc, text)?;
-        assert_eq!(rt; again.as_str(), read.as_str(), "{text}");
+        let again = shown_again(rt.alloc(), text)?;
+        let read = read(rt.alloc(), text)?;
+        is_text(&rt, again.as_str(), read.as_str(), text);
     }
     Ok(())
 }
 
 #[test]
 fn near_misses_are_refused_at_their_statement_and_line(rt: HostRuntime) -> Result<(), Fail> {
-    let alloc = rt.alloc();
     for (text, want) in NEAR_MISSES {
-        let toks = lexed(alloc, text)?;
-        let got = shown(alloc, &toks)?;
-        assert_eq!(rt; got.as_str(), want, "{text}");
+        let got = read(rt.alloc(), text)?;
+        is_text(&rt, got.as_str(), want, text);
     }
     Ok(())
 }

@@ -11,7 +11,13 @@ use aql_parser::{MAX_NESTING, measure, parse};
 use aql_syntax::Statement;
 use span_token::Failure;
 use std::alloc::Global;
+use std::process::Abort;
 use std::test::Fail;
+
+/// Asks for a text.
+pub(crate) fn is_text(rt: &impl Abort, got: &str, want: &str, case: &str) {
+    assert_eq!(rt; got, want, "{case}");
+}
 
 /// The tokens of a short text.
 pub(crate) fn lexed(alloc: Global, text: &str) -> Result<Vec<Tok>, Fail>
