@@ -1,9 +1,13 @@
+ghost use Rattle.span_token.specs.Documents.{LiesIn};
+ghost use Rattle.span_token.specs.Extents.{extent_of};
+
 use aql_regex_extract::{
     Pattern, PatternFault, Searcher, WholeSearcher, compile_pattern, find_all, find_token_runs,
     has_match, matches_whole,
 };
 use span_token::{Document, Failure, Span, TEXT_LIMIT};
 use std::alloc::Global;
+use std::process::Abort;
 use std::test::Fail;
 use std::thread::{self, Threads};
 
@@ -34,11 +38,81 @@ fn are_rows(rows: &[Vec<Option<Span>>], want: &[&[Place]]) -> bool {
     true
 }
 
-/// Whether these are the rows of all matches in the text, and a kept searcher puts the same ones.
+/// Whether these are the values of the rows, one after another.
+fn are_put(flat: &[Option<Span>], want: &[&[Place]]) -> bool {
+    let mut rest = flat;
+    for places in want {
+        if rest.len() < places.len() {
+            return false;
+        }
+        let (row, behind) = rest.split_at(places.len());
+        if !is_row(row, places) {
+            return false;
+        }
+        rest = behind;
+    }
+    rest.is_empty()
+}
+
+/// Whether these are the rows of all matches in a source.
+fn finds_rows(
+    alloc: Global,
+    pattern: &Pattern,
+    doc: &Document<'_>,
+    source: Span,
+    groups: &[u32],
+    want: &[&[Place]],
+) -> Result<bool, Fail>
+    requires { LiesIn (extent_of source) doc.now }
+{
+    let rows = find_all(alloc, pattern, doc, source, groups)?;
+    Ok(are_rows(&rows, want))
+}
+
+/// Whether a searcher puts the same ones.
+fn puts_rows(
+    alloc: Global,
+    searcher: &mut Searcher<'_>,
+    doc: &Document<'_>,
+    source: Span,
+    groups: &[u32],
+    want: &[&[Place]],
+) -> Result<bool, Fail>
+    requires { LiesIn (extent_of source) doc.now }
+{
+    let mut flat = Vec::new(alloc);
+    let number = searcher.append_matches(doc, source, groups, &mut flat)?;
+    Ok(number == want.len() && are_put(&flat, want))
+}
+
+/// Whether both are so in a part of a document, the whole one for None.
+fn finds_in(
+    alloc: Global,
+    pattern: &Pattern,
+    doc: &Document<'_>,
+    part: Option<(u32, u32)>,
+    groups: &[u32],
+    want: &[&[Place]],
+) -> Result<bool, Fail> {
+    let whole = doc.whole();
+    let (begin, end) = part.unwrap_or((whole.begin, whole.end));
+    if begin > end || end > doc.len() {
+        return Ok(false);
+    }
+    let source = Span { begin, end };
+    if !finds_rows(alloc, pattern, doc, source, groups, want)? {
+        return Ok(false);
+    }
+    let mut searcher = Searcher::new(alloc, pattern)?;
+    puts_rows(alloc, &mut searcher, doc, source, groups, want)
+}
+
+/// Whether these are the rows of all matches in a part of the text, and a kept searcher puts the same ones.
 fn finds(
     alloc: Global,
     pattern: &str,
     text: &str,
+    part: Option<(u32, u32)>,
     groups: &[u32],
     want: &[&[Place]],
 ) -> Result<bool, Fail> {
@@ -47,49 +121,67 @@ fn finds(
     }
     let pattern = compile_pattern(alloc, pattern)?;
     let doc = Document::new(alloc, text, None)?;
-    let rows = find_all(alloc, &pattern, &doc, doc.whole(), groups)?;
-    let mut searcher = Searcher::new(alloc, &pattern)?;
-    let mut flat = Vec::new(alloc);
-    let number = searcher.append_matches(&doc, doc.whole(), groups, &mut flat)?;
-    let mut wanted = Vec::new(alloc);
-    for places in want {
-        wanted.extend_from_slice(places)?;
-    }
-    Ok(are_rows(&rows, want) && is_row(&flat, &wanted) && number == want.len())
+    finds_in(alloc, &pattern, &doc, part, groups, want)
 }
 
-/// The same of the token runs of a part of the text.
+/// Where token runs are looked for, and how many tokens they have at least and at most.
+type Runs = ((u32, u32), (u32, u32));
+
+/// Whether these are the rows of the token runs of a part of a document.
+fn finds_run_rows(
+    alloc: Global,
+    pattern: &Pattern,
+    doc: &Document<'_>,
+    runs: Runs,
+    groups: &[u32],
+    want: &[&[Place]],
+) -> Result<bool, Fail> {
+    let ((begin, end), (low, high)) = runs;
+    if begin > end || end > doc.len() || low == 0 {
+        return Ok(false);
+    }
+    let rows = find_token_runs(alloc, pattern, doc, Span { begin, end }, low, high, groups)?;
+    Ok(are_rows(&rows, want))
+}
+
+/// Whether a kept searcher puts the same ones.
+fn puts_run_rows(
+    alloc: Global,
+    pattern: &Pattern,
+    doc: &Document<'_>,
+    runs: Runs,
+    groups: &[u32],
+    want: &[&[Place]],
+) -> Result<bool, Fail> {
+    let ((begin, end), (low, high)) = runs;
+    if begin > end || end > doc.len() || low == 0 {
+        return Ok(false);
+    }
+    let source = Span { begin, end };
+    let mut searcher = WholeSearcher::new(alloc, pattern)?;
+    let mut flat = Vec::new(alloc);
+    let number = searcher.append_token_runs(doc, source, low, high, groups, &mut flat)?;
+    Ok(number == want.len() && are_put(&flat, want))
+}
+
+/// Whether both are so of the token runs of a part of the text.
 fn finds_runs(
     alloc: Global,
     pattern: &str,
     text: &str,
-    part: (u32, u32),
-    bounds: (u32, u32),
+    runs: Runs,
     groups: &[u32],
     want: &[&[Place]],
 ) -> Result<bool, Fail> {
-    if text.len() > TEXT_LIMIT || bounds.0 == 0 || part.0 > part.1 {
+    if text.len() > TEXT_LIMIT {
         return Ok(false);
     }
-    let (low, high) = bounds;
     let pattern = compile_pattern(alloc, pattern)?;
     let doc = Document::new(alloc, text, None)?;
-    if part.1 > doc.len() {
+    if !finds_run_rows(alloc, &pattern, &doc, runs, groups, want)? {
         return Ok(false);
     }
-    let source = Span {
-        begin: part.0,
-        end: part.1,
-    };
-    let rows = find_token_runs(alloc, &pattern, &doc, source, low, high, groups)?;
-    let mut searcher = WholeSearcher::new(alloc, &pattern)?;
-    let mut flat = Vec::new(alloc);
-    let number = searcher.append_token_runs(&doc, source, low, high, groups, &mut flat)?;
-    let mut wanted = Vec::new(alloc);
-    for places in want {
-        wanted.extend_from_slice(places)?;
-    }
-    Ok(are_rows(&rows, want) && is_row(&flat, &wanted) && number == want.len())
+    puts_run_rows(alloc, &pattern, &doc, runs, groups, want)
 }
 
 fn fault_of(alloc: Global, pattern: &str) -> Option<PatternFault> {
@@ -107,23 +199,25 @@ fn all_matches_are_found_in_characters(rt: HostRuntime) -> Result<(), Fail> {
             alloc,
             "[0-9]+",
             "x 12 345",
+            None,
             &[0],
             &[&[Some((2, 4))], &[Some((5, 8))]]
         )?
     );
-    assert!(rt; finds(alloc, "[0-9]+", "", &[0], &[])?);
-    assert!(rt; finds(alloc, "x*", "", &[0], &[&[Some((0, 0))]])?);
-    assert!(rt; finds(alloc, "[0-9]+", "é 7", &[0], &[&[Some((2, 3))]])?);
+    assert!(rt; finds(alloc, "[0-9]+", "", None, &[0], &[])?);
+    assert!(rt; finds(alloc, "x*", "", None, &[0], &[&[Some((0, 0))]])?);
+    assert!(rt; finds(alloc, "[0-9]+", "é 7", None, &[0], &[&[Some((2, 3))]])?);
     assert!(rt;
         finds(
             alloc,
             "aa",
             "aaaa",
+            None,
             &[0],
             &[&[Some((0, 2))], &[Some((2, 4))]]
         )?
     );
-    assert!(rt; finds(alloc, "^a", "aaaa", &[0], &[&[Some((0, 1))]])?);
+    assert!(rt; finds(alloc, "^a", "aaaa", None, &[0], &[&[Some((0, 1))]])?);
     Ok(())
 }
 
@@ -131,7 +225,7 @@ fn all_matches_are_found_in_characters(rt: HostRuntime) -> Result<(), Fail> {
 fn an_empty_match_right_after_a_match_is_passed_over(rt: HostRuntime) -> Result<(), Fail> {
     let alloc = rt.alloc();
     let want: &[&[Place]] = &[&[Some((0, 0))], &[Some((1, 3))], &[Some((4, 4))]];
-    assert!(rt; finds(alloc, "a*", "baab", &[0], want)?);
+    assert!(rt; finds(alloc, "a*", "baab", None, &[0], want)?);
     Ok(())
 }
 
@@ -139,23 +233,18 @@ fn an_empty_match_right_after_a_match_is_passed_over(rt: HostRuntime) -> Result<
 fn a_group_that_takes_no_part_is_none_and_loses_no_match(rt: HostRuntime) -> Result<(), Fail> {
     let alloc = rt.alloc();
     let optional: &[&[Place]] = &[&[Some((0, 2)), Some((1, 2))], &[Some((3, 4)), None]];
-    assert!(rt; finds(alloc, "(a)(b)?", "ab a", &[0, 2], optional)?);
+    assert!(rt; finds(alloc, "(a)(b)?", "ab a", None, &[0, 2], optional)?);
     let either: &[&[Place]] = &[&[Some((0, 1)), None], &[None, Some((1, 2))]];
-    assert!(rt; finds(alloc, "(a)|(b)", "ab", &[1, 2], either)?);
-    assert!(rt; finds(alloc, "(a)|(b)", "ab", &[], &[&[], &[]])?);
+    assert!(rt; finds(alloc, "(a)|(b)", "ab", None, &[1, 2], either)?);
+    assert!(rt; finds(alloc, "(a)|(b)", "ab", None, &[], &[&[], &[]])?);
     assert_eq!(rt; compile_pattern(alloc, "(a)|(b)")?.group_count(), 2);
     Ok(())
 }
 
 #[test]
 fn a_match_sees_its_source_alone(rt: HostRuntime) -> Result<(), Fail> {
-    let alloc = rt.alloc();
-    let pattern = compile_pattern(alloc, "^b|c$|d")?;
-    let doc = Document::new(alloc, "abcd", None)?;
-    let source = Span { begin: 1, end: 3 };
-    assert!(rt; doc.len() == 4);
-    let rows = find_all(alloc, &pattern, &doc, source, &[0])?;
-    assert!(rt; are_rows(&rows, &[&[Some((1, 2))], &[Some((2, 3))]]));
+    let want: &[&[Place]] = &[&[Some((1, 2))], &[Some((2, 3))]];
+    assert!(rt; finds(rt.alloc(), "^b|c$|d", "abcd", Some((1, 3)), &[0], want)?);
     Ok(())
 }
 
@@ -163,11 +252,11 @@ fn a_match_sees_its_source_alone(rt: HostRuntime) -> Result<(), Fail> {
 fn each_token_gives_its_longest_run(rt: HostRuntime) -> Result<(), Fail> {
     let alloc = rt.alloc();
     let words: &[&[Place]] = &[&[Some((0, 3))], &[Some((2, 5))], &[Some((4, 5))]];
-    assert!(rt; finds_runs(alloc, r"\w+( \w+)?", "a b c", (0, 5), (1, 2), &[0], words)?);
+    assert!(rt; finds_runs(alloc, r"\w+( \w+)?", "a b c", ((0, 5), (1, 2)), &[0], words)?);
     let names: &[&[Place]] = &[&[Some((0, 4))], &[Some((5, 9))], &[Some((20, 23))]];
     let text = "Call John at 555 or Ann";
-    assert!(rt; finds_runs(alloc, "[A-Z][a-z]+", text, (0, 23), (1, 1), &[0], names)?);
-    assert!(rt; finds_runs(alloc, "a", "a a", (0, 3), (2, 3), &[0], &[])?);
+    assert!(rt; finds_runs(alloc, "[A-Z][a-z]+", text, ((0, 23), (1, 1)), &[0], names)?);
+    assert!(rt; finds_runs(alloc, "a", "a a", ((0, 3), (2, 3)), &[0], &[])?);
     Ok(())
 }
 
@@ -177,9 +266,9 @@ fn token_runs_beyond_ascii_count_characters(rt: HostRuntime) -> Result<(), Fail>
     let text = "é Zoë Åsa 漢 Bö";
     let pairs: &[&[Place]] = &[&[Some((2, 9)), Some((6, 9)), None]];
     let pattern = r"\p{Lu}\w+ (\p{Lu}\w+)(x)?";
-    assert!(rt; finds_runs(alloc, pattern, text, (0, 14), (2, 3), &[0, 1, 2], pairs)?);
-    assert!(rt; finds_runs(alloc, pattern, text, (3, 14), (2, 3), &[0, 1, 2], &[])?);
-    assert!(rt; finds_runs(alloc, "Bö", text, (2, 14), (1, 2), &[], &[&[]])?);
+    assert!(rt; finds_runs(alloc, pattern, text, ((0, 14), (2, 3)), &[0, 1, 2], pairs)?);
+    assert!(rt; finds_runs(alloc, pattern, text, ((3, 14), (2, 3)), &[0, 1, 2], &[])?);
+    assert!(rt; finds_runs(alloc, "Bö", text, ((2, 14), (1, 2)), &[], &[&[]])?);
     Ok(())
 }
 
@@ -191,6 +280,12 @@ fn the_predicates_ask_for_a_match_and_for_the_whole_text(rt: HostRuntime) -> Res
     assert!(rt; !matches_whole(alloc, &pattern, "abc")?);
     assert!(rt; matches_whole(alloc, &pattern, "b")?);
     Ok(())
+}
+
+/// Whether a pattern of this text matches the whole text.
+fn matches_all_of(alloc: Global, pattern: &str, text: &str) -> Result<bool, Fail> {
+    let pattern = compile_pattern(alloc, pattern)?;
+    Ok(matches_whole(alloc, &pattern, text)?)
 }
 
 #[test]
@@ -232,9 +327,8 @@ fn what_is_told_by_bytes_loses_no_match(rt: HostRuntime) -> Result<(), Fail> {
         (".+", "a 漢", true),
         ("(?x) a  b", "ab", true),
     ] {
-        let pattern = compile_pattern(alloc, pattern)?;
-        let found = matches_whole(alloc, &pattern, text)?;
-        assert_eq!(rt; found, matches, "{text:?}");
+        let found = matches_all_of(alloc, pattern, text)?;
+        assert_eq!(rt; found, matches, "{pattern} in {text:?}");
     }
     let runs: &[&[Place]] = &[&[Some((0, 4))], &[Some((2, 4))], &[Some((7, 10))]];
     assert!(rt;
@@ -242,8 +336,7 @@ fn what_is_told_by_bytes_loses_no_match(rt: HostRuntime) -> Result<(), Fail> {
             alloc,
             "(?:x )?[a-zö]+",
             "x ab 7 ötz",
-            (0, 10),
-            (1, 3),
+            ((0, 10), (1, 3)),
             &[0],
             runs
         )?
@@ -251,15 +344,20 @@ fn what_is_told_by_bytes_loses_no_match(rt: HostRuntime) -> Result<(), Fail> {
     Ok(())
 }
 
+/// A pattern has this fault, or none.
+fn has_fault<R: Abort + AllocGlobal>(
+    rt: &R,
+    pattern: &str,
+    want: Option<PatternFault>,
+    name: &str,
+) {
+    assert_eq!(rt; fault_of(rt.alloc(), pattern), want, "{name}");
+}
+
 #[test]
 fn what_is_not_read_is_bad_and_what_is_large_is_so_first(rt: HostRuntime) -> Result<(), Fail> {
-    let alloc = rt.alloc();
     for pattern in ["(", "a)|(?:b", "(?x)a # c", r"\"] {
-        assert_eq!(rt;
-            fault_of(alloc, pattern),
-            Some(PatternFault::Bad),
-            "{pattern}"
-        );
+        has_fault(&rt, pattern, Some(PatternFault::Bad), pattern);
     }
     for (pattern, bytes, weight) in [
         ("a{99}{99}", 9, 9_801),
@@ -267,9 +365,9 @@ fn what_is_not_read_is_bad_and_what_is_large_is_so_first(rt: HostRuntime) -> Res
         ("({9999}{9", 9, 9_999),
     ] {
         let large = Some(PatternFault::Large { bytes, weight });
-        assert_eq!(rt; fault_of(alloc, pattern), large, "{pattern}");
+        has_fault(&rt, pattern, large, pattern);
     }
-    assert!(rt; fault_of(alloc, "a{50}{50}").is_none());
+    has_fault(&rt, "a{50}{50}", None, "a{50}{50}");
     Ok(())
 }
 
@@ -282,20 +380,43 @@ fn copies(alloc: Global, text: &str, number: u32) -> Result<String, Fail> {
     Ok(all)
 }
 
+/// A group in a group, so many of them.
+fn nested(alloc: Global, number: u32) -> Result<String, Fail> {
+    let mut nested = copies(alloc, "(", number)?;
+    nested.push('a')?;
+    nested.push_str(copies(alloc, ")", number)?.as_str())?;
+    Ok(nested)
+}
+
 #[test]
 fn patterns_are_read_up_to_their_limits(rt: HostRuntime) -> Result<(), Fail> {
-    let alloc = rt.alloc();
-    for bytes in [1_001, 100_000] {
-        let long = copies(alloc, "a", bytes)?;
+    for (bytes, is_large) in [(1_001, true), (100_000, true), (1_000, false)] {
         let large = Some(PatternFault::Large { bytes, weight: 1 });
-        assert_eq!(rt; fault_of(alloc, long.as_str()), large, "{bytes} bytes");
+        let want = if is_large { large } else { None };
+        has_fault(
+            &rt,
+            copies(rt.alloc(), "a", bytes)?.as_str(),
+            want,
+            "a long one",
+        );
     }
-    assert!(rt; fault_of(alloc, copies(alloc, "a", 1_000)?.as_str()).is_none());
-    let mut nested = copies(alloc, "(", 249)?;
-    nested.push('a')?;
-    nested.push_str(copies(alloc, ")", 249)?.as_str())?;
-    assert_eq!(rt; fault_of(alloc, nested.as_str()), Some(PatternFault::Bad));
+    has_fault(
+        &rt,
+        nested(rt.alloc(), 249)?.as_str(),
+        Some(PatternFault::Bad),
+        "a nested one",
+    );
     Ok(())
+}
+
+/// The weight of a pattern, which is large by what stands behind it.
+fn weight_of(alloc: Global, pattern: &str, behind: &str) -> Result<Option<u64>, Fail> {
+    let mut text = String::from_str(alloc, pattern)?;
+    text.push_str(behind)?;
+    match fault_of(alloc, text.as_str()) {
+        Some(PatternFault::Large { weight, .. }) => Ok(Some(weight)),
+        _ => Ok(None),
+    }
 }
 
 #[test]
@@ -327,12 +448,7 @@ fn the_weight_is_the_product_over_depths_of_the_greatest_chain(
         ("a{3,4,5}", 1),
         ("a{99999999999999999999}", 1_000_000),
     ] {
-        let mut text = String::from_str(alloc, pattern)?;
-        text.push_str(behind.as_str())?;
-        let found = match fault_of(alloc, text.as_str()) {
-            Some(PatternFault::Large { weight, .. }) => Some(weight),
-            _ => None,
-        };
+        let found = weight_of(alloc, pattern, behind.as_str())?;
         assert_eq!(rt; found, Some(weight), "{pattern}");
     }
     Ok(())
@@ -361,20 +477,28 @@ fn try_in_threads<R: Threads + Sync>(
     );
 }
 
+/// Trials of the texts.
+fn trials_of<'t>(alloc: Global, texts: &[&'t str]) -> Result<Vec<Trial<'t>>, Fail> {
+    let mut trials = Vec::new(alloc);
+    for text in texts {
+        trials.push(Trial {
+            text: *text,
+            found: false,
+        })?;
+    }
+    Ok(trials)
+}
+
 #[test]
 fn several_threads_search_with_one_pattern(rt: HostRuntime) -> Result<(), Fail> {
     let alloc = rt.alloc();
     let pattern = compile_pattern(alloc, "[0-9]{3}")?;
-    let mut trials = Vec::new(alloc);
-    for text in ["call 555", "no digits", "12 345", "12"] {
-        trials.push(Trial { text, found: false })?;
-    }
+    let mut trials = trials_of(alloc, &["call 555", "no digits", "12 345", "12"])?;
     try_in_threads(&rt, alloc, &pattern, &mut trials);
-    let mut found = Vec::new(alloc);
-    for trial in &trials {
-        found.push(trial.found)?;
+    assert!(rt; trials.len() == 4);
+    for (trial, want) in trials.iter().zip([true, false, true, false]) {
+        assert_eq!(rt; trial.found, want);
     }
-    assert_eq!(rt; found.as_slice(), [true, false, true, false].as_slice());
     Ok(())
 }
 
@@ -412,27 +536,56 @@ fn search_in_threads<R: Threads + Sync>(rt: &R, doc: &Document<'_>, workers: &mu
     );
 }
 
+fn patterns_of(alloc: Global, texts: &[&str]) -> Result<Vec<Pattern>, Fail> {
+    let mut patterns = Vec::new(alloc);
+    for text in texts {
+        patterns.push(compile_pattern(alloc, text)?)?;
+    }
+    Ok(patterns)
+}
+
+/// A worker that has found nothing yet.
+fn worker_of<'p>(alloc: Global, pattern: &'p Pattern) -> Result<Worker<'p>, Fail> {
+    let searcher = Searcher::new(alloc, pattern)?;
+    Ok(Worker {
+        searcher,
+        whole: WholeSearcher::new(alloc, pattern)?,
+        found: Vec::new(alloc),
+        matches: 0,
+        runs: 0,
+    })
+}
+
+/// A worker for each pattern.
+fn workers_of<'p>(alloc: Global, patterns: &'p [Pattern]) -> Result<Vec<Worker<'p>>, Fail> {
+    let mut workers = Vec::new(alloc);
+    for pattern in patterns {
+        workers.push(worker_of(alloc, pattern)?)?;
+    }
+    Ok(workers)
+}
+
+/// The workers find so many matches in the document.
+fn finds_in_threads<R: Abort + Threads + Sync>(
+    rt: &R,
+    doc: &Document<'_>,
+    workers: &mut [Worker<'_>],
+    want: [usize; 2],
+) {
+    search_in_threads(rt, doc, workers);
+    assert!(rt; workers.len() == 2);
+    for (worker, number) in workers.iter().zip(want) {
+        assert_eq!(rt; worker.matches, number, "matches in {:?}", doc.text());
+    }
+}
+
 #[test]
 fn workers_keep_their_searchers_from_call_to_call(rt: HostRuntime) -> Result<(), Fail> {
     let alloc = rt.alloc();
-    let first = compile_pattern(alloc, r"[0-9]+")?;
-    let second = compile_pattern(alloc, r"[a-z]+")?;
-    let mut workers = Vec::new(alloc);
-    for pattern in [&first, &second] {
-        workers.push(Worker {
-            searcher: Searcher::new(alloc, pattern)?,
-            whole: WholeSearcher::new(alloc, pattern)?,
-            found: Vec::new(alloc),
-            matches: 0,
-            runs: 0,
-        })?;
-    }
+    let patterns = patterns_of(alloc, &[r"[0-9]+", r"[a-z]+"])?;
+    let mut workers = workers_of(alloc, &patterns)?;
     for (text, want) in [("a 12 bc 3", [2, 2]), ("é 7x", [1, 1])] {
-        let doc = Document::new(alloc, text, None)?;
-        search_in_threads(&rt, &doc, &mut workers);
-        for (worker, number) in workers.iter().zip(want) {
-            assert_eq!(rt; worker.matches, number, "matches in {text:?}");
-        }
+        finds_in_threads(&rt, &Document::new(alloc, text, None)?, &mut workers, want);
     }
     Ok(())
 }

@@ -1,6 +1,7 @@
 use dict_match::{DictPass, DictScratch, DictUse};
 use span_token::{Document, OutOfMemory, OwnedList, OwnedText, Span, TEXT_LIMIT};
 use std::alloc::Global;
+use std::process::Abort;
 use std::test::Fail;
 use std::thread::{self, Threads};
 
@@ -179,16 +180,29 @@ fn a_span_comes_once_and_over_any_white_space(rt: HostRuntime) -> Result<(), Fai
     Ok(())
 }
 
-/// How many lists of matches a document has, and whether the first has one match.
-fn number_found(alloc: Global, pass: &DictPass, doc: &Document<'_>) -> Result<(usize, bool), Fail> {
+/// How many lists there are, and how many matches in all of them.
+fn counts(found: &[Vec<Span>]) -> (usize, usize) {
+    let mut all = 0usize;
+    for matches in found {
+        all = all.saturating_add(matches.len());
+    }
+    (found.len(), all)
+}
+
+/// How many lists of matches a document has, and how many matches.
+fn number_found(
+    alloc: Global,
+    pass: &DictPass,
+    doc: &Document<'_>,
+) -> Result<(usize, usize), Fail> {
     let found = pass.matches(alloc, doc, doc.whole())?;
-    Ok((found.len(), found.len() > 0 && found[0].len() == 1))
+    Ok(counts(&found))
 }
 
 /// The same of a text.
-fn number_in(alloc: Global, pass: &DictPass, text: &str) -> Result<(usize, bool), Fail> {
+fn number_in(alloc: Global, pass: &DictPass, text: &str) -> Result<(usize, usize), Fail> {
     if text.len() > TEXT_LIMIT {
-        return Ok((0, false));
+        return Ok((0, 0));
     }
     let doc = Document::new(alloc, text, None)?;
     number_found(alloc, pass, &doc)
@@ -210,8 +224,8 @@ fn case_is_folded_in_full_beyond_ascii(rt: HostRuntime) -> Result<(), Fail> {
     for (entry, text, exact, does) in rows {
         let entries = [entry];
         let dicts: [Dict<'_>; 1] = [(&entries, exact)];
-        let found = number_in(alloc, &pass_of(alloc, &dicts)?, text)?;
-        assert_eq!(rt; found, (1, does), "{entry} in {text}");
+        let (lists, matches) = number_in(alloc, &pass_of(alloc, &dicts)?, text)?;
+        assert_eq!(rt; (lists, matches == 1), (1, does), "{entry} in {text}");
     }
     Ok(())
 }
@@ -259,13 +273,13 @@ fn part_matches(
     pass: &DictPass,
     text: &str,
     part: Place,
-    want: &[Place],
+    want: &[&[Place]],
 ) -> Result<bool, Fail> {
     if text.len() > TEXT_LIMIT {
         return Ok(false);
     }
     let doc = Document::new(alloc, text, None)?;
-    are_found(alloc, pass, &doc, part, &[want])
+    are_found(alloc, pass, &doc, part, want)
 }
 
 #[test]
@@ -273,11 +287,11 @@ fn only_tokens_wholly_in_the_source_count(rt: HostRuntime) -> Result<(), Fail> {
     let alloc = rt.alloc();
     let dict: Dict<'_> = (&["New York", "York"], false);
     let pass = pass_of(alloc, &[dict])?;
-    let sources: [(Place, &[Place]); 4] = [
-        ((3, 11), &[(3, 11), (7, 11)]),
-        ((4, 11), &[(7, 11)]),
-        ((3, 10), &[]),
-        ((8, 15), &[]),
+    let sources: [(Place, &[&[Place]]); 4] = [
+        ((3, 11), &[&[(3, 11), (7, 11)]]),
+        ((4, 11), &[&[(7, 11)]]),
+        ((3, 10), &[&[]]),
+        ((8, 15), &[&[]]),
     ];
     for ((begin, end), want) in sources {
         let are = part_matches(alloc, &pass, "in New York now", (begin, end), want)?;
@@ -321,6 +335,20 @@ fn answers_in(
     answers(pass, &doc, place, scratch)
 }
 
+/// The answers in a part of a text are the wanted ones.
+fn are_answers<R: Abort + AllocGlobal>(
+    rt: &R,
+    pass: &DictPass,
+    text: &str,
+    place: Place,
+    scratch: &mut DictScratch,
+    want: [bool; 4],
+) -> Result<(), Fail> {
+    let found = answers_in(rt.alloc(), pass, text, place, scratch)?;
+    assert!(rt; found == want, "from {} to {}", place.0, place.1);
+    Ok(())
+}
+
 #[test]
 fn whether_a_dictionary_matches_in_a_span_and_all_of_it(rt: HostRuntime) -> Result<(), Fail> {
     let alloc = rt.alloc();
@@ -340,8 +368,7 @@ fn whether_a_dictionary_matches_in_a_span_and_all_of_it(rt: HostRuntime) -> Resu
         ((5, 5), [false, false, false, false]),
     ];
     for (place, want) in rows {
-        let found = answers_in(alloc, &pass, text, place, &mut scratch)?;
-        assert!(rt; found == want, "from {} to {}", place.0, place.1);
+        are_answers(&rt, &pass, text, place, &mut scratch, want)?;
     }
     Ok(())
 }
@@ -431,15 +458,20 @@ fn try_in_threads<R: Threads + Sync>(
     );
 }
 
-/// Trials of the texts, each with a scratch of its own.
+/// A trial of the text, with a scratch of its own.
+fn trial_of(alloc: Global, text: &str) -> Trial<'_> {
+    Trial {
+        text,
+        scratch: DictScratch::new(alloc),
+        found: 0,
+    }
+}
+
+/// Trials of the texts.
 fn trials_of<'t>(alloc: Global, texts: &[&'t str]) -> Result<Vec<Trial<'t>>, Fail> {
     let mut trials = Vec::new(alloc);
     for text in texts {
-        trials.push(Trial {
-            text: *text,
-            scratch: DictScratch::new(alloc),
-            found: 0,
-        })?;
+        trials.push(trial_of(alloc, text))?;
     }
     Ok(trials)
 }

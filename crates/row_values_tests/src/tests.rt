@@ -8,6 +8,7 @@ use row_values::{
 use span_token::{OwnedList, OwnedText, Span};
 use std::alloc::Global;
 use std::cmp::Ordering;
+use std::process::Abort;
 use std::test::Fail;
 use std::thread;
 
@@ -63,9 +64,8 @@ fn a_value_tells_what_it_is(rt: HostRuntime) {
         (Value::Span(at), false, None, Some(at)),
     ];
     for (value, null, int, span) in table {
-        assert_eq!(rt; value.is_null(), null, "{value:?}");
-        assert_eq!(rt; value.as_int(), int, "{value:?}");
-        assert_eq!(rt; value.as_span(), span, "{value:?}");
+        let told = (value.is_null(), value.as_int(), value.as_span());
+        assert_eq!(rt; told, (null, int, span), "{value:?}");
     }
 }
 
@@ -74,6 +74,12 @@ fn row<'d>(alloc: Global, values: &[Value<'d>]) -> Result<Row<'d>, Fail>
     ensures { IfOk result (λ row. length row ≡ length values.now) }
 {
     Ok(Row::copied(alloc, values)?)
+}
+
+/// The order of the rows of the given values.
+fn order_of(alloc: Global, a: &[Value<'_>], b: &[Value<'_>]) -> Result<Ordering, Fail> {
+    let (a, b) = (row(alloc, a)?, row(alloc, b)?);
+    Ok(compare_rows(&a, &b))
 }
 
 #[test]
@@ -96,8 +102,7 @@ fn rows_are_in_order_by_columns_and_a_prefix_comes_first(rt: HostRuntime) -> Res
     ];
     for (i, a) in rising.iter().enumerate() {
         for (j, b) in rising.iter().enumerate() {
-            let order = compare_rows(&row(alloc, a)?, &row(alloc, b)?);
-            assert_eq!(rt; order, i.cmp(&j), "{i} and {j}");
+            assert_eq!(rt; order_of(alloc, a, b)?, i.cmp(&j), "{i} and {j}");
         }
     }
     Ok(())
@@ -118,16 +123,35 @@ fn filled<'d>(alloc: Global, front: &[Value<'d>], back: &[Value<'d>]) -> Result<
     Ok(row)
 }
 
+/// The list of the row of two rows, twice.
+fn joined<'d>(alloc: Global, left: &Row<'d>, right: &Row<'d>) -> Result<Rows<'d>, Fail>
+    requires few { length left.now + length right.now < 2 ^ 32 }
+{
+    let mut rows = Rows::new(alloc, left.len() + right.len());
+    rows.push_joined(alloc, left, right)?;
+    rows.push_joined(alloc, left, right)?;
+    Ok(rows)
+}
+
 /// The same, made in a list of rows, twice.
 fn pushed<'d>(alloc: Global, front: &[Value<'d>], back: &[Value<'d>]) -> Result<Rows<'d>, Fail>
     requires few { length front.now + length back.now < 2 ^ 32 }
 {
     let left = row(alloc, front)?;
     let right = row(alloc, back)?;
-    let mut rows = Rows::new(alloc, left.len() + right.len());
-    rows.push_joined(alloc, &left, &right)?;
-    rows.push_joined(alloc, &left, &right)?;
-    Ok(rows)
+    joined(alloc, &left, &right)
+}
+
+/// A row has these values.
+fn has_values(rt: &impl Abort, found: &Row<'_>, want: &[Value<'_>]) {
+    assert_eq!(rt; found.values(), want);
+}
+
+/// Each row of a list has these values.
+fn all_have_values(rt: &impl Abort, rows: &Rows<'_>, want: &[Value<'_>]) {
+    for row in rows.as_slice() {
+        has_values(rt, row, want);
+    }
 }
 
 #[test]
@@ -142,11 +166,9 @@ fn a_row_is_made_from_a_vec_from_values_and_from_rows(rt: HostRuntime) -> Result
     ];
     for at in 0..6 {
         let (front, back) = five.split_at(at);
-        assert_eq!(rt; followed(alloc, front, back)?.values(), five.as_slice());
-        assert_eq!(rt; filled(alloc, front, back)?.values(), five.as_slice());
-        for row in pushed(alloc, front, back)?.as_slice() {
-            assert_eq!(rt; row.values(), five.as_slice());
-        }
+        has_values(&rt, &followed(alloc, front, back)?, &five);
+        has_values(&rt, &filled(alloc, front, back)?, &five);
+        all_have_values(&rt, &pushed(alloc, front, back)?, &five);
     }
     Ok(())
 }
@@ -169,65 +191,106 @@ fn column<'d>(alloc: Global, values: &[Value<'d>]) -> Result<Rows<'d>, Fail> {
     Ok(rows)
 }
 
+/// Whether the rows are a column of these values in any order.
+fn is_bag_of(alloc: Global, rows: &Rows<'_>, values: &[Value<'_>]) -> Result<bool, Fail> {
+    let want = column(alloc, values)?;
+    Ok(same_bag(rows.as_slice(), want.as_slice()))
+}
+
+/// The rows as they are lent in order are the wanted ones.
+fn lends_in_order<R: Abort + AllocGlobal>(
+    rt: &R,
+    rows: &Rows<'_>,
+    want: &Rows<'_>,
+) -> Result<(), Fail> {
+    for (got, wanted) in rows.sorted(rt.alloc())?.iter().zip(want.as_slice()) {
+        assert_eq!(rt; compare_rows(got, wanted), Ordering::Equal);
+    }
+    Ok(())
+}
+
+/// The rows become the wanted ones by a sort.
+fn sorts_to(rt: &impl Abort, rows: &mut Rows<'_>, want: &Rows<'_>) -> Result<(), Fail> {
+    assert!(rt; !is_in_order(rows));
+    sort_rows(rows)?;
+    assert!(rt; is_in_order(rows));
+    assert!(rt; rows.as_slice() == want.as_slice());
+    Ok(())
+}
+
 #[test]
 fn a_sort_keeps_equal_rows_and_puts_null_first(rt: HostRuntime) -> Result<(), Fail> {
     let alloc = rt.alloc();
     let mixed = [span(3, 1), Value::Null, span(0, 5), span(3, 1), Value::Null];
     let in_order = [Value::Null, Value::Null, span(0, 5), span(3, 1), span(3, 1)];
-    let mut rows = column(alloc, &mixed)?;
     let want = column(alloc, &in_order)?;
-    assert!(rt; !is_in_order(&rows));
-    for (got, wanted) in rows.sorted(alloc)?.iter().zip(want.as_slice()) {
-        assert_eq!(rt; compare_rows(got, wanted), Ordering::Equal);
-    }
-    sort_rows(&mut rows)?;
-    assert!(rt; is_in_order(&rows));
-    assert!(rt; rows.as_slice() == want.as_slice());
-    assert!(rt; same_bag(rows.as_slice(), column(alloc, &mixed)?.as_slice()));
-    assert!(rt; !same_bag(rows.as_slice(), column(alloc, &mixed[1..])?.as_slice()));
+    let mut rows = column(alloc, &mixed)?;
+    lends_in_order(&rt, &rows, &want)?;
+    sorts_to(&rt, &mut rows, &want)?;
+    assert!(rt; is_bag_of(alloc, &rows, &mixed)?);
+    assert!(rt; !is_bag_of(alloc, &rows, &mixed[1..])?);
     Ok(())
 }
 
-#[test]
-fn many_rows_are_sorted(rt: HostRuntime) -> Result<(), Fail> {
-    let alloc = rt.alloc();
+/// The numbers below 4,001, each once and out of order.
+fn mixed_numbers(alloc: Global) -> Result<Vec<Value<'static>>, Fail> {
     let mut values = Vec::new(alloc);
     for i in 0..4001i64 {
         values.push(Value::Int(i.wrapping_mul(1000) % 4001))?;
     }
-    let mut rows = column(alloc, values.as_slice())?;
+    Ok(values)
+}
+
+#[test]
+fn many_rows_are_sorted(rt: HostRuntime) -> Result<(), Fail> {
+    let values = mixed_numbers(rt.alloc())?;
+    let mut rows = column(rt.alloc(), values.as_slice())?;
     sort_rows(&mut rows)?;
     for (i, row) in rows.as_slice().iter().enumerate() {
-        assert_eq!(rt; row.values(), &[Value::Int(i as i64)][..]);
+        has_values(&rt, row, &[Value::Int(i as i64)]);
     }
     Ok(())
+}
+
+/// A list has so many rows of so many values.
+fn has_size(rt: &impl Abort, rows: &Rows<'_>, size: (u32, u32)) {
+    assert_eq!(rt; (rows.len(), rows.width()), size);
+}
+
+/// The row at a place of a list has these values.
+fn has_values_at(rt: &impl Abort, rows: &Rows<'_>, place: u32, want: &[Value<'_>]) {
+    assert!(rt; place < rows.len());
+    has_values(rt, rows.get(place), want);
 }
 
 #[test]
 fn a_list_of_rows_keeps_its_width_and_is_copied_whole(rt: HostRuntime) -> Result<(), Fail> {
     let alloc = rt.alloc();
     let mut rows = column(alloc, &[Value::Int(2), Value::Int(1), Value::Int(2)])?;
-    assert_eq!(rt; (rows.len(), rows.width()), (3, 1));
-    assert!(rt; *rows.get(1) == Row::single(alloc, Value::Int(1)));
+    has_size(&rt, &rows, (3, 1));
+    has_values_at(&rt, &rows, 1, &[Value::Int(1)]);
     let copy = rows.copy(alloc)?;
     rows.clear();
-    assert_eq!(rt; (rows.len(), rows.width()), (0, 1));
-    assert_eq!(rt; copy.len(), 3);
-    assert!(rt; *copy.get(2) == Row::single(alloc, Value::Int(2)));
+    has_size(&rt, &rows, (0, 1));
+    has_size(&rt, &copy, (3, 1));
+    has_values_at(&rt, &copy, 2, &[Value::Int(2)]);
     Ok(())
+}
+
+/// The list made of a `Vec` of one row.
+fn of_vec(alloc: Global, value: Value<'_>) -> Result<Rows<'_>, Fail> {
+    let mut made = Vec::new(alloc);
+    made.push(Row::single(alloc, value))?;
+    Ok(Rows::from_vec(1, made))
 }
 
 #[test]
 fn a_list_gives_its_rows_back(rt: HostRuntime) -> Result<(), Fail> {
     let alloc = rt.alloc();
-    let given = column(alloc, &[Value::Int(2), Value::Null])?;
-    let rows = given.into_vec();
+    let rows = column(alloc, &[Value::Int(2), Value::Null])?.into_vec();
     assert_eq!(rt; rows.len(), 2);
-    assert!(rt; rows[0] == Row::single(alloc, Value::Int(2)));
-    let mut made = Vec::new(alloc);
-    made.push(Row::single(alloc, Value::Null))?;
-    let list = Rows::from_vec(1, made);
-    assert_eq!(rt; (list.width(), list.len()), (1, 1));
+    has_values(&rt, &rows[0], &[Value::Int(2)]);
+    has_size(&rt, &of_vec(alloc, Value::Null)?, (1, 1));
     Ok(())
 }
 

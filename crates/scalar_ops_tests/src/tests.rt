@@ -2,7 +2,7 @@ ghost use Rattle.std.specs.Prelude.{All, IsTrue, ◌≤◌};
 ghost use Rattle.row_values.specs.Datums.{IsOfDocument, datum_of};
 
 use crate::cases::{Arg, CONTEXTS, Case, OF_ONE_AND_MANY, OF_SPANS, OF_TWO, Want};
-use aql_regex_extract::compile_pattern;
+use aql_regex_extract::{Pattern, compile_pattern};
 use dict_match::DictUse;
 use row_values::{Row, Value};
 use scalar_ops::{Expr, Op, Tables, Tools, eval, holds, reads_below};
@@ -25,13 +25,25 @@ fn dict_of(alloc: Global, entries: &[&str], exact: bool) -> Result<DictUse, Fail
     })
 }
 
-fn tables_of(alloc: Global) -> Result<Tables, Fail> {
-    let mut patterns = Vec::new(alloc);
-    patterns.push(compile_pattern(alloc, "[0-9]+")?)?;
-    patterns.push(compile_pattern(alloc, "Bö|Bö,")?)?;
+fn dicts_of(alloc: Global, given: &[(&[&str], bool)]) -> Result<Vec<DictUse>, Fail> {
     let mut dicts = Vec::new(alloc);
-    dicts.push(dict_of(alloc, &["änn", "met bö"], false)?)?;
-    dicts.push(dict_of(alloc, &["met bö"], true)?)?;
+    for (entries, exact) in given {
+        dicts.push(dict_of(alloc, entries, *exact)?)?;
+    }
+    Ok(dicts)
+}
+
+fn patterns_of(alloc: Global, texts: &[&str]) -> Result<Vec<Pattern>, Fail> {
+    let mut patterns = Vec::new(alloc);
+    for text in texts {
+        patterns.push(compile_pattern(alloc, text)?)?;
+    }
+    Ok(patterns)
+}
+
+fn tables_of(alloc: Global) -> Result<Tables, Fail> {
+    let dicts = dicts_of(alloc, &[(&["änn", "met bö"], false), (&["met bö"], true)])?;
+    let patterns = patterns_of(alloc, &["[0-9]+", "Bö|Bö,"])?;
     Ok(Tables::new(alloc, patterns, dicts.as_slice())?)
 }
 
@@ -46,6 +58,16 @@ fn expr_of(alloc: Global, arg: &Arg) -> Result<Expr, OutOfMemory> {
 fn call_of(alloc: Global, op: Op, given: &[Arg]) -> Result<Expr, OutOfMemory> {
     let mut args = Vec::new(alloc);
     for arg in given {
+        args.push(expr_of(alloc, arg)?)?;
+    }
+    Ok(Expr::Call { op, args })
+}
+
+/// A call whose first argument is a call itself.
+fn nested(alloc: Global, op: Op, first: (Op, &[Arg]), rest: &[Arg]) -> Result<Expr, OutOfMemory> {
+    let mut args = Vec::new(alloc);
+    args.push(call_of(alloc, first.0, first.1)?)?;
+    for arg in rest {
         args.push(expr_of(alloc, arg)?)?;
     }
     Ok(Expr::Call { op, args })
@@ -216,17 +238,11 @@ fn patterns_dictionaries_and_truth_values(rt: HostRuntime) -> Result<(), Fail> {
 /// Conditions of which the first two are true: the length of `Bö` is greater than 1; a number stands in
 /// the two tokens behind it; `Änn` is `met`.
 fn conditions(alloc: Global) -> Result<Vec<Expr>, OutOfMemory> {
-    let length = call_of(alloc, Op::GetLength, &[Arg::Column(5)])?;
-    let context = call_of(alloc, Op::RightContextTok, &[Arg::Column(5), Arg::Int(2)])?;
+    let length: (Op, &[Arg]) = (Op::GetLength, &[Arg::Column(5)]);
+    let context: (Op, &[Arg]) = (Op::RightContextTok, &[Arg::Column(5), Arg::Int(2)]);
     let mut conds = Vec::new(alloc);
-    conds.push(Expr::Call {
-        op: Op::GreaterThan,
-        args: vec![in alloc; length, Expr::Int(1)]?,
-    })?;
-    conds.push(Expr::Call {
-        op: Op::ContainsRegex(0),
-        args: vec![in alloc; context]?,
-    })?;
+    conds.push(nested(alloc, Op::GreaterThan, length, &[Arg::Int(1)])?)?;
+    conds.push(nested(alloc, Op::ContainsRegex(0), context, &[])?)?;
     conds.push(call_of(alloc, Op::Equals, &[Arg::Column(3), Arg::Column(4)])?)?;
     Ok(conds)
 }
@@ -273,11 +289,8 @@ fn what_is_read_is_looked_for_in_every_argument(rt: HostRuntime) -> Result<(), F
     let alloc = rt.alloc();
     let literals = call_of(alloc, Op::Equals, &[Arg::Text("met"), Arg::Int(1)])?;
     assert!(rt; reads_below(&literals, 0));
-    let first = call_of(alloc, Op::Equals, &[Arg::Column(4), Arg::Column(3)])?;
-    let nested = Expr::Call {
-        op: Op::Not,
-        args: vec![in alloc; first]?,
-    };
+    let first: (Op, &[Arg]) = (Op::Equals, &[Arg::Column(4), Arg::Column(3)]);
+    let nested = nested(alloc, Op::Not, first, &[])?;
     for (width, want) in [(0, false), (4, false), (5, true), (6, true)] {
         assert_eq!(rt; reads_below(&nested, width), want, "below {width}");
     }
@@ -302,17 +315,23 @@ fn evaluate_in_threads<R: Threads + Sync>(rt: &R, alloc: Global, workers: &mut [
     );
 }
 
+/// Workers, each with tools of its own.
+fn workers_of(alloc: Global, tables: &Tables, number: u32) -> Result<Vec<Worker<'_>>, Fail> {
+    let mut workers = Vec::new(alloc);
+    for _worker in 0..number {
+        workers.push(Worker {
+            tools: Tools::new(alloc, tables)?,
+            wrong: 0,
+        })?;
+    }
+    Ok(workers)
+}
+
 #[test]
 fn workers_share_the_tables_and_keep_their_tools(rt: HostRuntime) -> Result<(), Fail> {
     let alloc = rt.alloc();
     let tables = tables_of(alloc)?;
-    let mut workers = Vec::new(alloc);
-    for _worker in 0..4 {
-        workers.push(Worker {
-            tools: Tools::new(alloc, &tables)?,
-            wrong: 0,
-        })?;
-    }
+    let mut workers = workers_of(alloc, &tables, 4)?;
     for _round in 0..2 {
         evaluate_in_threads(&rt, alloc, &mut workers);
         for worker in &workers {

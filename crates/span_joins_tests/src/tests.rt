@@ -13,6 +13,7 @@ use span_joins::{
 use span_token::{Document, Span};
 use std::alloc::Global;
 use std::marker::Brand;
+use std::process::Abort;
 use std::sync::ledger::{Blank, Ledger};
 use std::test::Fail;
 
@@ -58,23 +59,58 @@ fn number(row: &Row<'_>, column: usize) -> Option<i64> {
     row.values().get(column)?.as_int()
 }
 
-/// The pairs by a gap in characters.
-fn by_characters<L: Ledger>(
+/// A join that takes no document; a gap by its least and greatest number of characters.
+#[derive(Clone, Copy, Debug)]
+enum Kind {
+    Follows(i64, i64),
+    FollowsBack(i64, i64),
+    Overlaps,
+    Contains,
+    ContainsBack,
+}
+
+/// The join of two lists by the spans behind their numbers.
+fn joined<'d, L: Ledger>(
     alloc: Global,
+    kind: Kind,
+    left: &Rows<'d>,
+    right: &Rows<'d>,
+    steps: &mut Steps<L>,
+) -> Result<Rows<'d>, span_token::OutOfMemory>
+    requires left_width { left.now.width ≡ 2 }
+    requires right_width { right.now.width ≡ 2 }
+{
+    match kind {
+        Kind::Follows(min, max) => join_follows(alloc, left, 1, right, 1, min, max, steps),
+        Kind::FollowsBack(min, max) => join_follows_back(alloc, left, 1, right, 1, min, max, steps),
+        Kind::Overlaps => join_overlaps(alloc, left, 1, right, 1, steps),
+        Kind::Contains => join_contains(alloc, left, 1, right, 1, steps),
+        Kind::ContainsBack => join_contains_back(alloc, left, 1, right, 1, steps),
+    }
+}
+
+/// The pairs of a join, in order.
+fn pairs_of<L: Ledger>(
+    alloc: Global,
+    kind: Kind,
     left: &[Ends],
     right: &[Ends],
-    bounds: (i64, i64),
     blank: Blank,
 ) -> Result<Vec<Pair>, Fail>
     requires name { blank.name ≡ L.name }
     requires parts { blank.parts ≡ L.parts }
     requires some { 0 < blank.parts }
 {
-    let (left, right) = (given(alloc, left)?, given(alloc, right)?);
     let mut steps = Steps::<L>::new(blank);
-    let (min, max) = bounds;
-    let out = join_follows(alloc, &left, 1, &right, 1, min, max, &mut steps)?;
+    let left = given(alloc, left)?;
+    let right = given(alloc, right)?;
+    let out = joined(alloc, kind, &left, &right, &mut steps)?;
     pairs(alloc, &out)
+}
+
+/// The pairs that were found are the wanted ones.
+fn are_pairs(rt: &impl Abort, got: &[Pair], want: &[Pair], join: &str, name: &str) {
+    assert_eq!(rt; got, want, "{join}: {name}");
 }
 
 #[test]
@@ -199,8 +235,9 @@ fn gaps_in_characters(rt: HostRuntime) -> Result<(), Fail> {
         ),
     ];
     for (name, left, right, bounds, want) in table {
-        let got = by_characters::<Brand>(rt.alloc(), left, right, bounds, Blank::new(1))?;
-        assert_eq!(rt; got.as_slice(), want, "{name}");
+        let kind = Kind::Follows(bounds.0, bounds.1);
+        let got = pairs_of::<Brand>(rt.alloc(), kind, left, right, Blank::new(1))?;
+        are_pairs(&rt, &got, want, "follows", name);
     }
     Ok(())
 }
@@ -239,27 +276,48 @@ fn span_row(alloc: Global, number: i64, place: Span) -> Result<Row<'static>, Fai
     Ok(row)
 }
 
-/// The pairs by a gap in tokens, and those from the right to the left, which are the same of sides that
-/// change places.
+/// The join of two lists by a gap in tokens, or that from the right to the left, which is the same of sides
+/// that change places.
+fn joined_tok<'d, L: Ledger>(
+    alloc: Global,
+    doc: &Document<'_>,
+    left: &Rows<'d>,
+    right: &Rows<'d>,
+    bounds: (i64, i64),
+    is_back: bool,
+    steps: &mut Steps<L>,
+) -> Result<Rows<'d>, span_token::OutOfMemory>
+    requires left_width { left.now.width ≡ 2 }
+    requires right_width { right.now.width ≡ 2 }
+    requires left_in_document { ColumnLiesIn doc.now 1 left.now.rows }
+    requires right_in_document { ColumnLiesIn doc.now 1 right.now.rows }
+{
+    let (min, max) = bounds;
+    if is_back {
+        join_follows_tok_back(alloc, doc, right, 1, left, 1, min, max, steps)
+    } else {
+        join_follows_tok(alloc, doc, left, 1, right, 1, min, max, steps)
+    }
+}
+
+/// The pairs of such a join, in order.
 fn by_tokens<L: Ledger>(
     alloc: Global,
     doc: &Document<'_>,
-    left: &[(u32, u32)],
-    right: &[(u32, u32)],
+    sides: [&[(u32, u32)]; 2],
     bounds: (i64, i64),
+    is_back: bool,
     blank: Blank,
-) -> Result<(Vec<Pair>, Vec<Pair>), Fail>
+) -> Result<Vec<Pair>, Fail>
     requires name { blank.name ≡ L.name }
     requires parts { blank.parts ≡ L.parts }
     requires some { 0 < blank.parts }
 {
-    let left = given_in(alloc, doc, left)?;
-    let right = given_in(alloc, doc, right)?;
     let mut steps = Steps::<L>::new(blank);
-    let (min, max) = bounds;
-    let out = join_follows_tok(alloc, doc, &left, 1, &right, 1, min, max, &mut steps)?;
-    let back = join_follows_tok_back(alloc, doc, &right, 1, &left, 1, min, max, &mut steps)?;
-    Ok((pairs(alloc, &out)?, pairs(alloc, &back)?))
+    let left = given_in(alloc, doc, sides[0])?;
+    let right = given_in(alloc, doc, sides[1])?;
+    let out = joined_tok(alloc, doc, &left, &right, bounds, is_back, &mut steps)?;
+    pairs(alloc, &out)
 }
 
 #[test]
@@ -280,30 +338,17 @@ fn gaps_in_tokens(rt: HostRuntime) -> Result<(), Fail> {
         ("the greater bound below", (3, 1), &[]),
     ];
     for (name, bounds, want) in table {
-        let got = by_tokens::<Brand>(rt.alloc(), &doc, names, days, bounds, Blank::new(1))?;
-        assert_eq!(rt; got.0.as_slice(), want, "{name}");
-        assert_eq!(rt; got.1.len(), want.len(), "back: {name}");
+        for is_back in [false, true] {
+            let sides = [names, days];
+            let got = by_tokens::<Brand>(rt.alloc(), &doc, sides, bounds, is_back, Blank::new(1))?;
+            if is_back {
+                assert_eq!(rt; got.len(), want.len(), "back: {name}");
+            } else {
+                are_pairs(&rt, &got, want, "follows in tokens", name);
+            }
+        }
     }
     Ok(())
-}
-
-/// The pairs that overlap, and those of which the left one contains the right one.
-fn by_places<L: Ledger>(
-    alloc: Global,
-    left: &[Ends],
-    right: &[Ends],
-    blank: Blank,
-) -> Result<(Vec<Pair>, Vec<Pair>), Fail>
-    requires name { blank.name ≡ L.name }
-    requires parts { blank.parts ≡ L.parts }
-    requires some { 0 < blank.parts }
-{
-    let left = given(alloc, left)?;
-    let right = given(alloc, right)?;
-    let mut steps = Steps::<L>::new(blank);
-    let overlapping = join_overlaps(alloc, &left, 1, &right, 1, &mut steps)?;
-    let containing = join_contains(alloc, &left, 1, &right, 1, &mut steps)?;
-    Ok((pairs(alloc, &overlapping)?, pairs(alloc, &containing)?))
 }
 
 #[test]
@@ -403,64 +448,69 @@ fn overlaps_and_contains_side_by_side(rt: HostRuntime) -> Result<(), Fail> {
         ),
     ];
     for (name, left, right, overlapping, containing) in table {
-        let got = by_places::<Brand>(rt.alloc(), left, right, Blank::new(1))?;
-        assert_eq!(rt; got.0.as_slice(), overlapping, "overlaps: {name}");
-        assert_eq!(rt; got.1.as_slice(), containing, "contains: {name}");
+        for (kind, want, join) in [
+            (Kind::Overlaps, overlapping, "overlaps"),
+            (Kind::Contains, containing, "contains"),
+        ] {
+            let got = pairs_of::<Brand>(rt.alloc(), kind, left, right, Blank::new(1))?;
+            are_pairs(&rt, &got, want, join, name);
+        }
     }
     Ok(())
-}
-
-/// The pairs of which the left row follows the right one, and those of which the right one contains the left
-/// one.
-fn back<L: Ledger>(
-    alloc: Global,
-    left: &[Ends],
-    right: &[Ends],
-    blank: Blank,
-) -> Result<(Vec<Pair>, Vec<Pair>), Fail>
-    requires name { blank.name ≡ L.name }
-    requires parts { blank.parts ≡ L.parts }
-    requires some { 0 < blank.parts }
-{
-    let left = given(alloc, left)?;
-    let right = given(alloc, right)?;
-    let mut steps = Steps::<L>::new(blank);
-    let following = join_follows_back(alloc, &left, 1, &right, 1, 0, 1, &mut steps)?;
-    let contained = join_contains_back(alloc, &left, 1, &right, 1, &mut steps)?;
-    Ok((pairs(alloc, &following)?, pairs(alloc, &contained)?))
 }
 
 #[test]
 fn a_join_back_has_the_left_row_in_front(rt: HostRuntime) -> Result<(), Fail> {
     let left: &[Ends] = &[Some((5, 6)), Some((0, 1)), None, Some((2, 3))];
     let right: &[Ends] = &[Some((0, 2)), Some((2, 4)), Some((5, 7))];
-    let (following, contained) = back::<Brand>(rt.alloc(), left, right, Blank::new(1))?;
-    assert_eq!(rt; following.as_slice(), [(0, 1), (3, 0)].as_slice());
-    assert_eq!(rt; contained.as_slice(), [(0, 2), (1, 0), (3, 1)].as_slice());
+    let table: [(Kind, &[Pair], &str); 2] = [
+        (Kind::FollowsBack(0, 1), &[(0, 1), (3, 0)], "follows"),
+        (Kind::ContainsBack, &[(0, 2), (1, 0), (3, 1)], "contains"),
+    ];
+    for (kind, want, join) in table {
+        let got = pairs_of::<Brand>(rt.alloc(), kind, left, right, Blank::new(1))?;
+        are_pairs(&rt, &got, want, join, "back");
+    }
     Ok(())
 }
 
-/// How many pairs there are of each kind where row i of both sides has the span from i to i + 2.
-fn of_many<L: Ledger>(alloc: Global, many: u32, blank: Blank) -> Result<(u32, u32, u32), Fail>
+/// So many rows, of which row i has the span from i to i + 2.
+fn many(alloc: Global, number: u32) -> Result<Rows<'static>, Fail>
+    ensures { IfOk result (λ rows. rows.width ≡ 2) }
+{
+    let mut table = Vec::new(alloc);
+    for i in 0..number {
+        table.push(Some((i, i.saturating_add(2))))?;
+    }
+    given(alloc, table.as_slice())
+}
+
+/// How many pairs a join of rows with themselves has.
+fn number_of<L: Ledger>(
+    alloc: Global,
+    kind: Kind,
+    rows: &Rows<'_>,
+    blank: Blank,
+) -> Result<u32, Fail>
+    requires width { rows.now.width ≡ 2 }
     requires name { blank.name ≡ L.name }
     requires parts { blank.parts ≡ L.parts }
     requires some { 0 < blank.parts }
 {
-    let mut table = Vec::new(alloc);
-    for i in 0..many {
-        table.push(Some((i, i.saturating_add(2))))?;
-    }
-    let rows = given(alloc, table.as_slice())?;
     let mut steps = Steps::<L>::new(blank);
-    let following = join_follows(alloc, &rows, 1, &rows, 1, 0, 0, &mut steps)?;
-    let overlapping = join_overlaps(alloc, &rows, 1, &rows, 1, &mut steps)?;
-    let containing = join_contains(alloc, &rows, 1, &rows, 1, &mut steps)?;
-    Ok((following.len(), overlapping.len(), containing.len()))
+    Ok(joined(alloc, kind, rows, rows, &mut steps)?.len())
 }
 
 #[test]
 fn many_rows_are_joined(rt: HostRuntime) -> Result<(), Fail> {
-    let got = of_many::<Brand>(rt.alloc(), 3000, Blank::new(1))?;
-    assert_eq!(rt; got, (2998, 8998, 3000));
+    let rows = many(rt.alloc(), 3000)?;
+    for (kind, want) in [
+        (Kind::Follows(0, 0), 2998),
+        (Kind::Overlaps, 8998),
+        (Kind::Contains, 3000),
+    ] {
+        let got = number_of::<Brand>(rt.alloc(), kind, &rows, Blank::new(1))?;
+        assert_eq!(rt; got, want, "{kind:?}");
+    }
     Ok(())
 }
