@@ -1,7 +1,10 @@
+ghost use Rattle.std.specs.Prelude.{◌≤◌};
+
 use aql_io::{MemSource, Source, SureSource};
 use corpus_json::{LineBuffer, LineReader, Next, Step};
 use span_token::OutOfMemory;
 use std::alloc::Global;
+use std::process::Abort;
 use std::test::Fail;
 
 /// A letter for each answer, in order, with the bytes of each line before an `L`.
@@ -24,6 +27,28 @@ fn said<S: Source>(alloc: Global, source: &mut S, answers: usize) -> Result<Vec<
     Ok(said)
 }
 
+/// Checks the first answers for bytes that come in pieces of at most so many, where some of the reads fail.
+fn expect_said<R: Abort>(
+    rt: &R,
+    alloc: Global,
+    bytes: &[u8],
+    piece: usize,
+    fail: &[u64],
+    answers: usize,
+    wanted: &[u8],
+) -> Result<(), OutOfMemory>
+    requires { 1 ≤ piece }
+{
+    let mut source = MemSource::new(bytes.to_vec(alloc)?, piece, fail.to_vec(alloc)?);
+    let given = said(alloc, &mut source, answers)?;
+    assert_eq!(rt;
+        given.as_slice(),
+        wanted,
+        "pieces of {piece} bytes, where the reads {fail:?} fail"
+    );
+    Ok(())
+}
+
 #[test]
 fn lines_end_at_lf_or_at_the_end_of_the_source(rt: HostRuntime) -> Result<(), Fail> {
     let alloc = rt.alloc();
@@ -40,9 +65,7 @@ fn lines_end_at_lf_or_at_the_end_of_the_source(rt: HostRuntime) -> Result<(), Fa
     ];
     for (bytes, wanted) in table {
         for piece in 1..4usize {
-            let mut source = MemSource::new(bytes.to_vec(alloc)?, piece, Vec::new(alloc));
-            let given = said(alloc, &mut source, 5)?;
-            assert_eq!(rt; given.as_slice(), wanted, "pieces of {piece} bytes");
+            expect_said(&rt, alloc, bytes, piece, &[], 5, wanted)?;
         }
     }
     Ok(())
@@ -59,9 +82,7 @@ fn a_failed_read_ends_the_lines_for_good(rt: HostRuntime) -> Result<(), Fail> {
         (5, b"abLcLdLE"),
     ];
     for (call, wanted) in table {
-        let mut source = MemSource::new(b"ab\nc\nd".to_vec(alloc)?, 2, [call].to_vec(alloc)?);
-        let given = said(alloc, &mut source, 4)?;
-        assert_eq!(rt; given.as_slice(), wanted, "read {call} fails");
+        expect_said(&rt, alloc, b"ab\nc\nd", 2, &[call], 4, wanted)?;
     }
     Ok(())
 }
@@ -79,18 +100,53 @@ fn first_two(alloc: Global, count: usize, tail: &[u8]) -> Result<(Step, usize, S
     Ok((first, len, second))
 }
 
+/// Checks the first two answers for a source of `count` letters and then `tail`; gives the length of the first line.
+fn expect_two<R: Abort>(
+    rt: &R,
+    alloc: Global,
+    count: usize,
+    tail: &[u8],
+    wanted: (Step, Step),
+) -> Result<usize, OutOfMemory> {
+    let (first, len, second) = first_two(alloc, count, tail)?;
+    assert_eq!(rt; (first, second), wanted, "{count} letters");
+    Ok(len)
+}
+
 #[test]
 fn a_line_may_have_16777216_bytes_and_not_one_more(rt: HostRuntime) -> Result<(), Fail> {
     let alloc = rt.alloc();
     for tail in [b"".as_slice(), b"\n".as_slice()] {
-        let (first, len, second) = first_two(alloc, 16_777_216, tail)?;
-        assert_eq!(rt; first, Step::Line);
-        assert_eq!(rt; len, 16_777_216);
-        assert_eq!(rt; second, Step::End);
-        let (first, _, second) = first_two(alloc, 16_777_217, tail)?;
-        assert_eq!(rt; first, Step::Long);
-        assert_eq!(rt; second, Step::Long);
+        let len = expect_two(&rt, alloc, 16_777_216, tail, (Step::Line, Step::End))?;
+        assert!(rt; len == 16_777_216);
+        expect_two(&rt, alloc, 16_777_217, tail, (Step::Long, Step::Long))?;
     }
+    Ok(())
+}
+
+/// Checks that this line is the next of a reader.
+fn expect_next<R: Abort, S: Source>(
+    rt: &R,
+    reader: &mut LineReader<S>,
+    wanted: &str,
+) -> Result<(), OutOfMemory> {
+    let next = reader.next()?;
+    assert!(rt; matches!(&next, Next::Line(_)), "{wanted}");
+    if let Next::Line(line) = next {
+        assert_eq!(rt; line.as_slice(), wanted.as_bytes());
+    }
+    Ok(())
+}
+
+/// Checks that a reader has no line and its source no byte.
+fn expect_end<R: Abort, S: Source + Drop>(
+    rt: &R,
+    mut reader: LineReader<S>,
+) -> Result<(), OutOfMemory> {
+    assert!(rt; matches!(reader.next()?, Next::End));
+    let mut source = reader.into_source();
+    let mut rest = [0u8; 1];
+    assert_eq!(rt; source.read(&mut rest), Ok(0));
     Ok(())
 }
 
@@ -99,15 +155,7 @@ fn a_reader_gives_lines_of_its_own_source(rt: HostRuntime) -> Result<(), Fail> {
     let alloc = rt.alloc();
     let mut source = SureSource::new(b"one\ntwo".to_vec(alloc)?);
     let mut reader = LineReader::new(alloc, &mut source)?;
-    for wanted in ["one", "two"] {
-        let next = reader.next()?;
-        assert!(rt; matches!(&next, Next::Line(_)), "{wanted}");
-        if let Next::Line(line) = next {
-            assert_eq!(rt; line.as_slice(), wanted.as_bytes());
-        }
-    }
-    assert!(rt; matches!(reader.next()?, Next::End));
-    let mut rest = [0u8; 1];
-    assert_eq!(rt; reader.into_source().read(&mut rest), Ok(0));
-    Ok(())
+    expect_next(&rt, &mut reader, "one")?;
+    expect_next(&rt, &mut reader, "two")?;
+    Ok(expect_end(&rt, reader)?)
 }

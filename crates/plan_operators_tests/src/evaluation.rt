@@ -11,6 +11,7 @@ use row_values::Rows;
 use scalar_ops::{Op, Tools};
 use span_token::{Document, OutOfMemory};
 use std::alloc::Global;
+use std::process::Abort;
 use std::test::Fail;
 
 /// The rows of some nodes after the plan is evaluated, a line each; `-` where none are left.
@@ -53,10 +54,29 @@ fn push_line(
     Ok(())
 }
 
-/// Puts the document, the matches of a pattern, and these alone, which are node 2.
-pub(crate) fn put_words(alloc: Global, nodes: &mut Nodes, pattern: u32) -> Result<(), Fail> {
-    put(nodes, Node::Doc)?;
-    let groups = numbers(alloc, &[0])?;
+/// Checks the rows of some nodes after the plan is evaluated, a line each; `case` are numbers that set the plan apart from
+/// others of the same test.
+pub(crate) fn expect_rows<R: Abort>(
+    rt: &R,
+    alloc: Global,
+    plan: &Plan,
+    seen: &[u32],
+    wanted: &str,
+    case: &[u32],
+) -> Result<(), Fail> {
+    let got = evaluated(alloc, plan, seen)?;
+    assert_eq!(rt; got.as_str(), wanted, "nodes {seen:?} of {case:?}");
+    Ok(())
+}
+
+/// Puts the matches of a pattern in the document, which is node 0, with the spans of some groups.
+pub(crate) fn put_matches(
+    alloc: Global,
+    nodes: &mut Nodes,
+    pattern: u32,
+    groups: &[u32],
+) -> Result<u32, Fail> {
+    let groups = numbers(alloc, groups)?;
     put(
         nodes,
         Node::Regex {
@@ -65,10 +85,50 @@ pub(crate) fn put_words(alloc: Global, nodes: &mut Nodes, pattern: u32) -> Resul
             pattern,
             groups,
         },
-    )?;
-    let items = columns(alloc, &[1])?;
-    put(nodes, Node::Project { input: 1, items })?;
+    )
+}
+
+/// Puts one column of a node.
+pub(crate) fn put_column(
+    alloc: Global,
+    nodes: &mut Nodes,
+    input: u32,
+    column: u32,
+) -> Result<u32, Fail> {
+    let items = columns(alloc, &[column])?;
+    put(nodes, Node::Project { input, items })
+}
+
+/// Puts the document, the matches of a pattern, and these alone, which are node 2.
+pub(crate) fn put_words(alloc: Global, nodes: &mut Nodes, pattern: u32) -> Result<(), Fail> {
+    put(nodes, Node::Doc)?;
+    put_matches(alloc, nodes, pattern, &[0])?;
+    put_column(alloc, nodes, 1, 1)?;
     Ok(())
+}
+
+/// Puts the rows of node 2 whose span begins behind character 9, which are node 3.
+fn put_late(alloc: Global, nodes: &mut Nodes) -> Result<(), Fail> {
+    let conds = alone(alloc, begins_behind(alloc, 9)?)?;
+    put(nodes, Node::Select { input: 2, conds })?;
+    Ok(())
+}
+
+/// Puts all pairs of rows, conditional or not.
+pub(crate) fn put_cross(
+    nodes: &mut Nodes,
+    left: u32,
+    right: u32,
+    conditional: bool,
+) -> Result<u32, Fail> {
+    put(
+        nodes,
+        Node::Cross {
+            left,
+            right,
+            conditional,
+        },
+    )
 }
 
 /// The predicates of the joins, and whether a join is conditional.
@@ -119,19 +179,9 @@ pub(crate) static NEAR: [(JoinKind, Local); 10] = [
 /// twice, the left side, node 8. Null stands on both sides.
 fn put_sides(alloc: Global, nodes: &mut Nodes) -> Result<(), Fail> {
     put_words(alloc, nodes, GREAT)?;
-    let groups = numbers(alloc, &[0, 1])?;
-    put(
-        nodes,
-        Node::Regex {
-            input: 0,
-            column: 0,
-            pattern: TWO_WORDS,
-            groups,
-        },
-    )?;
+    put_matches(alloc, nodes, TWO_WORDS, &[0, 1])?;
     for column in 1..3 {
-        let items = columns(alloc, &[column])?;
-        put(nodes, Node::Project { input: 3, items })?;
+        put_column(alloc, nodes, 3, column)?;
     }
     for (left, right) in [(4, 5), (5, 2), (7, 2)] {
         put(nodes, Node::Union { left, right })?;
@@ -172,9 +222,11 @@ fn joins_give_the_pairs_on_which_their_predicate_holds(rt: HostRuntime) -> Resul
     let alloc = rt.alloc();
     let shown = [6, 8, 9, 10, 11, 12, 13, 14, 15];
     let plan = joins(alloc, &shown)?;
-    let got = evaluated(alloc, &plan, &shown)?;
-    assert_eq!(rt;
-        got.as_str(),
+    expect_rows(
+        &rt,
+        alloc,
+        &plan,
+        &shown,
         "6 1:[Null][1-7][3-7][9-10][15-23][19-23]
 8 1:[Null][0-3][0-3][3-7][8-10][8-10][19-23]
 9 2:[0-3 3-7][0-3 3-7][3-7 9-10][8-10 15-23][8-10 15-23]
@@ -184,9 +236,9 @@ fn joins_give_the_pairs_on_which_their_predicate_holds(rt: HostRuntime) -> Resul
 13 2:[8-10 1-7][8-10 1-7][8-10 3-7][8-10 3-7]
 14 2:[8-10 1-7][8-10 1-7][8-10 3-7][8-10 3-7]
 15 2:[3-7 1-7][3-7 3-7][19-23 15-23][19-23 19-23]
-"
-    );
-    Ok(())
+",
+        &[],
+    )
 }
 
 #[test]
@@ -194,9 +246,11 @@ fn restricted_joins_find_what_is_near(rt: HostRuntime) -> Result<(), Fail> {
     let alloc = rt.alloc();
     let shown = [16, 17, 18, 19, 20, 21, 22, 23, 24, 25];
     let plan = joins(alloc, &shown)?;
-    let got = evaluated(alloc, &plan, &shown)?;
-    assert_eq!(rt;
-        got.as_str(),
+    expect_rows(
+        &rt,
+        alloc,
+        &plan,
+        &shown,
         "16 3:[0-3 0-24 4-7][0-3 0-24 4-7][8-10 0-24 15-19][8-10 0-24 15-19]
 17 3:[0-3 0-24 4-7][0-3 0-24 4-7]
 18 3:[3-7 0-24 15-19][8-10 0-24 15-19][8-10 0-24 15-19][8-10 0-24 20-23][8-10 0-24 20-23]
@@ -207,9 +261,9 @@ fn restricted_joins_find_what_is_near(rt: HostRuntime) -> Result<(), Fail> {
 23 3:[19-23 0-24 15-23]
 24 3:[0-3 0-24 0-3][0-3 0-24 0-3][8-10 0-24 8-10][8-10 0-24 8-10][19-23 0-24 15-23]
 25 3:
-"
-    );
-    Ok(())
+",
+        &[],
+    )
 }
 
 /// Four dictionaries in one walk, one of them twice, one that isn't there, and the rows of each.
@@ -241,18 +295,20 @@ fn dictionaries(alloc: Global) -> Result<Plan, Fail> {
 fn one_walk_serves_several_dictionaries(rt: HostRuntime) -> Result<(), Fail> {
     let alloc = rt.alloc();
     let plan = dictionaries(alloc)?;
-    let got = evaluated(alloc, &plan, &[0, 1, 2, 3, 4, 5])?;
-    assert_eq!(rt;
-        got.as_str(),
+    expect_rows(
+        &rt,
+        alloc,
+        &plan,
+        &[0, 1, 2, 3, 4, 5],
         "0 -
 1 -
 2 2:[0-24 0-3][0-24 8-10][0-24 15-23]
 3 2:[0-24 4-10][0-24 8-10][0-24 15-19]
 4 2:[0-24 0-3][0-24 8-10][0-24 15-23]
 5 2:
-"
-    );
-    Ok(())
+",
+        &[],
+    )
 }
 
 /// Words of small letters, of which the late ones are an output and are read by three nodes, by one of them
@@ -260,18 +316,10 @@ fn one_walk_serves_several_dictionaries(rt: HostRuntime) -> Result<(), Fail> {
 pub(crate) fn read_often(alloc: Global) -> Result<Plan, Fail> {
     let mut nodes = Nodes::new(alloc);
     put_words(alloc, &mut nodes, SMALL)?;
-    let conds = alone(alloc, begins_behind(alloc, 9)?)?;
-    put(&mut nodes, Node::Select { input: 2, conds })?;
+    put_late(alloc, &mut nodes)?;
     put(&mut nodes, Node::Union { left: 2, right: 3 })?;
     put(&mut nodes, Node::Minus { left: 2, right: 3 })?;
-    put(
-        &mut nodes,
-        Node::Cross {
-            left: 3,
-            right: 3,
-            conditional: false,
-        },
-    )?;
+    put_cross(&mut nodes, 3, 3, false)?;
     put(&mut nodes, Node::Union { left: 5, right: 5 })?;
     showing(alloc, nodes, tables_of(alloc)?, &[3, 4, 6, 7])
 }
@@ -287,23 +335,16 @@ pub(crate) const READ_OFTEN: &str = "3 1:[15-19][20-23]
 fn rows_are_there_for_all_who_read_them(rt: HostRuntime) -> Result<(), Fail> {
     let alloc = rt.alloc();
     let plan = read_often(alloc)?;
-    let got = evaluated(alloc, &plan, &[3, 4, 6, 7])?;
-    assert_eq!(rt; got.as_str(), READ_OFTEN);
-    let got = evaluated(alloc, &plan, &[0, 1, 2])?;
-    assert_eq!(rt;
-        got.as_str(),
-        "0 -\n1 -\n2 -\n",
-        "rows are passed on, and given up"
-    );
-    Ok(())
+    expect_rows(&rt, alloc, &plan, &[3, 4, 6, 7], READ_OFTEN, &[])?;
+    // rows are passed on, and given up
+    expect_rows(&rt, alloc, &plan, &[0, 1, 2], "0 -\n1 -\n2 -\n", &[])
 }
 
 /// The union of words with the late ones of them.
 fn words_and_late(alloc: Global, shown: &[u32]) -> Result<Plan, Fail> {
     let mut nodes = Nodes::new(alloc);
     put_words(alloc, &mut nodes, SMALL)?;
-    let conds = alone(alloc, begins_behind(alloc, 9)?)?;
-    put(&mut nodes, Node::Select { input: 2, conds })?;
+    put_late(alloc, &mut nodes)?;
     put(&mut nodes, Node::Union { left: 2, right: 3 })?;
     showing(alloc, nodes, tables_of(alloc)?, shown)
 }
@@ -311,16 +352,19 @@ fn words_and_late(alloc: Global, shown: &[u32]) -> Result<Plan, Fail> {
 #[test]
 fn both_sides_are_given_up_to_their_last_reader(rt: HostRuntime) -> Result<(), Fail> {
     let alloc = rt.alloc();
-    let late = "1:[15-19][20-23]";
-    let both = "1:[1-3][4-7][9-10][15-19][15-19][20-23][20-23]";
-    let table: [(&[u32], String); 2] = [
-        (&[4], format!(in alloc; "2 -\n3 -\n4 {both}\n")?),
-        (&[3, 4], format!(in alloc; "2 -\n3 {late}\n4 {both}\n")?),
+    let table: [(&[u32], &str); 2] = [
+        (
+            &[4],
+            "2 -\n3 -\n4 1:[1-3][4-7][9-10][15-19][15-19][20-23][20-23]\n",
+        ),
+        (
+            &[3, 4],
+            "2 -\n3 1:[15-19][20-23]\n4 1:[1-3][4-7][9-10][15-19][15-19][20-23][20-23]\n",
+        ),
     ];
-    for (shown, want) in &table {
+    for (shown, want) in table {
         let plan = words_and_late(alloc, shown)?;
-        let got = evaluated(alloc, &plan, &[2, 3, 4])?;
-        assert_eq!(rt; got.as_str(), want.as_str(), "{shown:?}");
+        expect_rows(&rt, alloc, &plan, &[2, 3, 4], want, shown)?;
     }
     Ok(())
 }
@@ -329,14 +373,7 @@ fn both_sides_are_given_up_to_their_last_reader(rt: HostRuntime) -> Result<(), F
 fn pairs(alloc: Global, shown: &[u32]) -> Result<Plan, Fail> {
     let mut nodes = Nodes::new(alloc);
     put_words(alloc, &mut nodes, GREAT)?;
-    put(
-        &mut nodes,
-        Node::Cross {
-            left: 2,
-            right: 2,
-            conditional: false,
-        },
-    )?;
+    put_cross(&mut nodes, 2, 2, false)?;
     let follows = of_columns(alloc, Op::Follows { min: 0, max: 9 }, 0, 1)?;
     let conds = alone(alloc, follows)?;
     put(&mut nodes, Node::Select { input: 3, conds })?;
@@ -347,18 +384,20 @@ fn pairs(alloc: Global, shown: &[u32]) -> Result<Plan, Fail> {
 #[test]
 fn pairs_are_kept_where_another_node_reads_them(rt: HostRuntime) -> Result<(), Fail> {
     let alloc = rt.alloc();
-    let all = "[0-3 0-3][0-3 8-10][8-10 0-3][8-10 8-10]";
-    let chosen = "2:[0-3 8-10]";
-    let others = "2:[0-3 0-3][8-10 0-3][8-10 8-10]";
-    let table: [(&[u32], String); 3] = [
-        (&[4], format!(in alloc; "3 -\n4 {chosen}\n5 -\n")?),
-        (&[3, 4], format!(in alloc; "3 2:{all}\n4 {chosen}\n5 -\n")?),
-        (&[4, 5], format!(in alloc; "3 -\n4 {chosen}\n5 {others}\n")?),
+    let table: [(&[u32], &str); 3] = [
+        (&[4], "3 -\n4 2:[0-3 8-10]\n5 -\n"),
+        (
+            &[3, 4],
+            "3 2:[0-3 0-3][0-3 8-10][8-10 0-3][8-10 8-10]\n4 2:[0-3 8-10]\n5 -\n",
+        ),
+        (
+            &[4, 5],
+            "3 -\n4 2:[0-3 8-10]\n5 2:[0-3 0-3][8-10 0-3][8-10 8-10]\n",
+        ),
     ];
-    for (shown, want) in &table {
+    for (shown, want) in table {
         let plan = pairs(alloc, shown)?;
-        let got = evaluated(alloc, &plan, &[3, 4, 5])?;
-        assert_eq!(rt; got.as_str(), want.as_str(), "{shown:?}");
+        expect_rows(&rt, alloc, &plan, &[3, 4, 5], want, shown)?;
     }
     Ok(())
 }
@@ -368,24 +407,8 @@ fn pairs_are_kept_where_another_node_reads_them(rt: HostRuntime) -> Result<(), F
 fn empty_left(alloc: Global) -> Result<Plan, Fail> {
     let mut nodes = Nodes::new(alloc);
     put_words(alloc, &mut nodes, NONE)?;
-    let groups = numbers(alloc, &[0])?;
-    put(
-        &mut nodes,
-        Node::Regex {
-            input: 0,
-            column: 0,
-            pattern: SMALL,
-            groups,
-        },
-    )?;
-    put(
-        &mut nodes,
-        Node::Cross {
-            left: 2,
-            right: 3,
-            conditional: true,
-        },
-    )?;
+    put_matches(alloc, &mut nodes, SMALL, &[0])?;
+    put_cross(&mut nodes, 2, 3, true)?;
     put(
         &mut nodes,
         Node::SpanJoin {
@@ -416,9 +439,14 @@ fn joins_without_a_left_row_have_none_and_leave_their_right_side(
 ) -> Result<(), Fail> {
     let alloc = rt.alloc();
     let plan = empty_left(alloc)?;
-    let got = evaluated(alloc, &plan, &[2, 3, 4, 5, 6])?;
-    assert_eq!(rt; got.as_str(), "2 -\n3 -\n4 3:\n5 3:\n6 3:\n");
-    Ok(())
+    expect_rows(
+        &rt,
+        alloc,
+        &plan,
+        &[2, 3, 4, 5, 6],
+        "2 -\n3 -\n4 3:\n5 3:\n6 3:\n",
+        &[],
+    )
 }
 
 /// A join whose left side, node 2, has no row; its right side is a join too, node 5, of node 3 with node 4.
@@ -426,26 +454,10 @@ fn empty_far_left(alloc: Global, shown: &[u32]) -> Result<Plan, Fail> {
     let mut nodes = Nodes::new(alloc);
     put_words(alloc, &mut nodes, NONE)?;
     for pattern in [SMALL, GREAT] {
-        let groups = numbers(alloc, &[0])?;
-        put(
-            &mut nodes,
-            Node::Regex {
-                input: 0,
-                column: 0,
-                pattern,
-                groups,
-            },
-        )?;
+        put_matches(alloc, &mut nodes, pattern, &[0])?;
     }
     for (left, right) in [(3, 4), (2, 5)] {
-        put(
-            &mut nodes,
-            Node::Cross {
-                left,
-                right,
-                conditional: true,
-            },
-        )?;
+        put_cross(&mut nodes, left, right, true)?;
     }
     showing(alloc, nodes, tables_of(alloc)?, shown)
 }
@@ -453,18 +465,13 @@ fn empty_far_left(alloc: Global, shown: &[u32]) -> Result<Plan, Fail> {
 #[test]
 fn what_waits_for_a_node_that_is_left_out_is_left_out_too(rt: HostRuntime) -> Result<(), Fail> {
     let alloc = rt.alloc();
-    let found = "2:[0-24 0-3][0-24 8-10]";
-    let table: [(&[u32], String); 2] = [
-        (&[6], String::from_str(alloc, "2 -\n3 -\n4 -\n5 -\n6 5:\n")?),
-        (
-            &[4, 6],
-            format!(in alloc; "2 -\n3 -\n4 {found}\n5 -\n6 5:\n")?,
-        ),
+    let table: [(&[u32], &str); 2] = [
+        (&[6], "2 -\n3 -\n4 -\n5 -\n6 5:\n"),
+        (&[4, 6], "2 -\n3 -\n4 2:[0-24 0-3][0-24 8-10]\n5 -\n6 5:\n"),
     ];
-    for (shown, want) in &table {
+    for (shown, want) in table {
         let plan = empty_far_left(alloc, shown)?;
-        let got = evaluated(alloc, &plan, &[2, 3, 4, 5, 6])?;
-        assert_eq!(rt; got.as_str(), want.as_str(), "{shown:?}");
+        expect_rows(&rt, alloc, &plan, &[2, 3, 4, 5, 6], want, shown)?;
     }
     Ok(())
 }

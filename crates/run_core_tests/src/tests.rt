@@ -17,6 +17,7 @@ use run_core::{Board, Event, replay};
 use scalar_ops::{Expr, Exprs, Tables, Tools};
 use span_token::{Document, OutOfMemory, OwnedList, OwnedText};
 use std::alloc::Global;
+use std::process::Abort;
 use std::sync::Arc;
 use std::test::Fail;
 
@@ -148,12 +149,13 @@ fn all_of_doubled<'d>(alloc: Global, doc: &Document<'d>) -> Result<Vec<Happening
 {
     let first = row_once(alloc, doc)?;
     let second = row_twice(alloc, doc)?;
-    let mut events = Vec::new(alloc);
-    events.push((Event::Claim { worker: 0, item: 0 }, None))?;
-    events.push((Event::Publish { worker: 0, item: 0 }, Some(first)))?;
-    events.push((Event::Claim { worker: 1, item: 1 }, None))?;
-    events.push((Event::Publish { worker: 0, item: 1 }, Some(second)))?;
-    events.push((Event::Late { worker: 1, item: 1 }, None))?;
+    let events = vec![in alloc;
+        (Event::Claim { worker: 0, item: 0 }, None),
+        (Event::Publish { worker: 0, item: 0 }, Some(first)),
+        (Event::Claim { worker: 1, item: 1 }, None),
+        (Event::Publish { worker: 0, item: 1 }, Some(second)),
+        (Event::Late { worker: 1, item: 1 }, None),
+    ]?;
     Ok(events)
 }
 
@@ -164,13 +166,14 @@ fn all_of_joined<'d>(alloc: Global, doc: &Document<'d>) -> Result<Vec<Happening<
     let row = row_once(alloc, doc)?;
     let left = row_never(alloc)?;
     let join = row_never(alloc)?;
-    let mut events = Vec::new(alloc);
-    events.push((Event::Claim { worker: 0, item: 0 }, None))?;
-    events.push((Event::Publish { worker: 0, item: 0 }, Some(row)))?;
-    events.push((Event::Claim { worker: 0, item: 1 }, None))?;
-    events.push((Event::Publish { worker: 0, item: 1 }, Some(left)))?;
-    events.push((Event::Claim { worker: 0, item: 3 }, None))?;
-    events.push((Event::Publish { worker: 0, item: 3 }, Some(join)))?;
+    let events = vec![in alloc;
+        (Event::Claim { worker: 0, item: 0 }, None),
+        (Event::Publish { worker: 0, item: 0 }, Some(row)),
+        (Event::Claim { worker: 0, item: 1 }, None),
+        (Event::Publish { worker: 0, item: 1 }, Some(left)),
+        (Event::Claim { worker: 0, item: 3 }, None),
+        (Event::Publish { worker: 0, item: 3 }, Some(join)),
+    ]?;
     Ok(events)
 }
 
@@ -229,13 +232,14 @@ fn all_of_matched<'d>(
     let first = row_once(alloc, doc)?;
     let second = Arc::new(alloc, matches)?;
     let third = Arc::new(alloc, alone)?;
-    let mut events = Vec::new(alloc);
-    events.push((Event::Claim { worker: 0, item: 0 }, None))?;
-    events.push((Event::Publish { worker: 0, item: 0 }, Some(first)))?;
-    events.push((Event::Claim { worker: 1, item: 1 }, None))?;
-    events.push((Event::Publish { worker: 1, item: 1 }, Some(second)))?;
-    events.push((Event::Claim { worker: 0, item: 2 }, None))?;
-    events.push((Event::Publish { worker: 0, item: 2 }, Some(third)))?;
+    let events = vec![in alloc;
+        (Event::Claim { worker: 0, item: 0 }, None),
+        (Event::Publish { worker: 0, item: 0 }, Some(first)),
+        (Event::Claim { worker: 1, item: 1 }, None),
+        (Event::Publish { worker: 1, item: 1 }, Some(second)),
+        (Event::Claim { worker: 0, item: 2 }, None),
+        (Event::Publish { worker: 0, item: 2 }, Some(third)),
+    ]?;
     Ok(events)
 }
 
@@ -327,20 +331,31 @@ fn standings(alloc: Global, board: &Board<'_>, items: u32) -> Result<Vec<Standin
     Ok(all)
 }
 
+/// Checks how each of the first items stands.
+fn expect_standings<R: Abort>(
+    rt: &R,
+    alloc: Global,
+    board: &Board<'_>,
+    items: u32,
+    wanted: &[Standing],
+    case: &str,
+) -> Result<(), OutOfMemory>
+    requires there { items ≤ item_count board.now.plan board.now.docs }
+{
+    let all = standings(alloc, board, items)?;
+    assert_eq!(rt; all.as_slice(), wanted, "{case}");
+    Ok(())
+}
+
 #[test]
 fn items_in_node_order_give_the_output_its_rows(rt: HostRuntime) -> Result<(), Fail> {
     let alloc = rt.alloc();
     let docs = [Document::new(alloc, "ab 1", None)?];
     let plan = doubled(alloc)?;
     let board = doubled_board(alloc, &plan, &docs)?;
-    let all = standings(alloc, &board, 2)?;
     let want: [Standing; 2] = [(Some(0), Some(1)), (Some(1), Some(2))];
-    assert_eq!(rt;
-        all.as_slice(),
-        want.as_slice(),
-        "the second is worker 1's, though 0 helped"
-    );
-    Ok(())
+    let case = "the second is worker 1's, though 0 helped";
+    Ok(expect_standings(&rt, alloc, &board, 2, &want, case)?)
 }
 
 /// The ends of the spans in rows of spans.
@@ -357,6 +372,21 @@ fn ends_of(alloc: Global, rows: &Rows<'_>) -> Result<Vec<(u32, u32)>, Fail> {
     Ok(ends)
 }
 
+/// Checks the ends of the spans in published rows of spans.
+fn expect_ends<R: Abort>(
+    rt: &R,
+    alloc: Global,
+    published: Option<&Rows<'_>>,
+    wanted: &[(u32, u32)],
+) -> Result<(), Fail> {
+    let Some(rows) = published else {
+        return Err(Fail::from("nothing is published"));
+    };
+    let ends = ends_of(alloc, rows)?;
+    assert_eq!(rt; ends.as_slice(), wanted);
+    Ok(())
+}
+
 #[test]
 fn numbers_are_published_in_node_order_by_two_workers(rt: HostRuntime) -> Result<(), Fail> {
     let alloc = rt.alloc();
@@ -364,15 +394,9 @@ fn numbers_are_published_in_node_order_by_two_workers(rt: HostRuntime) -> Result
     let docs = [Document::new(alloc, "x 12 345", None)?];
     let plan = matched(alloc)?;
     let board = matched_board(alloc, &plan, &docs, &items)?;
-    let all = standings(alloc, &board, 3)?;
     let want: [Standing; 3] = [(Some(0), Some(1)), (Some(1), Some(2)), (Some(0), Some(2))];
-    assert_eq!(rt; all.as_slice(), want.as_slice());
-    let Some(rows) = board.published(2) else {
-        return Err(Fail::from("nothing is published"));
-    };
-    let ends = ends_of(alloc, rows)?;
-    assert_eq!(rt; ends.as_slice(), [(2u32, 4u32), (5, 8)].as_slice());
-    Ok(())
+    expect_standings(&rt, alloc, &board, 3, &want, "each item has rows")?;
+    expect_ends(&rt, alloc, board.published(2), &[(2, 4), (5, 8)])
 }
 
 #[test]
@@ -381,11 +405,9 @@ fn right_input_without_a_left_row_takes_no_part(rt: HostRuntime) -> Result<(), F
     let docs = [Document::new(alloc, "ab 1", None)?];
     let plan = joined(alloc)?;
     let start = joined_start(alloc, &plan, &docs)?;
-    let all = standings(alloc, &start, 4)?;
     let want: [Standing; 4] = [(None, None); 4];
-    assert_eq!(rt; all.as_slice(), want.as_slice(), "nothing is done yet");
+    expect_standings(&rt, alloc, &start, 4, &want, "nothing is done yet")?;
     let board = joined_board(alloc, &plan, &docs)?;
-    let all = standings(alloc, &board, 4)?;
     let right: Standing = (None, None);
     let want = [
         (Some(0), Some(1)),
@@ -393,10 +415,6 @@ fn right_input_without_a_left_row_takes_no_part(rt: HostRuntime) -> Result<(), F
         right,
         (Some(0), Some(0)),
     ];
-    assert_eq!(rt;
-        all.as_slice(),
-        want.as_slice(),
-        "the right input takes no part"
-    );
-    Ok(())
+    let case = "the right input takes no part";
+    Ok(expect_standings(&rt, alloc, &board, 4, &want, case)?)
 }

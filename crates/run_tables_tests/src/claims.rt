@@ -2,6 +2,8 @@ ghost use Rattle.std.specs.Prelude.{◌≡◌, ◌<◌, ◌≤◌, All, length, 
 ghost use Rattle.run_tables.specs.Seats.{SitsAt};
 
 use run_tables::{ClaimSeat, Claims};
+use std::alloc::Global;
+use std::process::Abort;
 use std::test::Fail;
 use std::thread::{self, Threads};
 
@@ -28,19 +30,41 @@ fn all_joined(claims: &Claims, mut seats: Vec<ClaimSeat>) -> Option<ClaimSeat>
     Some(all)
 }
 
+/// The words of the table, closed by the seat into which all are joined.
+fn closed(alloc: Global, claims: Claims, seats: Vec<ClaimSeat>) -> Result<Vec<u64>, Fail>
+    requires sit { All (SitsAt claims.table) seats.items }
+    requires all { length seats.items ≡ claims.sizes.seats }
+{
+    let Some(all) = all_joined(&claims, seats) else {
+        return Err(Fail::from("a seat"));
+    };
+    Ok(claims.close(alloc, all)?)
+}
+
+/// Checks a fact.
+pub(crate) fn expect<R: Abort>(rt: &R, fact: bool, what: &str) {
+    assert!(rt; fact, "{what}");
+}
+
 #[test]
 fn an_item_is_won_by_one_of_two_seats(rt: HostRuntime) -> Result<(), Fail> {
     let alloc = rt.alloc();
     let (claims, mut seats) = Claims::new(alloc, 2, 2)?;
-    assert!(rt; claim_by(&claims, &mut seats, 0, 0), "item 0 is free");
-    assert!(rt; !claim_by(&claims, &mut seats, 1, 0), "seat 0 won item 0");
-    assert!(rt; claim_by(&claims, &mut seats, 1, 1), "item 1 is free");
-    assert_eq!(rt; (seats[0].number(), seats[1].number()), (0u32, 1u32));
-    let Some(all) = all_joined(&claims, seats) else {
-        return Err(Fail::from("a seat"));
-    };
-    let words = claims.close(alloc, all)?;
-    assert_eq!(rt; words.as_slice(), [1u64, 2].as_slice());
+    expect(&rt, claim_by(&claims, &mut seats, 0, 0), "item 0 is free");
+    expect(
+        &rt,
+        !claim_by(&claims, &mut seats, 1, 0),
+        "seat 0 won item 0",
+    );
+    expect(&rt, claim_by(&claims, &mut seats, 1, 1), "item 1 is free");
+    expect(&rt, seats[0].number() == 0, "the first seat has number 0");
+    expect(&rt, seats[1].number() == 1, "the second seat has number 1");
+    let words = closed(alloc, claims, seats)?;
+    expect(
+        &rt,
+        words.as_slice() == [1u64, 2].as_slice(),
+        "a word is 1 more than the seat's number",
+    );
     Ok(())
 }
 
@@ -51,10 +75,10 @@ fn an_item_is_taken_once_it_is_won(rt: HostRuntime) -> Result<(), Fail> {
     let Some(mut seat) = seats.pop() else {
         return Err(Fail::from("a seat"));
     };
-    assert!(rt; !claims.taken(&mut seat, 0), "nobody won item 0 yet");
-    assert!(rt; claims.claim(&mut seat, 0), "item 0 is free");
-    assert!(rt; claims.taken(&mut seat, 0), "the seat won item 0");
-    assert!(rt; !claims.taken(&mut seat, 1), "nobody won item 1");
+    expect(&rt, !claims.taken(&mut seat, 0), "nobody won item 0 yet");
+    expect(&rt, claims.claim(&mut seat, 0), "item 0 is free");
+    expect(&rt, claims.taken(&mut seat, 0), "the seat won item 0");
+    expect(&rt, !claims.taken(&mut seat, 1), "nobody won item 1");
     Ok(())
 }
 
@@ -90,14 +114,12 @@ fn each_of_many_items_is_won_by_one_of_four_threads(rt: HostRuntime) -> Result<(
     let alloc = rt.alloc();
     let (claims, mut seats) = Claims::new(alloc, 100_000, 4)?;
     claim_in_threads(&rt, &claims, 100_000, seats.as_mut_slice());
-    let Some(all) = all_joined(&claims, seats) else {
-        return Err(Fail::from("a seat"));
-    };
-    let words = claims.close(alloc, all)?;
-    assert_eq!(rt; words.len(), 100_000usize);
-    assert!(rt;
+    let words = closed(alloc, claims, seats)?;
+    expect(&rt, words.len() == 100_000, "each item has a word");
+    expect(
+        &rt,
         words.iter().all(|word| 1 <= *word && *word <= 4),
-        "each item has one of four winners"
+        "each item has one of four winners",
     );
     Ok(())
 }

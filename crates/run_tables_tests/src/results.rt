@@ -2,6 +2,7 @@ ghost use Rattle.std.specs.Prelude.{◌≡◌, ◌<◌, Some, length, slice_get,
 ghost use Rattle.run_tables.specs.Cells.{Belongs};
 ghost use Rattle.run_tables_tests.specs.Plans.{IsDocumentPlan};
 
+use crate::claims::expect;
 use algebra::{Node, Nodes, Plan, PlanOut};
 use row_values::{Output, Row, Rows, Value};
 use run_tables::{Published, Results, Watch, Work};
@@ -101,10 +102,14 @@ fn a_result_is_published_once(rt: HostRuntime) -> Result<(), Fail> {
     let plan = document_plan(alloc)?;
     let docs = [Document::new(alloc, "one document", None)?];
     let story = publish_twice::<Brand>(alloc, &plan, &docs)?;
-    assert!(rt; story.empty_at_first, "nothing was published yet");
-    assert!(rt; story.published, "the cell was empty");
-    assert!(rt; story.handed_back, "the cell was full");
-    assert_eq!(rt; story.rows.as_slice(), [1u32, 1].as_slice());
+    expect(&rt, story.empty_at_first, "nothing was published yet");
+    expect(&rt, story.published, "the cell was empty");
+    expect(&rt, story.handed_back, "the cell was full");
+    expect(
+        &rt,
+        story.rows.as_slice() == [1u32, 1].as_slice(),
+        "both watches see one row",
+    );
     Ok(())
 }
 
@@ -162,9 +167,7 @@ fn a_result_of_another_thread_is_seen_after_it_was_joined(rt: HostRuntime) -> Re
     let alloc = rt.alloc();
     let plan = document_plan(alloc)?;
     let docs = [Document::new(alloc, "one document", None)?];
-    assert!(rt;
-        publish_beside::<Brand, HostRuntime>(&rt, alloc, &plan, &docs)?,
-        "the result is there"
-    );
+    let there = publish_beside::<Brand, HostRuntime>(&rt, alloc, &plan, &docs)?;
+    expect(&rt, there, "the result is there");
     Ok(())
 }

@@ -1,4 +1,4 @@
-ghost use Rattle.std.specs.Prelude.{◌≡◌, ◌<◌, ◌≤◌, ◌^◌, length, IfOk};
+ghost use Rattle.std.specs.Prelude.{◌≡◌, ◌<◌, ◌^◌, length, IfOk};
 ghost use Rattle.algebra.specs.Items.{item_count};
 ghost use Rattle.worker_pool.specs.Evaluations.{IsEvaluation};
 
@@ -7,11 +7,12 @@ use crate::plans::{joined, numbers};
 use algebra::Plan;
 use span_token::{Document, OutOfMemory};
 use std::alloc::Global;
+use std::process::Abort;
 use std::test::Fail;
 use std::thread::Threads;
 use worker_pool::{Crew, Finished, Gate, Open, evaluate};
 
-/// The plan on the documents, by so many workers.
+/// The plan on the documents, by so many workers, at least one.
 fn evaluated<'d, R: Threads + Sync, G: Gate>(
     rt: &R,
     alloc: Global,
@@ -20,14 +21,13 @@ fn evaluated<'d, R: Threads + Sync, G: Gate>(
     workers: u32,
     gate: &G,
 ) -> Result<Finished<'d>, OutOfMemory>
-    requires some { 1 ≤ workers }
     ensures done { IfOk result (IsEvaluation plan.now docs.now) }
     ensures few { IfOk result (λ _. item_count plan.now docs.now < 2 ^ 32) }
 {
     let Some(items) = docs.len().checked_mul(plan.nodes().len() as usize) else {
         return Err(OutOfMemory);
     };
-    if items >= 1 << 32 {
+    if items >= 1 << 32 || workers == 0 {
         return Err(OutOfMemory);
     }
     let mut crew = Crew::new(alloc, plan, workers)?;
@@ -78,9 +78,7 @@ fn has_rows<'d, R: Threads + Sync>(
     docs: &'d [Document<'d>],
     workers: u32,
     wanted: &[u32],
-) -> Result<bool, OutOfMemory>
-    requires some { 1 ≤ workers }
-{
+) -> Result<bool, OutOfMemory> {
     let finished = evaluated(rt, alloc, plan, docs, workers, &Open)?;
     let found = counts(alloc, finished)?;
     Ok(found.as_slice() == wanted)
@@ -91,52 +89,33 @@ const NUMBERS: [u32; 9] = [3, 0, 0, 1, 2, 1, 2, 0, 4];
 
 const PAIRS: [u32; 9] = [0, 0, 0, 1, 4, 0, 2, 0, 0];
 
-#[test]
-fn every_number_of_workers_gives_the_same_rows(rt: HostRuntime) -> Result<(), Fail> {
-    let alloc = rt.alloc();
-    let plan = numbers(alloc)?;
+/// Checks that the plan's one output has so many rows on each of the texts, by each number of workers.
+fn expect_rows<R: Threads + Sync + Abort>(
+    rt: &R,
+    alloc: Global,
+    plan: &Plan,
+    wanted: &[u32],
+) -> Result<(), OutOfMemory> {
     let docs = documents(alloc, &TEXTS)?;
-    assert!(rt;
-        has_rows(&rt, alloc, &plan, docs.as_slice(), 1, &NUMBERS)?,
-        "by one"
-    );
-    assert!(rt;
-        has_rows(&rt, alloc, &plan, docs.as_slice(), 2, &NUMBERS)?,
-        "by two"
-    );
-    assert!(rt;
-        has_rows(&rt, alloc, &plan, docs.as_slice(), 4, &NUMBERS)?,
-        "by four"
-    );
-    assert!(rt;
-        has_rows(&rt, alloc, &plan, docs.as_slice(), 16, &NUMBERS)?,
-        "by sixteen"
-    );
+    for workers in [1u32, 2, 4, 16] {
+        assert!(rt;
+            has_rows(rt, alloc, plan, docs.as_slice(), workers, wanted)?,
+            "by {workers}"
+        );
+    }
     Ok(())
 }
 
 #[test]
+fn every_number_of_workers_gives_the_same_rows(rt: HostRuntime) -> Result<(), Fail> {
+    let plan = numbers(rt.alloc())?;
+    Ok(expect_rows(&rt, rt.alloc(), &plan, &NUMBERS)?)
+}
+
+#[test]
 fn every_number_of_workers_gives_the_same_pairs(rt: HostRuntime) -> Result<(), Fail> {
-    let alloc = rt.alloc();
-    let plan = joined(alloc)?;
-    let docs = documents(alloc, &TEXTS)?;
-    assert!(rt;
-        has_rows(&rt, alloc, &plan, docs.as_slice(), 1, &PAIRS)?,
-        "by one"
-    );
-    assert!(rt;
-        has_rows(&rt, alloc, &plan, docs.as_slice(), 2, &PAIRS)?,
-        "by two"
-    );
-    assert!(rt;
-        has_rows(&rt, alloc, &plan, docs.as_slice(), 4, &PAIRS)?,
-        "by four"
-    );
-    assert!(rt;
-        has_rows(&rt, alloc, &plan, docs.as_slice(), 16, &PAIRS)?,
-        "by sixteen"
-    );
-    Ok(())
+    let plan = joined(rt.alloc())?;
+    Ok(expect_rows(&rt, rt.alloc(), &plan, &PAIRS)?)
 }
 
 /// Who claimed the item, on the board.
