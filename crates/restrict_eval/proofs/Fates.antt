@@ -135,18 +135,18 @@ module _ (nodes : List Node) where
           cc
 
   -- others than the only dictionary in the document
-  pub other_part : (base input number : ℕ) (node : Node) → slice_get nodes base ≡ Some (DictPart input number) → slice_get nodes input ≡ Some node
-      → ((source c d : ℕ) → node ≡ Dict source c (d ∷ []) → number ≡ 0 → slice_get nodes source ≡ Some Doc → ⊥) → HasFound nodes base → ⊥
-  other_part base input number node is is_node other found = by found.part found.finds
+  pub other_part : (base input part_number : ℕ) (node : Node) → slice_get nodes base ≡ Some (DictPart input part_number) → slice_get nodes input ≡ Some node
+      → ((source c d : ℕ) → node ≡ Dict source c (d ∷ []) → part_number ≡ 0 → slice_get nodes source ≡ Some Doc → ⊥) → HasFound nodes base → ⊥
+  other_part base input part_number node is is_node other found = by found.part found.finds
     where
       by : (part : Local) → Finds nodes base found.source part → ⊥
       by (sought.TokenRegex low high pattern) finds =
-          let same : DictPart input number ≡ TokenRegex found.source finds.0 low high pattern (0 ∷ []) = same_Some _ _ (sym is ∙ finds.1) in
+          let same : DictPart input part_number ≡ TokenRegex found.source finds.0 low high pattern (0 ∷ []) = same_Some _ _ (sym is ∙ finds.1) in
           cc
       by (sought.Dict d) finds =
-          let same : DictPart input number ≡ DictPart finds.0 0 = same_Some _ _ (sym is ∙ finds.2) in
+          let same : DictPart input part_number ≡ DictPart finds.0 0 = same_Some _ _ (sym is ∙ finds.2) in
           let input_is : input ≡ finds.0 = cc in
-          let number_is : number ≡ 0 = cc in
+          let number_is : part_number ≡ 0 = cc in
           other found.source finds.1 d (same_Some node (Dict found.source finds.1 (d ∷ [])) (sym is_node ∙ (ap (slice_get nodes) input_is ∙ finds.3))) number_is found.document
 
   -- ---- what is found
