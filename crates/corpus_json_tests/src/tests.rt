@@ -4,7 +4,7 @@ ghost use Rattle.row_values.specs.Rows.{RowsLieIn};
 
 use corpus_json::{Input, Layout, NotDocument, append_document, read_document, write_document};
 use row_values::{Output, Row, Rows, Value, has_distinct_names};
-use span_token::{Document, Failure, OutOfMemory, OwnedList, OwnedText, Span};
+use span_token::{Document, Failure, OutOfMemory, OwnedList, OwnedText, Span, TEXT_LIMIT};
 use std::alloc::Global;
 use std::process::Abort;
 use std::test::Fail;
@@ -200,6 +200,7 @@ fn expect_line<R: Abort>(
     values: &[Value<'_>],
     wanted: &str,
 ) -> Result<(), Fail> {
+    assert!(rt; text.len() <= TEXT_LIMIT);
     let document = Document::new(alloc, text, label)?;
     let outputs = [output_of_one(alloc, "P", "num")?];
     let rows = rows_of_one(alloc, values)?;
