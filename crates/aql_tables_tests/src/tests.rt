@@ -5,7 +5,6 @@ use aql_parser::{MAX_NESTING, measure, parse};
 use aql_regex_extract::PatternFault;
 use aql_tables::{ProgramTables, collect, is_dictionary};
 use std::alloc::Global;
-use std::process::Abort;
 use std::test::Fail;
 use view_graph::{Graph, resolve};
 
@@ -71,50 +70,30 @@ fn tables_of(alloc: Global) -> Result<ProgramTables, Fail> {
     Ok(tables)
 }
 
-/// Asks for a number of a text.
-fn is_number(rt: &impl Abort, got: u32, want: u32, text: &str) {
-    assert_eq!(rt; got, want, "{text}");
-}
-
-/// Asks for the groups of a pattern.
-fn has_groups(
-    rt: &impl Abort,
-    alloc: Global,
-    tables: &ProgramTables,
-    text: &str,
-    want: u32,
-) -> Result<(), Fail> {
-    let groups = tables.group_count(alloc, text)?;
-    is_number(rt, groups, want, text);
-    Ok(())
-}
-
 #[test]
 fn a_pattern_has_the_number_of_its_first_mention_and_its_groups(
     rt: HostRuntime,
 ) -> Result<(), Fail> {
-    let tables = tables_of(rt.alloc())?;
+    let alloc = rt.alloc();
+    let tables = tables_of(alloc)?;
     for (text, number, groups) in PATTERNS {
-        is_number(&rt, tables.pattern_number(text), number, text);
-        has_groups(&rt, rt.alloc(), &tables, text, groups)?;
+        assert_eq!(rt; tables.pattern_number(text), number, "{text}");
+        assert_eq!(rt; tables.group_count(alloc, text)?, groups, "{text}");
     }
     Ok(())
 }
 
-/// Texts with their faults as patterns.
-const FAULTS: [(&str, Option<PatternFault>); 4] = [
-    ("x", None),
-    ("w", None),
-    ("(", Some(PatternFault::Bad)),
-    ("[", Some(PatternFault::Bad)),
-];
-
 #[test]
 fn a_text_that_is_no_pattern_has_its_fault(rt: HostRuntime) -> Result<(), Fail> {
-    let tables = tables_of(rt.alloc())?;
-    for (text, want) in FAULTS {
-        let fault = tables.pattern_fault(rt.alloc(), text)?;
-        assert!(rt; fault == want, "{text}");
+    let alloc = rt.alloc();
+    let tables = tables_of(alloc)?;
+    for (text, want) in [
+        ("x", None),
+        ("w", None),
+        ("(", Some(PatternFault::Bad)),
+        ("[", Some(PatternFault::Bad)),
+    ] {
+        assert_eq!(rt; tables.pattern_fault(alloc, text)?, want, "{text}");
     }
     Ok(())
 }
@@ -123,7 +102,7 @@ fn a_text_that_is_no_pattern_has_its_fault(rt: HostRuntime) -> Result<(), Fail> 
 fn a_dictionary_has_a_number_for_each_way_it_is_compared(rt: HostRuntime) -> Result<(), Fail> {
     let tables = tables_of(rt.alloc())?;
     for (name, exact, number) in DICTIONARIES {
-        is_number(&rt, tables.dict_number(name, exact), number, name);
+        assert_eq!(rt; tables.dict_number(name, exact), number, "{name} {exact}");
     }
     Ok(())
 }
@@ -132,7 +111,7 @@ fn a_dictionary_has_a_number_for_each_way_it_is_compared(rt: HostRuntime) -> Res
 fn names_of_dictionaries_are_known(rt: HostRuntime) -> Result<(), Fail> {
     let graph = graph_of(rt.alloc())?;
     for (name, want) in [("D", true), ("E", true), ("V", false), ("d", false)] {
-        assert!(rt; is_dictionary(&graph, name) == want, "{name}");
+        assert_eq!(rt; is_dictionary(&graph, name), want, "{name}");
     }
     Ok(())
 }

@@ -5,7 +5,6 @@ use aqlx_top::{ProgramFault, plan_program};
 use plan_maker::plan_text;
 use span_token::Failure;
 use std::alloc::Global;
-use std::process::Abort;
 use std::test::Fail;
 
 /// Each row: a text, and what it comes to. Of several faults the first is told: tokens come before the number
@@ -77,23 +76,12 @@ fn repeated(alloc: Global, part: &str, count: usize) -> Result<String, Fail> {
     Ok(text)
 }
 
-/// Asks what a text comes to.
-fn comes_to(
-    rt: &impl Abort,
-    alloc: Global,
-    text: &str,
-    want: &str,
-    part: &str,
-) -> Result<(), Fail> {
-    let got = came_to(alloc, text)?;
-    assert_eq!(rt; got.as_str(), want, "of {part}");
-    Ok(())
-}
-
 #[test]
 fn a_text_has_its_plan_or_its_first_fault(rt: HostRuntime) -> Result<(), Fail> {
+    let alloc = rt.alloc();
     for (text, want) in &TOLD {
-        comes_to(&rt, rt.alloc(), text, want, text)?;
+        let got = came_to(alloc, text)?;
+        assert_eq!(rt; got.as_str(), *want, "of {text}");
     }
     Ok(())
 }
@@ -110,9 +98,11 @@ static SIZES: [(&str, usize, &str); 6] = [
 
 #[test]
 fn a_text_past_a_limit_is_refused_for_it(rt: HostRuntime) -> Result<(), Fail> {
+    let alloc = rt.alloc();
     for (part, count, want) in &SIZES {
-        let text = repeated(rt.alloc(), part, *count)?;
-        comes_to(&rt, rt.alloc(), text.as_str(), want, part)?;
+        let text = repeated(alloc, part, *count)?;
+        let got = came_to(alloc, text.as_str())?;
+        assert_eq!(rt; got.as_str(), *want, "of {count} times {part}");
     }
     Ok(())
 }

@@ -1,11 +1,8 @@
 //! Plans without equal or unread nodes, by their texts.
 
 use crate::programs::typed;
-use algebra::Plan;
 use plan_maker::{lower, plan_text};
 use share_plan::{prune, share};
-use std::alloc::Global;
-use std::process::Abort;
 use std::test::Fail;
 
 /// Programs and their plans: two dictionaries on the document's text are one node, and a view that is written
@@ -81,59 +78,27 @@ out Short 8
     ),
 ];
 
-/// The plan of a program, lowered.
-fn lowered(alloc: Global, program: &str) -> Result<Plan, Fail> {
-    let typed = typed(alloc, program)?;
-    Ok(lower(alloc, typed)?)
-}
-
-/// Asks for the text of a plan.
-fn has_text(
-    rt: &impl Abort,
-    alloc: Global,
-    plan: Plan,
-    want: &str,
-    program: &str,
-) -> Result<(), Fail> {
-    let got = plan_text(alloc, &plan)?;
-    assert_eq!(rt; got.as_str(), want, "of {program}");
-    Ok(())
-}
-
-/// The plan of a program, shared.
-fn shared(alloc: Global, program: &str) -> Result<Plan, Fail> {
-    let plan = lowered(alloc, program)?;
-    Ok(share(alloc, plan)?)
-}
-
-/// The plan of a program, shared once and again.
-fn shared_again(alloc: Global, program: &str) -> Result<Plan, Fail> {
-    let plan = shared(alloc, program)?;
-    Ok(share(alloc, plan)?)
-}
-
 #[test]
 fn plans_do_nothing_twice(rt: HostRuntime) -> Result<(), Fail> {
+    let alloc = rt.alloc();
     for (program, want) in &PLANS {
-        let plan = shared(rt.alloc(), program)?;
-        has_text(&rt, rt.alloc(), plan, want, program)?;
+        let plan = share(alloc, lower(alloc, typed(alloc, program)?)?)?;
+        let got = plan_text(alloc, &plan)?;
+        assert_eq!(rt; got.as_str(), *want, "of {program}");
     }
     Ok(())
 }
 
 #[test]
 fn a_plan_that_was_shared_stays_as_it_is(rt: HostRuntime) -> Result<(), Fail> {
+    let alloc = rt.alloc();
     for (program, want) in &PLANS {
-        let plan = shared_again(rt.alloc(), program)?;
-        has_text(&rt, rt.alloc(), plan, want, program)?;
+        let plan = share(alloc, lower(alloc, typed(alloc, program)?)?)?;
+        let again = share(alloc, plan)?;
+        let got = plan_text(alloc, &again)?;
+        assert_eq!(rt; got.as_str(), *want, "of {program}");
     }
     Ok(())
-}
-
-/// The plan of a program, lowered and without the nodes that nobody reads.
-fn pruned(alloc: Global, program: &str) -> Result<Plan, Fail> {
-    let plan = lowered(alloc, program)?;
-    Ok(prune(alloc, plan)?)
 }
 
 /// A program with views that no output needs: one that reads others and two that it reads, of which an
@@ -144,19 +109,20 @@ const UNREAD: &str = "create view A as extract regex /a/ on d.text as x from Doc
      create view C as extract regex /c/ on b.y as z from B b;
      output view C;";
 
-/// The plan of what its output needs.
-const READ_PLAN: &str = "0 Doc
+#[test]
+fn what_nobody_reads_is_dropped(rt: HostRuntime) -> Result<(), Fail> {
+    let alloc = rt.alloc();
+    let plan = prune(alloc, lower(alloc, typed(alloc, UNREAD)?)?)?;
+    let got = plan_text(alloc, &plan)?;
+    let want = "0 Doc
 1 Regex 0
 2 Project 1
 3 Regex 2
 4 Project 3
 out C 4
 ";
-
-#[test]
-fn what_nobody_reads_is_dropped(rt: HostRuntime) -> Result<(), Fail> {
-    let plan = pruned(rt.alloc(), UNREAD)?;
-    has_text(&rt, rt.alloc(), plan, READ_PLAN, UNREAD)
+    assert_eq!(rt; got.as_str(), want);
+    Ok(())
 }
 
 /// A program of three views, of which two are joined first and then with the third.
@@ -167,8 +133,12 @@ const LATE: &str = "create view A as extract regex /a/ on d.text as x from Docum
      create view Trio as select p.x, c.z from Pair p, C c;
      output view Trio;";
 
-/// Its lowered plan.
-const LATE_LOWERED: &str = "0 Doc
+#[test]
+fn what_a_right_side_needs_stands_behind_the_left_one(rt: HostRuntime) -> Result<(), Fail> {
+    let alloc = rt.alloc();
+    let lowered = lower(alloc, typed(alloc, LATE)?)?;
+    let got = plan_text(alloc, &lowered)?;
+    let want = "0 Doc
 1 Regex 0
 2 Project 1
 3 Regex 0
@@ -181,9 +151,9 @@ const LATE_LOWERED: &str = "0 Doc
 10 Project 9
 out Trio 10
 ";
-
-/// Its plan when the right sides stand where they are needed.
-const LATE_PRUNED: &str = "0 Doc
+    assert_eq!(rt; got.as_str(), want);
+    let got = plan_text(alloc, &prune(alloc, lowered)?)?;
+    let want = "0 Doc
 1 Regex 0
 2 Project 1
 3 Regex 0
@@ -196,11 +166,6 @@ const LATE_PRUNED: &str = "0 Doc
 10 Project 9
 out Trio 10
 ";
-
-#[test]
-fn what_a_right_side_needs_stands_behind_the_left_one(rt: HostRuntime) -> Result<(), Fail> {
-    let plan = lowered(rt.alloc(), LATE)?;
-    has_text(&rt, rt.alloc(), plan, LATE_LOWERED, LATE)?;
-    let plan = pruned(rt.alloc(), LATE)?;
-    has_text(&rt, rt.alloc(), plan, LATE_PRUNED, LATE)
+    assert_eq!(rt; got.as_str(), want);
+    Ok(())
 }

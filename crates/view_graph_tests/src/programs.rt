@@ -9,7 +9,6 @@ use aql_parser::{MAX_NESTING, measure, parse};
 use aql_syntax::Statement;
 use span_token::Failure;
 use std::alloc::Global;
-use std::fmt;
 use std::test::Fail;
 use view_graph::{Graph, NameFault, NamedView, resolve};
 
@@ -40,16 +39,8 @@ fn parsed(alloc: Global, text: &str) -> Result<Vec<Statement>, Fail>
     }
 }
 
-/// The graph of a program without a fault.
-pub(crate) fn graph_of(alloc: Global, text: &str) -> Result<Graph, Fail> {
-    match resolved(alloc, text)? {
-        Ok(graph) => Ok(graph),
-        Err(_) => Err(Fail::from("no fault")),
-    }
-}
-
 /// The graph of a program, or its fault.
-fn resolved(alloc: Global, text: &str) -> Result<Result<Graph, NameFault>, Fail> {
+pub(crate) fn resolved(alloc: Global, text: &str) -> Result<Result<Graph, NameFault>, Fail> {
     match resolve(alloc, parsed(alloc, text)?) {
         Ok(graph) => Ok(Ok(graph)),
         Err(Failure::Fault(fault)) => Ok(Err(fault)),
@@ -57,105 +48,57 @@ fn resolved(alloc: Global, text: &str) -> Result<Result<Graph, NameFault>, Fail>
     }
 }
 
-/// The order of the views of a program, or its fault.
-pub(crate) fn shown(alloc: Global, text: &str) -> Result<String, Fail> {
-    match resolved(alloc, text)? {
-        Ok(graph) => order_shown(alloc, graph.order()),
-        Err(fault) => fault_shown(alloc, &fault),
+/// The numbers of the views, in their order.
+pub(crate) fn order_shown(alloc: Global, graph: &Graph) -> Result<String, Fail> {
+    let mut all = String::from_str(alloc, "order")?;
+    for number in graph.order() {
+        let number = format!(in alloc; " {number}")?;
+        all.push_str(number.as_str())?;
     }
+    Ok(all)
 }
 
-fn order_shown(alloc: Global, order: &[u32]) -> Result<String, Fail> {
-    Ok(format!(in alloc; "{}", Order { order })?)
-}
-
-fn fault_shown(alloc: Global, fault: &NameFault) -> Result<String, Fail> {
-    Ok(format!(in alloc; "{}", Fault { fault })?)
+/// The fault with its statement and its name, or the views of the cycle.
+pub(crate) fn fault_shown(alloc: Global, fault: &NameFault) -> Result<String, Fail> {
+    Ok(match fault {
+        NameFault::DuplicateName { statement, name } => {
+            format!(in alloc; "{statement}: {} again", name.as_str())?
+        }
+        NameFault::UnknownView { statement, name } => {
+            format!(in alloc; "{statement}: no view {}", name.as_str())?
+        }
+        NameFault::UnknownDictionary { statement, name } => {
+            format!(in alloc; "{statement}: no dictionary {}", name.as_str())?
+        }
+        NameFault::DuplicateOutput { statement, name } => {
+            format!(in alloc; "{statement}: output {} again", name.as_str())?
+        }
+        NameFault::Cycle { views } => {
+            let mut all = String::from_str(alloc, "cycle")?;
+            for view in views.as_slice() {
+                all.push_str(" ")?;
+                all.push_str(view.as_str())?;
+            }
+            all
+        }
+    })
 }
 
 /// What a view's name stands for.
 pub(crate) fn view_shown(alloc: Global, found: Option<NamedView>) -> Result<String, Fail> {
-    Ok(format!(in alloc; "{}", FoundView { found })?)
+    Ok(match found {
+        None => String::from_str(alloc, "nothing")?,
+        Some(NamedView::Document) => String::from_str(alloc, "the document")?,
+        Some(NamedView::View { number, index }) => {
+            format!(in alloc; "statement {number}, at {index}")?
+        }
+    })
 }
 
 /// What a dictionary's name stands for.
 pub(crate) fn dictionary_shown(alloc: Global, found: Option<u32>) -> Result<String, Fail> {
-    Ok(format!(in alloc; "{}", FoundDictionary { found })?)
-}
-
-/// The numbers of the views, in their order.
-#[derive(Drop)]
-struct Order<'g> {
-    order: &'g [u32],
-}
-
-impl fmt::Display for Order<'_> {
-    fn fmt<W: fmt::Write>(&self, f: &mut fmt::Formatter<W>) -> fmt::Result {
-        write!(f, "order")?;
-        for number in self.order {
-            write!(f, " {number}")?;
-        }
-        Ok(())
-    }
-}
-
-/// A fault with its statement and its name, or the views of the cycle.
-#[derive(Drop)]
-struct Fault<'f> {
-    fault: &'f NameFault,
-}
-
-impl fmt::Display for Fault<'_> {
-    fn fmt<W: fmt::Write>(&self, f: &mut fmt::Formatter<W>) -> fmt::Result {
-        match self.fault {
-            NameFault::DuplicateName { statement, name } => {
-                write!(f, "{statement}: {} again", name.as_str())
-            }
-            NameFault::UnknownView { statement, name } => {
-                write!(f, "{statement}: no view {}", name.as_str())
-            }
-            NameFault::UnknownDictionary { statement, name } => {
-                write!(f, "{statement}: no dictionary {}", name.as_str())
-            }
-            NameFault::DuplicateOutput { statement, name } => {
-                write!(f, "{statement}: output {} again", name.as_str())
-            }
-            NameFault::Cycle { views } => {
-                write!(f, "cycle")?;
-                for view in views.as_slice() {
-                    write!(f, " {}", view.as_str())?;
-                }
-                Ok(())
-            }
-        }
-    }
-}
-
-#[derive(Drop)]
-struct FoundView {
-    found: Option<NamedView>,
-}
-
-impl fmt::Display for FoundView {
-    fn fmt<W: fmt::Write>(&self, f: &mut fmt::Formatter<W>) -> fmt::Result {
-        match self.found {
-            None => write!(f, "nothing"),
-            Some(NamedView::Document) => write!(f, "the document"),
-            Some(NamedView::View { number, index }) => write!(f, "statement {number}, at {index}"),
-        }
-    }
-}
-
-#[derive(Drop)]
-struct FoundDictionary {
-    found: Option<u32>,
-}
-
-impl fmt::Display for FoundDictionary {
-    fn fmt<W: fmt::Write>(&self, f: &mut fmt::Formatter<W>) -> fmt::Result {
-        match self.found {
-            None => write!(f, "nothing"),
-            Some(number) => write!(f, "statement {number}"),
-        }
-    }
+    Ok(match found {
+        None => String::from_str(alloc, "nothing")?,
+        Some(number) => format!(in alloc; "statement {number}")?,
+    })
 }

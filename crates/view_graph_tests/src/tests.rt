@@ -1,8 +1,7 @@
-use crate::programs::{dictionary_shown, graph_of, shown, view_shown};
+use crate::programs::{dictionary_shown, fault_shown, order_shown, resolved, view_shown};
 use std::alloc::Global;
 use std::process::Abort;
 use std::test::Fail;
-use view_graph::Graph;
 
 /// Programs without a fault, with the order of their views.
 static ORDERS: [(&str, &str); 7] = [
@@ -104,15 +103,13 @@ static FAULTS: [(&str, &str); 15] = [
     ),
 ];
 
-/// Asks for a text.
-fn is_text(rt: &impl Abort, got: &str, want: &str) {
-    assert_eq!(rt; got, want);
-}
-
 fn check(rt: &impl Abort, alloc: Global, table: &[(&str, &str)]) -> Result<(), Fail> {
     for (text, want) in table {
-        let got = shown(alloc, text)?;
-        is_text(rt, got.as_str(), want);
+        let got = match resolved(alloc, text)? {
+            Ok(graph) => order_shown(alloc, &graph)?,
+            Err(fault) => fault_shown(alloc, &fault)?,
+        };
+        assert_eq!(rt; got.as_str(), *want);
     }
     Ok(())
 }
@@ -132,96 +129,58 @@ fn the_first_fault_of_the_rounds_is_named(rt: HostRuntime) -> Result<(), Fail> {
     check(&rt, rt.alloc(), &FAULTS)
 }
 
-/// A view and a dictionary of one name, and others.
-const NAMES: &str =
-    "create view Q as select 1 as a from P; create dictionary D as ('a'); create view P as select 1 as a from Document; create dictionary P as ('b');";
-
-/// Names, and what they stand for as that of a view and as that of a dictionary.
-static FOUND: [(&str, &str, &str); 6] = [
-    ("Q", "statement 1, at 1", "nothing"),
-    ("P", "statement 3, at 0", "statement 4"),
-    ("D", "nothing", "statement 2"),
-    ("Document", "the document", "nothing"),
-    ("q", "nothing", "nothing"),
-    ("", "nothing", "nothing"),
-];
-
-/// Asks for the view of a name.
-fn has_view(
-    rt: &impl Abort,
-    alloc: Global,
-    graph: &Graph,
-    name: &str,
-    want: &str,
-) -> Result<(), Fail> {
-    let found = view_shown(alloc, graph.view(name))?;
-    is_text(rt, found.as_str(), want);
-    Ok(())
-}
-
-/// Asks for the dictionary of a name.
-fn has_dictionary(
-    rt: &impl Abort,
-    alloc: Global,
-    graph: &Graph,
-    name: &str,
-    want: &str,
-) -> Result<(), Fail> {
-    let found = dictionary_shown(alloc, graph.dictionary(name))?;
-    is_text(rt, found.as_str(), want);
-    Ok(())
-}
-
 #[test]
 fn a_name_is_found_among_views_or_dictionaries(rt: HostRuntime) -> Result<(), Fail> {
-    let graph = graph_of(rt.alloc(), NAMES)?;
-    assert!(rt; graph.statements().len() == 4);
-    for (name, view, dictionary) in &FOUND {
-        has_view(&rt, rt.alloc(), &graph, name, view)?;
-        has_dictionary(&rt, rt.alloc(), &graph, name, dictionary)?;
+    let alloc = rt.alloc();
+    let text =
+        "create view Q as select 1 as a from P; create dictionary D as ('a'); create view P as select 1 as a from Document; create dictionary P as ('b');";
+    let graph = match resolved(alloc, text)? {
+        Ok(graph) => graph,
+        Err(_) => return Err(Fail::from("no fault")),
+    };
+    assert_eq!(rt; graph.statements().len(), 4);
+    for (name, view, dictionary) in [
+        ("Q", "statement 1, at 1", "nothing"),
+        ("P", "statement 3, at 0", "statement 4"),
+        ("D", "nothing", "statement 2"),
+        ("Document", "the document", "nothing"),
+        ("q", "nothing", "nothing"),
+        ("", "nothing", "nothing"),
+    ] {
+        let found = view_shown(alloc, graph.view(name))?;
+        assert_eq!(rt; found.as_str(), view);
+        let found = dictionary_shown(alloc, graph.dictionary(name))?;
+        assert_eq!(rt; found.as_str(), dictionary);
     }
     Ok(())
 }
 
-/// Puts a view over another one after the others.
-fn add(text: &mut String, alloc: Global, number: u32, below: u32) -> Result<(), Fail> {
-    let line = format!(in alloc; "create view V{number} as select 1 as a from V{below}; ")?;
-    text.push_str(line.as_str())?;
-    Ok(())
-}
-
-/// The text of `count` views, each over the one after it, or all over view `count`.
-fn views_over(alloc: Global, count: u32, chained: bool) -> Result<String, Fail> {
+/// The order of `count` views and one more, each over the one after it, or all over the last.
+fn long(alloc: Global, count: u32, chained: bool) -> Result<Vec<u32>, Fail> {
     let mut text = String::new(alloc);
-    for number in 0..count {
-        let below = if chained { number + 1 } else { count };
-        add(&mut text, alloc, number, below)?;
+    for i in 0..count {
+        let below = if chained { i + 1 } else { count };
+        let line = format!(in alloc; "create view V{i} as select 1 as a from V{below}; ")?;
+        text.push_str(line.as_str())?;
     }
-    Ok(text)
-}
-
-/// The graph of `count` views and one more, each over the one after it, or all over the last.
-fn long(alloc: Global, count: u32, chained: bool) -> Result<Graph, Fail> {
-    let views = views_over(alloc, count, chained)?;
-    let text = format!(in alloc; "{views}create view V{count} as select 1 as a from Document;")?;
-    graph_of(alloc, text.as_str())
-}
-
-/// Asks for the number at a place of an order from 0, None where it has ended.
-fn is_at(rt: &impl Abort, order: &[u32], at: usize, want: Option<u32>) {
-    assert_eq!(rt; order.get(at).copied(), want);
+    let line = format!(in alloc; "create view V{count} as select 1 as a from Document;")?;
+    text.push_str(line.as_str())?;
+    match resolved(alloc, text.as_str())? {
+        Ok(graph) => Ok(graph.order().to_vec(alloc)?),
+        Err(_) => Err(Fail::from("no fault")),
+    }
 }
 
 #[test]
 fn a_long_chain_and_many_views_over_one_are_ordered(rt: HostRuntime) -> Result<(), Fail> {
     let chain = long(rt.alloc(), 2_000, true)?;
-    is_at(&rt, chain.order(), 0, Some(2_001));
-    is_at(&rt, chain.order(), 2_000, Some(1));
-    is_at(&rt, chain.order(), 2_001, None);
+    assert_eq!(rt; chain.len(), 2_001);
+    assert_eq!(rt; chain.first(), Some(&2_001));
+    assert_eq!(rt; chain.last(), Some(&1));
     let star = long(rt.alloc(), 2_000, false)?;
-    is_at(&rt, star.order(), 0, Some(2_001));
-    is_at(&rt, star.order(), 1, Some(1));
-    is_at(&rt, star.order(), 2_000, Some(2_000));
-    is_at(&rt, star.order(), 2_001, None);
+    assert_eq!(rt; star.len(), 2_001);
+    assert_eq!(rt; star.first(), Some(&2_001));
+    assert_eq!(rt; star.get(1), Some(&1));
+    assert_eq!(rt; star.last(), Some(&2_000));
     Ok(())
 }
