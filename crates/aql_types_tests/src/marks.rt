@@ -28,17 +28,6 @@ pub(crate) fn has_faults(
     Ok(())
 }
 
-/// Asks for a text.
-pub(crate) fn is_text(rt: &impl Abort, got: &str, want: &str, case: &str) {
-    assert_eq!(rt; got, want, "of {case}");
-}
-
-/// The fault of the program of two parts of a text.
-fn fault_of(alloc: Global, before: &str, after: &str) -> Result<String, Fail> {
-    let text = format!(in alloc; "{before}{after}")?;
-    fault(alloc, text.as_str())
-}
-
 /// Asks for the fault of a program: the statement and the byte before which `^` stands, and the rule.
 pub(crate) fn has_fault(
     rt: &impl Abort,
@@ -49,9 +38,10 @@ pub(crate) fn has_fault(
     let Some((before, after)) = marked.split_once('^') else {
         return Err(Fail::from("a program of the table has a mark"));
     };
-    let got = fault_of(alloc, before, after)?;
     let statement = before.split(';').count();
     let want = told(alloc, statement, before.len(), rule)?;
-    is_text(rt, got.as_str(), want.as_str(), marked);
+    let text = format!(in alloc; "{before}{after}")?;
+    let got = fault(alloc, text.as_str())?;
+    assert_eq!(rt; got.as_str(), want.as_str(), "of {marked}");
     Ok(())
 }

@@ -11,7 +11,6 @@ use aql_typed::Typed;
 use aql_types::{TypeFault, TypeRule, check};
 use span_token::{Failure, OutOfMemory};
 use std::alloc::Global;
-use std::fmt;
 use std::test::Fail;
 use view_graph::{Graph, resolve};
 
@@ -77,8 +76,8 @@ fn shown(alloc: Global, toks: &[Tok], fault: &TypeFault) -> Result<String, OutOf
         Some(tok) => tok.begin as usize,
         None => usize::MAX,
     };
-    let rule = ToldRule { rule: &fault.rule };
-    Ok(format!(in alloc; "{}, {begin}: {rule}", fault.statement)?)
+    let rule = rule_shown(alloc, &fault.rule)?;
+    told(alloc, fault.statement as usize, begin, rule.as_str())
 }
 
 /// A statement, a byte and a rule as one text.
@@ -88,35 +87,32 @@ pub(crate) fn told(
     byte: usize,
     rule: &str,
 ) -> Result<String, OutOfMemory> {
-    Ok(format!(in alloc; "{statement}, {byte}: {rule}")?)
+    let first = format!(in alloc; "{statement}, {byte}")?;
+    Ok(format!(in alloc; "{first}: {rule}")?)
 }
 
-/// A rule, as it is told.
-#[derive(Drop)]
-struct ToldRule<'f> {
-    rule: &'f TypeRule,
-}
-
-impl fmt::Display for ToldRule<'_> {
-    fn fmt<W: fmt::Write>(&self, f: &mut fmt::Formatter<W>) -> fmt::Result {
-        match self.rule {
-            TypeRule::UnknownAlias(name) => write!(f, "no alias {}", name.as_str()),
-            TypeRule::UnknownColumn(name) => write!(f, "no column {}", name.as_str()),
-            TypeRule::DuplicateAlias(name) => write!(f, "alias {} again", name.as_str()),
-            TypeRule::DuplicateColumn(name) => write!(f, "column {} again", name.as_str()),
-            TypeRule::UnknownFunction(name) => write!(f, "no function {}", name.as_str()),
-            TypeRule::WrongArgument { wanted, found } => {
-                write!(f, "wanted {wanted:?}, found {found:?}")
-            }
-            TypeRule::SchemaMismatch => write!(f, "schemas differ"),
-            TypeRule::NotGrouped => write!(f, "not grouped"),
-            TypeRule::BadRange { low, high } => write!(f, "range {low} to {high}"),
-            TypeRule::UnknownPolicy(name) => write!(f, "no policy {}", name.as_str()),
-            TypeRule::BadPattern => write!(f, "bad pattern"),
-            TypeRule::PatternLarge { bytes, weight } => {
-                write!(f, "pattern too large: {bytes} bytes, weight {weight}")
-            }
-            TypeRule::BadGroup(number) => write!(f, "no group {number}"),
+fn rule_shown(alloc: Global, rule: &TypeRule) -> Result<String, OutOfMemory> {
+    Ok(match rule {
+        TypeRule::UnknownAlias(name) => format!(in alloc; "no alias {}", name.as_str())?,
+        TypeRule::UnknownColumn(name) => format!(in alloc; "no column {}", name.as_str())?,
+        TypeRule::DuplicateAlias(name) => format!(in alloc; "alias {} again", name.as_str())?,
+        TypeRule::DuplicateColumn(name) => format!(in alloc; "column {} again", name.as_str())?,
+        TypeRule::UnknownFunction(name) => format!(in alloc; "no function {}", name.as_str())?,
+        TypeRule::WrongArgument { wanted, found } => {
+            format!(in alloc; "wanted {wanted:?}, found {found:?}")?
         }
-    }
+        TypeRule::SchemaMismatch => String::from_str(alloc, "schemas differ")?,
+        TypeRule::NotGrouped => String::from_str(alloc, "not grouped")?,
+        TypeRule::BadRange { low, high } => {
+            let first = format!(in alloc; "range {low}")?;
+            format!(in alloc; "{first} to {high}")?
+        }
+        TypeRule::UnknownPolicy(name) => format!(in alloc; "no policy {}", name.as_str())?,
+        TypeRule::BadPattern => String::from_str(alloc, "bad pattern")?,
+        TypeRule::PatternLarge { bytes, weight } => {
+            let first = format!(in alloc; "pattern too large: {bytes} bytes")?;
+            format!(in alloc; "{first}, weight {weight}")?
+        }
+        TypeRule::BadGroup(number) => format!(in alloc; "no group {number}")?,
+    })
 }

@@ -5,215 +5,142 @@ use aql_typed::{
 };
 use span_token::OutOfMemory;
 use std::alloc::Global;
-use std::fmt;
 
 /// The views with their columns, in their order.
 pub(crate) fn views_shown(alloc: Global, views: &[TypedView]) -> Result<String, OutOfMemory> {
-    Ok(format!(in alloc; "{}", Views { views })?)
+    let mut all = String::new(alloc);
+    for view in views {
+        let columns = columns_shown(alloc, view)?;
+        let view = format!(in alloc; "{}: {}; ", view.name.as_str(), columns.as_str())?;
+        all.push_str(view.as_str())?;
+    }
+    Ok(all)
 }
 
 /// The outputs with their views, in their order.
 pub(crate) fn outputs_shown(alloc: Global, outputs: &[Output]) -> Result<String, OutOfMemory> {
-    Ok(format!(in alloc; "{}", Outputs { outputs })?)
+    let mut all = String::new(alloc);
+    for output in outputs {
+        let output = format!(in alloc; "{} {:?}; ", output.name.as_str(), output.view)?;
+        all.push_str(output.as_str())?;
+    }
+    Ok(all)
 }
 
 /// The columns of a view with their kinds.
 pub(crate) fn columns_shown(alloc: Global, view: &TypedView) -> Result<String, OutOfMemory> {
-    Ok(format!(in alloc; "{}", Columns { view })?)
+    let mut all = String::new(alloc);
+    for column in &view.columns {
+        if !all.is_empty() {
+            all.push_str(", ")?;
+        }
+        let column = format!(in alloc; "{} {:?}", column.name.as_str(), column.kind)?;
+        all.push_str(column.as_str())?;
+    }
+    Ok(all)
 }
 
 /// A query without its columns; of a nested one, of a union and of a difference only that it is one.
 pub(crate) fn query_shown(alloc: Global, query: &TypedQuery) -> Result<String, OutOfMemory> {
-    Ok(format!(in alloc; "{}", Query { query })?)
-}
-
-#[derive(Drop)]
-struct Views<'p> {
-    views: &'p [TypedView],
-}
-
-impl fmt::Display for Views<'_> {
-    fn fmt<W: fmt::Write>(&self, f: &mut fmt::Formatter<W>) -> fmt::Result {
-        for view in self.views {
-            write!(f, "{}: {}; ", view.name.as_str(), Columns { view })?;
-        }
-        Ok(())
+    match query {
+        TypedQuery::Select(select) => select_shown(alloc, select),
+        TypedQuery::Extract(extract) => extract_shown(alloc, extract),
+        TypedQuery::Union(sides) => Ok(format!(in alloc; "union of {}", sides.len())?),
+        TypedQuery::Minus(_, _) => Ok(String::from_str(alloc, "minus")?),
     }
 }
 
-#[derive(Drop)]
-struct Outputs<'p> {
-    outputs: &'p [Output],
-}
-
-impl fmt::Display for Outputs<'_> {
-    fn fmt<W: fmt::Write>(&self, f: &mut fmt::Formatter<W>) -> fmt::Result {
-        for output in self.outputs {
-            write!(f, "{} {:?}; ", output.name.as_str(), output.view)?;
-        }
-        Ok(())
+fn select_shown(alloc: Global, select: &TypedSelect) -> Result<String, OutOfMemory> {
+    let clauses = &select.clauses;
+    let mut all = sources_shown(alloc, &select.sources)?;
+    let conds = clauses.conds.as_slice();
+    if !conds.is_empty() {
+        let conds = format!(in alloc; "; where {conds:?}")?;
+        all.push_str(conds.as_str())?;
     }
-}
-
-#[derive(Drop)]
-struct Columns<'p> {
-    view: &'p TypedView,
-}
-
-impl fmt::Display for Columns<'_> {
-    fn fmt<W: fmt::Write>(&self, f: &mut fmt::Formatter<W>) -> fmt::Result {
-        let mut between = "";
-        for column in &self.view.columns {
-            write!(f, "{between}{} {:?}", column.name.as_str(), column.kind)?;
-            between = ", ";
-        }
-        Ok(())
+    let consolidate = consolidate_shown(alloc, &clauses.consolidate)?;
+    all.push_str(consolidate.as_str())?;
+    let projection = projection_shown(alloc, &clauses.projection)?;
+    all.push_str(projection.as_str())?;
+    if !clauses.order.is_empty() {
+        let order = format!(in alloc; "; order {:?}", clauses.order)?;
+        all.push_str(order.as_str())?;
     }
+    let limit = limit_shown(alloc, &clauses.limit)?;
+    all.push_str(limit.as_str())?;
+    Ok(all)
 }
 
-#[derive(Drop)]
-struct Query<'p> {
-    query: &'p TypedQuery,
-}
-
-impl fmt::Display for Query<'_> {
-    fn fmt<W: fmt::Write>(&self, f: &mut fmt::Formatter<W>) -> fmt::Result {
-        match self.query {
-            TypedQuery::Select(select) => write!(f, "{}", Select { select }),
-            TypedQuery::Extract(extract) => write!(f, "{}", Extract { extract }),
-            TypedQuery::Union(sides) => write!(f, "union of {}", sides.len()),
-            TypedQuery::Minus(_, _) => write!(f, "minus"),
-        }
+fn extract_shown(alloc: Global, extract: &TypedExtract) -> Result<String, OutOfMemory> {
+    let clauses = &extract.clauses;
+    let mut all = source_shown(alloc, &extract.source)?;
+    let found = format!(in alloc;
+        "; {:?}, {:?}",
+        clauses.items.as_slice(),
+        clauses.extraction
+    )?;
+    all.push_str(found.as_str())?;
+    let conds = clauses.conds.as_slice();
+    if !conds.is_empty() {
+        let conds = format!(in alloc; "; where {conds:?}")?;
+        all.push_str(conds.as_str())?;
     }
-}
-
-#[derive(Drop)]
-struct Select<'p> {
-    select: &'p TypedSelect,
-}
-
-impl fmt::Display for Select<'_> {
-    fn fmt<W: fmt::Write>(&self, f: &mut fmt::Formatter<W>) -> fmt::Result {
-        let clauses = &self.select.clauses;
-        let sources = self.select.sources.as_slice();
-        write!(f, "{}", Sources { sources })?;
-        let conds = clauses.conds.as_slice();
-        if !conds.is_empty() {
-            write!(f, "; where {conds:?}")?;
-        }
-        let consolidate = &clauses.consolidate;
-        write!(f, "{}", Consolidation { consolidate })?;
-        let projection = &clauses.projection;
-        write!(f, "{}", Projected { projection })?;
-        if !clauses.order.is_empty() {
-            write!(f, "; order {:?}", clauses.order)?;
-        }
-        let limit = clauses.limit;
-        write!(f, "{}", Limit { limit })
-    }
-}
-
-#[derive(Drop)]
-struct Extract<'p> {
-    extract: &'p TypedExtract,
-}
-
-impl fmt::Display for Extract<'_> {
-    fn fmt<W: fmt::Write>(&self, f: &mut fmt::Formatter<W>) -> fmt::Result {
-        let clauses = &self.extract.clauses;
-        let source = &self.extract.source;
-        write!(f, "{}", Source { source })?;
-        let items = clauses.items.as_slice();
-        write!(f, "; {items:?}, {:?}", clauses.extraction)?;
-        let conds = clauses.conds.as_slice();
-        if !conds.is_empty() {
-            write!(f, "; where {conds:?}")?;
-        }
-        let consolidate = &clauses.consolidate;
-        write!(f, "{}", Consolidation { consolidate })?;
-        let limit = clauses.limit;
-        write!(f, "{}", Limit { limit })
-    }
+    let consolidate = consolidate_shown(alloc, &clauses.consolidate)?;
+    all.push_str(consolidate.as_str())?;
+    let limit = limit_shown(alloc, &clauses.limit)?;
+    all.push_str(limit.as_str())?;
+    Ok(all)
 }
 
 /// The sources, from the left.
-#[derive(Drop)]
-struct Sources<'p> {
-    sources: &'p [TypedSource],
-}
-
-impl fmt::Display for Sources<'_> {
-    fn fmt<W: fmt::Write>(&self, f: &mut fmt::Formatter<W>) -> fmt::Result {
-        let mut between = "";
-        for source in self.sources {
-            write!(f, "{between}{}", Source { source })?;
-            between = ", ";
+fn sources_shown(alloc: Global, sources: &[TypedSource]) -> Result<String, OutOfMemory> {
+    let mut all = String::new(alloc);
+    for source in sources {
+        if !all.is_empty() {
+            all.push_str(", ")?;
         }
-        Ok(())
+        let source = source_shown(alloc, source)?;
+        all.push_str(source.as_str())?;
     }
+    Ok(all)
 }
 
-#[derive(Drop)]
-struct Source<'p> {
-    source: &'p TypedSource,
+fn source_shown(alloc: Global, source: &TypedSource) -> Result<String, OutOfMemory> {
+    Ok(match source {
+        TypedSource::Document => String::from_str(alloc, "document")?,
+        TypedSource::View(number) => format!(in alloc; "view {number}")?,
+        TypedSource::Nested(_) => String::from_str(alloc, "a query")?,
+    })
 }
 
-impl fmt::Display for Source<'_> {
-    fn fmt<W: fmt::Write>(&self, f: &mut fmt::Formatter<W>) -> fmt::Result {
-        match self.source {
-            TypedSource::Document => write!(f, "document"),
-            TypedSource::View(number) => write!(f, "view {number}"),
-            TypedSource::Nested(_) => write!(f, "a query"),
+fn projection_shown(alloc: Global, projection: &Projection) -> Result<String, OutOfMemory> {
+    Ok(match projection {
+        Projection::Plain(items) => format!(in alloc; "; {:?}", items.as_slice())?,
+        Projection::Grouped {
+            keys,
+            arguments,
+            aggregates,
+        } => {
+            let keys = format!(in alloc; "; keys {:?}", keys.as_slice())?;
+            let arguments = format!(in alloc; ", arguments {:?}", arguments.as_slice())?;
+            format!(in alloc; "{keys}{arguments}, {aggregates:?}")?
         }
-    }
+    })
 }
 
-#[derive(Drop)]
-struct Projected<'p> {
-    projection: &'p Projection,
+fn consolidate_shown(
+    alloc: Global,
+    consolidate: &Option<Consolidate>,
+) -> Result<String, OutOfMemory> {
+    Ok(match consolidate {
+        None => String::new(alloc),
+        Some(Consolidate { policy, target }) => { format!(in alloc; "; {policy:?} of {target:?}")? }
+    })
 }
 
-impl fmt::Display for Projected<'_> {
-    fn fmt<W: fmt::Write>(&self, f: &mut fmt::Formatter<W>) -> fmt::Result {
-        match self.projection {
-            Projection::Plain(items) => write!(f, "; {:?}", items.as_slice()),
-            Projection::Grouped {
-                keys,
-                arguments,
-                aggregates,
-            } => {
-                write!(f, "; keys {:?}", keys.as_slice())?;
-                write!(f, ", arguments {:?}", arguments.as_slice())?;
-                write!(f, ", {aggregates:?}")
-            }
-        }
-    }
-}
-
-#[derive(Drop)]
-struct Consolidation<'p> {
-    consolidate: &'p Option<Consolidate>,
-}
-
-impl fmt::Display for Consolidation<'_> {
-    fn fmt<W: fmt::Write>(&self, f: &mut fmt::Formatter<W>) -> fmt::Result {
-        match self.consolidate {
-            None => Ok(()),
-            Some(Consolidate { policy, target }) => write!(f, "; {policy:?} of {target:?}"),
-        }
-    }
-}
-
-#[derive(Drop)]
-struct Limit {
-    limit: Option<u64>,
-}
-
-impl fmt::Display for Limit {
-    fn fmt<W: fmt::Write>(&self, f: &mut fmt::Formatter<W>) -> fmt::Result {
-        match self.limit {
-            None => Ok(()),
-            Some(limit) => write!(f, "; limit {limit}"),
-        }
-    }
+fn limit_shown(alloc: Global, limit: &Option<u64>) -> Result<String, OutOfMemory> {
+    Ok(match limit {
+        None => String::new(alloc),
+        Some(limit) => format!(in alloc; "; limit {limit}")?,
+    })
 }

@@ -1,6 +1,6 @@
 //! What a program without a fault comes to.
 
-use crate::marks::{is_text, program_of};
+use crate::marks::program_of;
 use crate::programs::{fault, typed};
 use crate::shown::{columns_shown, outputs_shown, query_shown, views_shown};
 use aql_typed::Typed;
@@ -200,8 +200,7 @@ const OUTPUTS: &str = "
 ";
 
 /// The columns of the second view, with their kinds.
-fn second_columns_shown(alloc: Global, query: &str) -> Result<String, Fail> {
-    let typed = typed_query(alloc, query)?;
+fn second_columns_shown(alloc: Global, typed: &Typed) -> Result<String, Fail> {
     match typed.views().get(1) {
         Some(view) => Ok(columns_shown(alloc, view)?),
         None => Err(Fail::from("there are two views")),
@@ -209,69 +208,61 @@ fn second_columns_shown(alloc: Global, query: &str) -> Result<String, Fail> {
 }
 
 /// The query of the second view.
-fn second_query_shown(alloc: Global, query: &str) -> Result<String, Fail> {
-    let typed = typed_query(alloc, query)?;
+fn second_query_shown(alloc: Global, typed: &Typed) -> Result<String, Fail> {
     match typed.views().get(1) {
         Some(view) => Ok(query_shown(alloc, &view.body)?),
         None => Err(Fail::from("there are two views")),
     }
 }
 
-/// The typed program of a query.
-fn typed_query(alloc: Global, query: &str) -> Result<Typed, Fail> {
-    let program = program_of(alloc, query)?;
-    typed(alloc, program.as_str())
-}
-
-/// The fault of a query.
-fn query_fault(alloc: Global, query: &str) -> Result<String, Fail> {
-    let program = program_of(alloc, query)?;
-    fault(alloc, program.as_str())
-}
-
 #[test]
 fn a_query_that_nearly_has_a_fault_has_none(rt: HostRuntime) -> Result<(), Fail> {
+    let alloc = rt.alloc();
     for query in &ACCEPTED {
-        let got = query_fault(rt.alloc(), query)?;
-        is_text(&rt, got.as_str(), "no fault", query);
+        let program = program_of(alloc, query)?;
+        let got = fault(alloc, program.as_str())?;
+        assert_eq!(rt; got.as_str(), "no fault", "of {query}");
     }
     Ok(())
 }
 
 #[test]
 fn a_view_has_the_columns_of_its_query(rt: HostRuntime) -> Result<(), Fail> {
+    let alloc = rt.alloc();
     for (query, want) in &TYPED_COLUMNS {
-        let got = second_columns_shown(rt.alloc(), query)?;
-        is_text(&rt, got.as_str(), want, query);
+        let program = program_of(alloc, query)?;
+        let typed = typed(alloc, program.as_str())?;
+        let got = second_columns_shown(alloc, &typed)?;
+        assert_eq!(rt; got.as_str(), *want, "of {query}");
     }
     Ok(())
 }
 
 #[test]
 fn names_become_numbers_and_defaults_are_filled_in(rt: HostRuntime) -> Result<(), Fail> {
+    let alloc = rt.alloc();
     for (query, want) in &TYPED_QUERIES {
-        let got = second_query_shown(rt.alloc(), query)?;
-        is_text(&rt, got.as_str(), want, query);
+        let program = program_of(alloc, query)?;
+        let typed = typed(alloc, program.as_str())?;
+        let got = second_query_shown(alloc, &typed)?;
+        assert_eq!(rt; got.as_str(), *want, "of {query}");
     }
     Ok(())
 }
 
 #[test]
 fn views_stand_by_rank_and_outputs_by_name(rt: HostRuntime) -> Result<(), Fail> {
-    let typed = typed(rt.alloc(), OUTPUTS)?;
-    let views = views_shown(rt.alloc(), typed.views())?;
-    is_text(
-        &rt,
+    let alloc = rt.alloc();
+    let typed = typed(alloc, OUTPUTS)?;
+    let views = views_shown(alloc, typed.views())?;
+    assert_eq!(rt;
         views.as_str(),
-        "B: x Span; Left_: x Span; Right_: y Span; Top: x Span; ",
-        "the views",
+        "B: x Span; Left_: x Span; Right_: y Span; Top: x Span; "
     );
-    let outputs = outputs_shown(rt.alloc(), typed.outputs())?;
-    is_text(
-        &rt,
+    let outputs = outputs_shown(alloc, typed.outputs())?;
+    assert_eq!(rt;
         outputs.as_str(),
-        " None; B Some(0); Document None; Document2 Some(2); Top Some(3); b Some(0); é Some(0); ",
-        "the outputs",
+        " None; B Some(0); Document None; Document2 Some(2); Top Some(3); b Some(0); é Some(0); "
     );
     Ok(())
 }
