@@ -5,7 +5,6 @@ use corpus_json::{Input, read_document};
 use demo_corpus::{DEMO, append_line, gen_document, write_corpus};
 use span_token::{Failure, OutOfMemory, OwnedText};
 use std::alloc::Global;
-use std::process::Abort;
 use std::test::Fail;
 
 #[test]
@@ -69,15 +68,10 @@ fn documents_have_their_label_and_their_sentences(rt: HostRuntime) -> Result<(),
     ];
     for (i, label, text) in table {
         let input = gen_document(rt.alloc(), i)?;
-        expect_input(&rt, i, &input, label, text);
+        assert_eq!(rt; input.text.as_str(), text, "document {i}");
+        assert_eq!(rt; label_of(&input), label, "document {i}");
     }
     Ok(())
-}
-
-/// Checks the label and the text of document `i`.
-fn expect_input<R: Abort>(rt: &R, i: u32, input: &Input, label: &str, text: &str) {
-    assert_eq!(rt; input.text.as_str(), text, "document {i}");
-    assert_eq!(rt; label_of(input), label, "document {i}");
 }
 
 fn label_of(input: &Input) -> &str {
@@ -95,7 +89,8 @@ fn lines_are_read_as_their_documents(rt: HostRuntime) -> Result<(), Fail> {
         assert!(rt; line.len() > 0);
         match read_document(rt.alloc(), &line[..line.len() - 1]) {
             Ok(Some(found)) => {
-                expect_input(&rt, i, &found, label_of(&input), input.text.as_str());
+                assert_eq!(rt; found.text.as_str(), input.text.as_str(), "document {i}");
+                assert_eq!(rt; label_of(&found), label_of(&input), "document {i}");
             }
             _ => assert!(rt; false, "document {i}"),
         }
@@ -131,36 +126,18 @@ fn written(
     Ok((sink, answer))
 }
 
-/// Checks the answer for a corpus of so many documents, at most three, on a sink with so much room of whose calls some
-/// fail, and that so many of its first bytes are written.
-fn expect_written<R: Abort>(
-    rt: &R,
-    alloc: Global,
-    count: u32,
-    room: usize,
-    fail: &[u64],
-    wanted: &str,
-    length: usize,
-) -> Result<(), OutOfMemory> {
-    let (sink, answer) = written(alloc, count, room, fail.to_vec(alloc)?)?;
-    let bytes = sink.bytes();
-    assert_eq!(rt;
-        (answer, bytes.len()),
-        (wanted, length),
-        "{count} documents, where the calls {fail:?} fail"
-    );
-    assert!(rt;
-        THREE_DOCUMENTS.as_bytes().starts_with(bytes),
-        "{count} documents, where the calls {fail:?} fail"
-    );
-    Ok(())
-}
-
 #[test]
 fn the_first_documents_are_written_in_order(rt: HostRuntime) -> Result<(), Fail> {
     for count in [0u32, 1, 3] {
-        let length = lines_length(THREE_DOCUMENTS.as_bytes(), count);
-        expect_written(&rt, rt.alloc(), count, 10_000, &[], "written", length)?;
+        let (sink, answer) = written(rt.alloc(), count, 10_000, Vec::new(rt.alloc()))?;
+        assert_eq!(rt; answer, "written", "{count} documents");
+        let whole = THREE_DOCUMENTS.as_bytes();
+        assert_eq!(rt;
+            sink.bytes().len(),
+            lines_length(whole, count),
+            "{count} documents"
+        );
+        assert!(rt; whole.starts_with(sink.bytes()), "{count} documents");
     }
     Ok(())
 }
@@ -182,11 +159,21 @@ fn lines_length(bytes: &[u8], count: u32) -> usize {
 #[test]
 fn a_failed_write_leaves_a_beginning(rt: HostRuntime) -> Result<(), Fail> {
     for (failing, bytes) in [(1u64, 0usize), (3, 20), (12, 110)] {
-        expect_written(&rt, rt.alloc(), 3, 10_000, &[failing], "fault", bytes)?;
+        let fail = vec![in rt.alloc(); failing; 1]?;
+        let (sink, answer) = written(rt.alloc(), 3, 10_000, fail)?;
+        assert_eq!(rt; answer, "fault", "call {failing}");
+        assert_eq!(rt; sink.bytes().len(), bytes, "call {failing}");
+        assert!(rt;
+            THREE_DOCUMENTS.as_bytes().starts_with(sink.bytes()),
+            "call {failing}"
+        );
     }
-    let beginning = "{\"label\":\"d0\",\"text\":\"Cal";
-    assert!(rt; THREE_DOCUMENTS.starts_with(beginning));
-    expect_written(&rt, rt.alloc(), 3, 25, &[], "fault", beginning.len())?;
+    let (sink, answer) = written(rt.alloc(), 3, 25, Vec::new(rt.alloc()))?;
+    assert_eq!(rt; answer, "fault");
+    assert_eq!(rt;
+        sink.bytes(),
+        b"{\"label\":\"d0\",\"text\":\"Cal".as_slice()
+    );
     Ok(())
 }
 
@@ -200,9 +187,14 @@ fn a_corpus_longer_than_a_piece_is_written_whole(rt: HostRuntime) -> Result<(), 
 
 #[test]
 fn the_program_has_its_lines(rt: HostRuntime) -> Result<(), Fail> {
-    assert!(rt; DEMO.len() == 3591);
-    let lines = DEMO.as_bytes().iter().filter(|byte| **byte == b'\n');
-    assert!(rt; lines.count() == 47);
+    assert_eq!(rt; DEMO.len(), 3591);
+    assert_eq!(rt;
+        DEMO.as_bytes()
+            .iter()
+            .filter(|byte| **byte == b'\n')
+            .count(),
+        47
+    );
     assert!(rt;
         DEMO.starts_with("create dictionary FirstNames as ('Ann','John','Maria','Paul');\n")
     );

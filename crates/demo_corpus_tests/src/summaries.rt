@@ -1,12 +1,11 @@
 //! Summaries of counted rows.
-ghost use Rattle.std.specs.Prelude.{◌≡◌, ◌+◌, ◌<◌, ◌≤◌, IfOk, length, vec_len};
+ghost use Rattle.std.specs.Prelude.{◌≡◌, IfOk, length, vec_len};
 
 use crate::expected::{DEMO_OF_1, DEMO_OF_2, DEMO_OF_200};
 use demo_corpus::Totals;
 use row_values::{Output, Row, Rows, Value};
 use span_token::{OutOfMemory, OwnedList, OwnedText};
 use std::alloc::Global;
-use std::process::Abort;
 use std::test::Fail;
 
 /// The names of the demonstration's outputs, in the order of its program.
@@ -73,42 +72,18 @@ fn lent<'r, 'd>(alloc: Global, lists: &'r [Rows<'d>]) -> Result<Vec<&'r Rows<'d>
     Ok(lent)
 }
 
-/// Counts one more document, with so many rows of each output, all equal.
-fn count_document(alloc: Global, totals: &mut Totals, counts: &[u32; 11]) -> Result<(), OutOfMemory>
-    requires outputs { length totals.old.totals ≡ 11 }
-    requires few { totals.old.documents < 200 }
-    ensures outputs { length totals.new.totals ≡ 11 }
-    ensures documents { totals.new.documents ≤ totals.old.documents + 1 }
-{
-    let rows = equal_rows(alloc, counts)?;
-    totals.add(&lent(alloc, &rows)?);
-    Ok(())
-}
-
-/// Checks the summary of some totals.
-fn expect_summary<R: Abort>(
-    rt: &R,
-    alloc: Global,
-    totals: &Totals,
-    outputs: &[Output],
-    wanted: &str,
-) -> Result<(), OutOfMemory>
-    requires { length outputs.now ≡ length totals.now.totals }
-{
-    let summary = totals.summary(alloc, outputs)?;
-    assert_eq!(rt; summary.as_str(), wanted);
-    Ok(())
-}
-
 #[test]
 fn equal_rows_count_each_time(rt: HostRuntime) -> Result<(), Fail> {
     let alloc = rt.alloc();
     let outputs = outputs(alloc)?;
+    let first = equal_rows(alloc, &ON_THE_FIRST)?;
+    let second = equal_rows(alloc, &ON_THE_SECOND)?;
     let mut totals = Totals::new(alloc, 11)?;
-    count_document(alloc, &mut totals, &ON_THE_FIRST)?;
-    expect_summary(&rt, alloc, &totals, &outputs, DEMO_OF_1)?;
-    count_document(alloc, &mut totals, &ON_THE_SECOND)?;
-    Ok(expect_summary(&rt, alloc, &totals, &outputs, DEMO_OF_2)?)
+    totals.add(&lent(alloc, &first)?);
+    assert_eq!(rt; totals.summary(alloc, &outputs)?.as_str(), DEMO_OF_1);
+    totals.add(&lent(alloc, &second)?);
+    assert_eq!(rt; totals.summary(alloc, &outputs)?.as_str(), DEMO_OF_2);
+    Ok(())
 }
 
 /// The totals of 200 documents, of which the first has all rows.
@@ -131,7 +106,8 @@ fn documents_without_rows_are_counted(rt: HostRuntime) -> Result<(), Fail> {
     let alloc = rt.alloc();
     let outputs = outputs(alloc)?;
     let totals = totals_of_200(alloc)?;
-    expect_summary(&rt, alloc, &totals, &outputs, DEMO_OF_200)?;
+    assert_eq!(rt; totals.summary(alloc, &outputs)?.as_str(), DEMO_OF_200);
     let none = Totals::new(alloc, 0)?;
-    Ok(expect_summary(&rt, alloc, &none, &[], "documents 0\n")?)
+    assert_eq!(rt; none.summary(alloc, &[])?.as_str(), "documents 0\n");
+    Ok(())
 }

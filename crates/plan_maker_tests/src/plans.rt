@@ -1,12 +1,10 @@
 //! Plans of programs, by their texts.
 
 use crate::programs::typed;
-use algebra::Plan;
 use demo_corpus::DEMO;
 use plan_maker::{lower, make_plan, plan_text};
 use span_token::OutOfMemory;
 use std::alloc::Global;
-use std::process::Abort;
 use std::test::Fail;
 
 /// Programs and their plans: a condition stands as soon as its sources are joined; each kind of query; the
@@ -360,77 +358,50 @@ fn chain(alloc: Global, views: u32) -> Result<String, OutOfMemory> {
     Ok(text)
 }
 
-/// The plan of a program, lowered.
-fn lowered(alloc: Global, program: &str) -> Result<Plan, Fail> {
-    let typed = typed(alloc, program)?;
-    Ok(lower(alloc, typed)?)
-}
-
-/// The plan by which a program is run.
-fn made_plan(alloc: Global, program: &str) -> Result<Plan, Fail> {
-    let typed = typed(alloc, program)?;
-    Ok(make_plan(alloc, typed)?)
-}
-
-/// The text of the plan by which a program is run.
-fn made_text(alloc: Global, program: &str) -> Result<String, Fail> {
-    let plan = made_plan(alloc, program)?;
-    Ok(plan_text(alloc, &plan)?)
-}
-
-/// Asks for a text.
-fn is_text(rt: &impl Abort, got: &str, want: &str, program: &str) {
-    assert_eq!(rt; got, want, "of {program}");
-}
-
-/// Asks how many there are.
-fn is_number(rt: &impl Abort, got: usize, want: usize) {
-    assert_eq!(rt; got, want);
-}
-
 #[test]
 fn programs_have_plans(rt: HostRuntime) -> Result<(), Fail> {
+    let alloc = rt.alloc();
     for (program, want) in &PLANS {
-        let plan = lowered(rt.alloc(), program)?;
-        let got = plan_text(rt.alloc(), &plan)?;
-        is_text(&rt, got.as_str(), want, program);
+        let plan = lower(alloc, typed(alloc, program)?)?;
+        let got = plan_text(alloc, &plan)?;
+        assert_eq!(rt; got.as_str(), *want, "of {program}");
     }
     Ok(())
 }
 
 #[test]
 fn views_that_are_read_twice_stand_once(rt: HostRuntime) -> Result<(), Fail> {
-    let program = ladder(rt.alloc(), 200)?;
-    let plan = lowered(rt.alloc(), program.as_str())?;
-    is_number(&rt, plan.nodes().len(), 3 + 2 * 200);
+    let alloc = rt.alloc();
+    let program = ladder(alloc, 200)?;
+    let plan = lower(alloc, typed(alloc, program.as_str())?)?;
+    assert_eq!(rt; plan.nodes().len(), 3 + 2 * 200);
     Ok(())
 }
 
 #[test]
 fn made_plans_have_joins_and_no_node_twice_or_unread(rt: HostRuntime) -> Result<(), Fail> {
+    let alloc = rt.alloc();
     for (program, want) in &MADE {
-        let got = made_text(rt.alloc(), program)?;
-        is_text(&rt, got.as_str(), want, program);
+        let plan = make_plan(alloc, typed(alloc, program)?)?;
+        let got = plan_text(alloc, &plan)?;
+        assert_eq!(rt; got.as_str(), *want, "of {program}");
     }
     Ok(())
 }
 
-/// The text of the plan of a selection from three views by these conditions.
-fn connected_text(alloc: Global, conds: &str) -> Result<String, Fail> {
-    let program = format!(in alloc;
-        "create view A as extract regex /a/ on d.text as x from Document d;
-         create view B as extract regex /b/ on d.text as y from Document d;
-         create view C as extract regex /c/ on d.text as z from Document d;
-         create view T as select a.x, b.y, c.z from A a, B b, C c where {conds};
-         output view T;"
-    )?;
-    made_text(alloc, program.as_str())
-}
-
 #[test]
 fn two_predicates_that_connect_three_views_leave_no_product(rt: HostRuntime) -> Result<(), Fail> {
+    let alloc = rt.alloc();
     for conds in &CONNECTED {
-        let text = connected_text(rt.alloc(), conds)?;
+        let program = format!(in alloc;
+            "create view A as extract regex /a/ on d.text as x from Document d;
+             create view B as extract regex /b/ on d.text as y from Document d;
+             create view C as extract regex /c/ on d.text as z from Document d;
+             create view T as select a.x, b.y, c.z from A a, B b, C c where {conds};
+             output view T;"
+        )?;
+        let plan = make_plan(alloc, typed(alloc, program.as_str())?)?;
+        let text = plan_text(alloc, &plan)?;
         assert!(rt; !text.as_str().contains("Cross"), "of {conds}");
     }
     Ok(())
@@ -449,16 +420,19 @@ fn lines_with(text: &str, part: &str) -> usize {
 
 #[test]
 fn seven_dictionaries_on_the_text_are_looked_for_at_once(rt: HostRuntime) -> Result<(), Fail> {
-    let text = made_text(rt.alloc(), DEMO)?;
-    is_number(&rt, lines_with(text.as_str(), " Dict 0"), 1);
-    is_number(&rt, lines_with(text.as_str(), " DictPart "), 7);
+    let alloc = rt.alloc();
+    let plan = make_plan(alloc, typed(alloc, DEMO)?)?;
+    let text = plan_text(alloc, &plan)?;
+    assert_eq!(rt; lines_with(text.as_str(), " Dict 0"), 1);
+    assert_eq!(rt; lines_with(text.as_str(), " DictPart "), 7);
     Ok(())
 }
 
 #[test]
 fn each_condition_of_a_chain_adds_as_much(rt: HostRuntime) -> Result<(), Fail> {
-    let program = chain(rt.alloc(), 50)?;
-    let plan = made_plan(rt.alloc(), program.as_str())?;
-    is_number(&rt, plan.nodes().len(), 7 + 4 * 50);
+    let alloc = rt.alloc();
+    let program = chain(alloc, 50)?;
+    let plan = make_plan(alloc, typed(alloc, program.as_str())?)?;
+    assert_eq!(rt; plan.nodes().len(), 7 + 4 * 50);
     Ok(())
 }

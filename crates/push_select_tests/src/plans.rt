@@ -4,16 +4,13 @@ use crate::programs::typed;
 use algebra::{Node, Plan};
 use plan_maker::{lower, plan_text};
 use push_select::push;
-use std::alloc::Global;
-use std::process::Abort;
 use std::test::Fail;
 
 /// Two views of a column each: `x` is column 0 of its product with the other, and `y` column 1.
 const VIEWS: &str = "create view A as extract regex /a/ on d.text as x from Document d;
-     create view B as extract regex /b/ on d.text as y from Document d;
-     create view C as select a.x, b.y from A a, B b";
+     create view B as extract regex /b/ on d.text as y from Document d;";
 
-/// The nodes of the two.
+/// Their nodes.
 const NODES: &str = "0 Doc
 1 Regex 0
 2 Project 1
@@ -117,52 +114,22 @@ fn conditions_of(node: &Node) -> usize {
     }
 }
 
-/// The plan of a program, lowered and pushed.
-fn pushed_plan(alloc: Global, program: &str) -> Result<Plan, Fail> {
-    let typed = typed(alloc, program)?;
-    let plan = lower(alloc, typed)?;
-    Ok(push(alloc, plan)?)
-}
-
-/// The pushed plan of a program that ends with a view, of these conditions on it, and the output of the view.
-fn pushed_by(alloc: Global, views: &str, conds: &str, output: &str) -> Result<Plan, Fail> {
-    let program = format!(in alloc; "{views} where {conds}; output view {output};")?;
-    pushed_plan(alloc, program.as_str())
-}
-
-/// Asks for the text of a plan behind that of its first nodes.
-fn has_text(
-    rt: &impl Abort,
-    alloc: Global,
-    plan: Plan,
-    first: &str,
-    want: &str,
-    case: &str,
-) -> Result<(), Fail> {
-    let got = plan_text(alloc, &plan)?;
-    assert_eq!(rt;
-        got.as_str().strip_prefix(first),
-        Some(want),
-        "of {case}: {got}"
-    );
-    Ok(())
-}
-
-/// Asks how many conditions the selections of a plan have: none is left that stands in a join, or lower down.
-fn has_left(rt: &impl Abort, plan: &Plan, left: usize, case: &str) {
-    assert_eq!(rt;
-        conditions_left(plan),
-        left,
-        "conditions are left of {case}"
-    );
-}
-
 #[test]
 fn conditions_go_down_and_products_become_joins(rt: HostRuntime) -> Result<(), Fail> {
+    let alloc = rt.alloc();
     for (conds, left, want) in &PUSHED {
-        let plan = pushed_by(rt.alloc(), VIEWS, conds, "C")?;
-        has_left(&rt, &plan, *left, conds);
-        has_text(&rt, rt.alloc(), plan, NODES, want, conds)?;
+        let program = format!(in alloc;
+            "{VIEWS} create view C as select a.x, b.y from A a, B b where {conds}; output view C;"
+        )?;
+        let plan = push(alloc, lower(alloc, typed(alloc, program.as_str())?)?)?;
+        let got = plan_text(alloc, &plan)?;
+        let want = format!(in alloc; "{NODES}{want}")?;
+        assert_eq!(rt; got.as_str(), want.as_str(), "of {conds}");
+        assert_eq!(rt;
+            conditions_left(&plan),
+            *left,
+            "no condition is left that stands in a join, or lower down: {conds}"
+        );
     }
     Ok(())
 }
@@ -175,8 +142,12 @@ const THREE: &str = "create view Word as extract regex /[a-z]+/ on d.text as wor
        consolidate on a.word order by first limit 3;
      output view Three;";
 
-/// Their plan.
-const THREE_PLAN: &str = "0 Doc
+#[test]
+fn three_views_have_no_product_that_is_read(rt: HostRuntime) -> Result<(), Fail> {
+    let alloc = rt.alloc();
+    let plan = push(alloc, lower(alloc, typed(alloc, THREE)?)?)?;
+    let got = plan_text(alloc, &plan)?;
+    let want = "0 Doc
 1 Regex 0
 2 Project 1
 3 Cross 2 2
@@ -190,26 +161,14 @@ const THREE_PLAN: &str = "0 Doc
 11 OrderLimit 10
 out Three 11
 ";
-
-#[test]
-fn three_views_have_no_product_that_is_read(rt: HostRuntime) -> Result<(), Fail> {
-    let plan = pushed_plan(rt.alloc(), THREE)?;
-    has_text(&rt, rt.alloc(), plan, "", THREE_PLAN, THREE)
+    assert_eq!(rt; got.as_str(), want);
+    Ok(())
 }
 
-/// Three views of a column each.
-const MORE: &str = "create view A as extract regex /a/ on d.text as x from Document d;
-     create view B as extract regex /b/ on d.text as y from Document d;
-     create view C as extract regex /c/ on d.text as z from Document d;
-     create view T as select a.x, b.y, c.z from A a, B b, C c";
+/// Three views of a column each, and the nodes of two of them and of their product.
+const MORE: &str = "create view C as extract regex /c/ on d.text as z from Document d;";
 
-/// The nodes of the three, and of the product of two of them.
-const MORE_NODES: &str = "0 Doc
-1 Regex 0
-2 Project 1
-3 Regex 0
-4 Project 3
-5 Regex 0
+const MORE_NODES: &str = "5 Regex 0
 6 Project 5
 7 Cross 2 4
 ";
@@ -277,24 +236,37 @@ out T 11
 fn of_three_views_those_are_joined_first_that_a_predicate_connects(
     rt: HostRuntime,
 ) -> Result<(), Fail> {
+    let alloc = rt.alloc();
     for (conds, want) in &CONNECTED {
-        let plan = pushed_by(rt.alloc(), MORE, conds, "T")?;
-        has_left(&rt, &plan, 0, conds);
-        has_text(&rt, rt.alloc(), plan, MORE_NODES, want, conds)?;
+        let program = format!(in alloc;
+            "{VIEWS} {MORE} create view T as select a.x, b.y, c.z from A a, B b, C c where {conds}; output view T;"
+        )?;
+        let plan = push(alloc, lower(alloc, typed(alloc, program.as_str())?)?)?;
+        let got = plan_text(alloc, &plan)?;
+        let want = format!(in alloc; "{NODES}{MORE_NODES}{want}")?;
+        assert_eq!(rt; got.as_str(), want.as_str(), "of {conds}");
+        assert_eq!(rt;
+            conditions_left(&plan),
+            0,
+            "each predicate stands in a join: {conds}"
+        );
     }
     Ok(())
 }
 
 /// A view of two views, one of which a predicate connects with a third.
-const NESTED: &str = "create view A as extract regex /a/ on d.text as x from Document d;
-     create view B as extract regex /b/ on d.text as y from Document d;
-     create view C as extract regex /c/ on d.text as z from Document d;
-     create view V as select a.x, b.y from A a, B b;
+const NESTED: &str = "create view V as select a.x, b.y from A a, B b;
      create view T as select v.y, c.z from V v, C c where Overlaps(v.x, c.z);
      output view T;";
 
-/// Its plan behind the nodes of the three and of a product.
-const NESTED_PLAN: &str = "8 Project 7
+#[test]
+fn columns_of_a_product_are_joined_below_it(rt: HostRuntime) -> Result<(), Fail> {
+    let alloc = rt.alloc();
+    let program = format!(in alloc; "{VIEWS} {MORE} {NESTED}")?;
+    let plan = push(alloc, lower(alloc, typed(alloc, program.as_str())?)?)?;
+    let got = plan_text(alloc, &plan)?;
+    let want = format!(in alloc;
+        "{NODES}{MORE_NODES}8 Project 7
 9 Cross 8 6
 10 SpanJoin 2 6
 11 Cross 4 10
@@ -302,10 +274,8 @@ const NESTED_PLAN: &str = "8 Project 7
 13 Project 11
 14 Project 11
 out T 14
-";
-
-#[test]
-fn columns_of_a_product_are_joined_below_it(rt: HostRuntime) -> Result<(), Fail> {
-    let plan = pushed_plan(rt.alloc(), NESTED)?;
-    has_text(&rt, rt.alloc(), plan, MORE_NODES, NESTED_PLAN, NESTED)
+"
+    )?;
+    assert_eq!(rt; got.as_str(), want.as_str());
+    Ok(())
 }

@@ -7,7 +7,6 @@ use push_select::push;
 use restrict_eval::{restrict, turn};
 use share_plan::share;
 use std::alloc::Global;
-use std::process::Abort;
 use std::test::Fail;
 
 /// Two views of a column each: `x` is found by a pattern in characters, `y` by a token-bounded one.
@@ -182,56 +181,23 @@ out T 8
     ),
 ];
 
-/// The lowered plan of a program in two parts.
-fn lowered(alloc: Global, first: &str, views: &str) -> Result<Plan, Fail> {
-    let program = format!(in alloc; "{first} {views}")?;
-    let typed = typed(alloc, program.as_str())?;
-    Ok(lower(alloc, typed)?)
-}
-
-/// The plan, shared, pushed and restricted.
-fn restricted(alloc: Global, first: &str, views: &str) -> Result<Plan, Fail> {
-    let plan = lowered(alloc, first, views)?;
-    let plan = share(alloc, plan)?;
-    let plan = push(alloc, plan)?;
-    Ok(restrict(alloc, plan)?)
-}
-
-/// The plan, restricted once more.
-fn restricted_again(alloc: Global, first: &str, views: &str) -> Result<Plan, Fail> {
-    let plan = restricted(alloc, first, views)?;
-    Ok(restrict(alloc, plan)?)
-}
-
-/// The plan, with its sides turned.
-fn turned_plan(alloc: Global, first: &str, views: &str) -> Result<Plan, Fail> {
-    let plan = lowered(alloc, first, views)?;
-    Ok(turn(alloc, plan)?)
-}
-
-/// Asks for the text of a plan behind that of its first nodes.
-fn has_text(
-    rt: &impl Abort,
-    alloc: Global,
-    plan: Plan,
-    first: &str,
-    want: &str,
-    case: &str,
-) -> Result<(), Fail> {
-    let got = plan_text(alloc, &plan)?;
-    assert_eq!(rt;
-        got.as_str().strip_prefix(first),
-        Some(want),
-        "of {case}: {got}"
-    );
-    Ok(())
+/// The plan of a program, shared, pushed and restricted.
+fn restricted(alloc: Global, program: &str) -> Result<Plan, Fail> {
+    let plan = lower(alloc, typed(alloc, program)?)?;
+    let plan = push(alloc, share(alloc, plan)?)?;
+    let plan = restrict(alloc, plan)?;
+    Ok(plan)
 }
 
 #[test]
 fn joins_look_near_their_left_rows_for_what_nobody_else_needs(rt: HostRuntime) -> Result<(), Fail> {
+    let alloc = rt.alloc();
     for (views, want) in &PLANS {
-        let plan = restricted(rt.alloc(), VIEWS, views)?;
-        has_text(&rt, rt.alloc(), plan, NODES, want, views)?;
+        let program = format!(in alloc; "{VIEWS} {views}")?;
+        let plan = restricted(alloc, program.as_str())?;
+        let got = plan_text(alloc, &plan)?;
+        let want = format!(in alloc; "{NODES}{want}")?;
+        assert_eq!(rt; got.as_str(), want.as_str(), "of {views}");
     }
     Ok(())
 }
@@ -240,26 +206,27 @@ fn joins_look_near_their_left_rows_for_what_nobody_else_needs(rt: HostRuntime) -
 fn joins_look_near_their_left_rows_for_a_dictionary_that_nobody_else_needs(
     rt: HostRuntime,
 ) -> Result<(), Fail> {
+    let alloc = rt.alloc();
     for (views, want) in &ENTRY_PLANS {
-        let plan = restricted(rt.alloc(), ENTRIES, views)?;
-        has_text(&rt, rt.alloc(), plan, ENTRY_NODES, want, views)?;
+        let program = format!(in alloc; "{ENTRIES} {views}")?;
+        let plan = restricted(alloc, program.as_str())?;
+        let got = plan_text(alloc, &plan)?;
+        let want = format!(in alloc; "{ENTRY_NODES}{want}")?;
+        assert_eq!(rt; got.as_str(), want.as_str(), "of {views}");
     }
     Ok(())
 }
 
-/// Asks of a join whether it is conditional.
-fn is_conditional(rt: &impl Abort, node: &Node, case: &str) {
-    if let Node::Cross { conditional, .. } | Node::SpanJoin { conditional, .. } = node {
-        assert!(rt; *conditional, "of {case}");
-    }
-}
-
 #[test]
 fn every_join_is_conditional(rt: HostRuntime) -> Result<(), Fail> {
+    let alloc = rt.alloc();
     for (views, _) in &PLANS {
-        let plan = restricted(rt.alloc(), VIEWS, views)?;
+        let program = format!(in alloc; "{VIEWS} {views}")?;
+        let plan = restricted(alloc, program.as_str())?;
         for node in plan.nodes().as_slice() {
-            is_conditional(&rt, node, views);
+            if let Node::Cross { conditional, .. } | Node::SpanJoin { conditional, .. } = node {
+                assert!(rt; *conditional, "of {views}");
+            }
         }
     }
     Ok(())
@@ -267,9 +234,13 @@ fn every_join_is_conditional(rt: HostRuntime) -> Result<(), Fail> {
 
 #[test]
 fn a_plan_that_was_restricted_stays_as_it_is(rt: HostRuntime) -> Result<(), Fail> {
+    let alloc = rt.alloc();
     for (views, want) in &PLANS {
-        let plan = restricted_again(rt.alloc(), VIEWS, views)?;
-        has_text(&rt, rt.alloc(), plan, NODES, want, views)?;
+        let program = format!(in alloc; "{VIEWS} {views}")?;
+        let plan = restrict(alloc, restricted(alloc, program.as_str())?)?;
+        let got = plan_text(alloc, &plan)?;
+        let want = format!(in alloc; "{NODES}{want}")?;
+        assert_eq!(rt; got.as_str(), want.as_str(), "of {views}");
     }
     Ok(())
 }
@@ -306,26 +277,26 @@ out C 7
 
 #[test]
 fn what_can_be_looked_for_goes_right(rt: HostRuntime) -> Result<(), Fail> {
+    let alloc = rt.alloc();
     for (views, want) in &TURNED {
-        let plan = turned_plan(rt.alloc(), VIEWS, views)?;
-        has_text(&rt, rt.alloc(), plan, NODES, want, views)?;
+        let program = format!(in alloc; "{VIEWS} {views}")?;
+        let plan = turn(alloc, lower(alloc, typed(alloc, program.as_str())?)?)?;
+        let got = plan_text(alloc, &plan)?;
+        let want = format!(in alloc; "{NODES}{want}")?;
+        assert_eq!(rt; got.as_str(), want.as_str(), "of {views}");
     }
     Ok(())
 }
 
-/// A product with what a dictionary finds on its left, and the nodes of its plan behind those of its sides.
-const STAYS: (&str, &str) = (
-    "create view T as select a.x, b.y from B b, A a where FollowsTok(b.y, a.x, 0, 2); output view T;",
-    "6 Cross 5 2
-7 Select 6
-8 Project 7
-out T 8
-",
-);
-
 #[test]
 fn a_dictionary_may_stay_on_the_left(rt: HostRuntime) -> Result<(), Fail> {
-    let (views, want) = STAYS;
-    let plan = turned_plan(rt.alloc(), ENTRIES, views)?;
-    has_text(&rt, rt.alloc(), plan, ENTRY_NODES, want, views)
+    let alloc = rt.alloc();
+    let program = format!(in alloc;
+        "{ENTRIES} create view T as select a.x, b.y from B b, A a where FollowsTok(b.y, a.x, 0, 2); output view T;"
+    )?;
+    let plan = turn(alloc, lower(alloc, typed(alloc, program.as_str())?)?)?;
+    let got = plan_text(alloc, &plan)?;
+    let want = format!(in alloc; "{ENTRY_NODES}6 Cross 5 2\n7 Select 6\n8 Project 7\nout T 8\n")?;
+    assert_eq!(rt; got.as_str(), want.as_str());
+    Ok(())
 }
