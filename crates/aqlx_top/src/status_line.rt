@@ -7,7 +7,6 @@ use crate::put::put_and_flush;
 use crate::type_line::text_of_rule;
 use crate::{CorpusFault, NameFault, ProgramFault, Status, SyntaxFault, What};
 use aql_io::{Failed, Sink};
-use corpus_json::LINE_LIMIT;
 use span_token::{OutOfMemory, OwnedText};
 use std::alloc::Global;
 
@@ -181,7 +180,7 @@ fn text_of_corpus_fault(alloc: Global, fault: &CorpusFault) -> Result<String, Ou
             "corpus line {line} is not a document"
         )?),
         CorpusFault::LineLong(line) => {
-            Ok(format!(in alloc; "corpus line {line} is longer than {LINE_LIMIT} bytes")?)
+            Ok(format!(in alloc; "corpus line {line} is longer than 16777216 bytes")?)
         }
         CorpusFault::CorpusLarge => Ok(String::from_str(alloc, "corpus too large")?),
     }
