@@ -1,10 +1,11 @@
 -- What a pattern finds in a text, and in the text of an extent of a document.
-use Rattle.std.specs.Prelude.{◌≡◌, ℕ, zero, suc, ◌≤◌, ◌++◌, length, Bool, List, [], map, Option, Some, None, option_map, option_and_then, is_some, IfSome}
+use Rattle.std.specs.Prelude.{◌≡◌, ℕ, zero, suc, ◌++◌, length, Bool, List, [], map, Option, Some, None, option_map, option_and_then, is_some, IfSome}
 use Rattle.std.specs.List.{flat_map}
 use Rattle.regex.specs.Patterns.{Re, Match, find_str, find_all_str, span}
 use Rattle.regex.specs.Writes.{group_of}
 use Rattle.span_token.specs.Documents.{Doc, text_in, moved}
 use Rattle.span_token.specs.Extents.{Extent, extent_of}
+use Rattle.span_token.specs.Relations.{ContainsExtent}
 use Rattle.std.specs.declared.vec.Vec.{Vec}
 use Rattle.span_token.specs.declared.span.Span.{Span}
 use Rattle.aql_regex_extract.specs.Patterns.{tree_of}
@@ -61,7 +62,7 @@ extents_of = map (option_map extent_of)
 
 -- a span, where there is one, lies in the source
 abbrev pub IsInside : Extent → Option Span → Type 0
-IsInside source o = IfSome o (λ s. (source.begin ≤ s.begin) × (s.end ≤ source.end))
+IsInside source o = IfSome o (λ s. ContainsExtent source (extent_of s))
 
 -- what the spans of each row say
 abbrev pub extents_of_rows : {A : Type 0} → List (Vec (Option Span) A) → List (List (Option Extent))

@@ -15,7 +15,7 @@ use Rattle.row_operators.specs.Searches.{IsFoundIn}
 
 one_found : (doc : Doc) (source : Extent) → LiesIn source doc → (o : Option Span) → IsInside source o → IsFoundIn doc o
 one_found doc source lies None inside = tt
-one_found doc source lies (Some s) inside = let e = inside.1 in omega (arith, e, lies)
+one_found doc source lies (Some s) inside = let e = inside.ends in omega (arith, e, lies)
 
 -- what lies in a span of the document lies in the document
 pub all_found : (doc : Doc) (source : Extent) (found : List (Option Span)) → LiesIn source doc → All (IsInside source) found → All (IsFoundIn doc) found

@@ -6,6 +6,7 @@ use Rattle.aql_base.specs.Sorting.{sorted_by}
 use Rattle.span_token.specs.Documents.{Doc, characters}
 use Rattle.span_token.specs.Extents.{Extent, nth_extent}
 use Rattle.span_token.specs.Relations.{Follows, FollowsTok, does_follow, does_follow_tok}
+use Rattle.span_token.specs.SourceTokens.{run_extent}
 use Rattle.span_token.specs.SpanOrder.{AreInOrder, extent_cmp}
 use Rattle.span_token.specs.Tokens.{tokens_of}
 
@@ -26,16 +27,12 @@ pub record IsRun (IsNext : Extent → Extent → Type 0) (low high : ℕ) (spans
   pub at_most : (j - i) + 1 ≤ high
   pub neighbours : (k : ℕ) → i ≤ k → k < j → IsNext (nth_extent spans k) (nth_extent spans (k + 1))
 
--- from the first span's begin to the last one's end
-abbrev pub block_of : List Extent → ℕ → ℕ → Extent
-block_of spans i j = record { begin = (nth_extent spans i).begin; end = (nth_extent spans j).end }
-
 -- the blocks of a list of spans that rises: one for each run, by its first and then its last span
 pub record AreBlocksOf (IsNext : Extent → Extent → Type 0) (low high : ℕ) (spans blocks : List Extent) : Type 0 where
   pub runs : List (ℕ × ℕ)
   pub rising : AllPairs (λ p q. (p.0 < q.0) ⊎ ((p.0 ≡ q.0) × (p.1 < q.1))) runs
   pub exactly : (i j : ℕ) → Contains runs (i, j) ↔ IsRun IsNext low high spans i j
-  pub blocks_are : blocks ≡ map (λ r. block_of spans r.0 r.1) runs
+  pub blocks_are : blocks ≡ map (λ r. run_extent spans r.0 r.1) runs
 
 -- the blocks of any list of spans: those of its distinct ones
 pub record AreBlocks (IsNext : Extent → Extent → Type 0) (low high : ℕ) (spans blocks : List Extent) : Type 0 where
@@ -60,7 +57,7 @@ ends_of is_next low high spans i = filter (is_run is_next low high spans i) (ran
 -- the blocks of the runs that begin before span n
 abbrev pub blocks_before : (Extent → Extent → Bool) → ℕ → ℕ → List Extent → ℕ → List Extent
 blocks_before is_next low high spans zero = []
-blocks_before is_next low high spans (suc i) = blocks_before is_next low high spans i ++ map (block_of spans i) (ends_of is_next low high spans i)
+blocks_before is_next low high spans (suc i) = blocks_before is_next low high spans i ++ map (run_extent spans i) (ends_of is_next low high spans i)
 
 -- the distinct spans of a list, by begin and then by end
 abbrev pub distinct_of : List Extent → List Extent

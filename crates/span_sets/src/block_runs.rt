@@ -3,8 +3,9 @@ ghost use Rattle.std.specs.List.{AllPairs, range_with_len};
 ghost use Rattle.aql_base.specs.Bags.{SameBag};
 ghost use Rattle.span_token.specs.Documents.{Doc, LiesIn};
 ghost use Rattle.span_token.specs.Extents.{Extent, extent_of, nth_extent};
+ghost use Rattle.span_token.specs.SourceTokens.{run_extent};
 ghost use Rattle.span_token.specs.SpanOrder.{IsBefore};
-ghost use Rattle.span_sets.specs.Blocks.{IsNeighbour, AreDistinct, AreBlocks, AreBlocksOf, block_of, is_neighbour, blocks_of};
+ghost use Rattle.span_sets.specs.Blocks.{IsNeighbour, AreDistinct, AreBlocks, AreBlocksOf, is_neighbour, blocks_of};
 
 use span_token::{Document, OutOfMemory, Span, follows, follows_tok};
 use std::alloc::Global;
@@ -154,7 +155,7 @@ fn push_blocks(
     requires first { first < length spans.now }
     requires to { to ≤ length spans.now }
     requires ordered { (j : ℕ) → from ≤ j → j < to → (nth_extent (map extent_of spans.now) first).begin ≤ (nth_extent (map extent_of spans.now) j).end }
-    ensures blocks { OnOk result (map extent_of found.new.items ≡ map extent_of found.old.items ++ map (block_of (map extent_of spans.now) first) (range_with_len from (to - from))) }
+    ensures blocks { OnOk result (map extent_of found.new.items ≡ map extent_of found.old.items ++ map (run_extent (map extent_of spans.now) first) (range_with_len from (to - from))) }
 {
     for j in from..to {
         found.push(Span {

@@ -10,9 +10,10 @@ use Rattle.std.proofs.lemmas.List.Sorted.{All-permutation}
 use Rattle.aql_base.specs.Sorting.{sorted_by}
 use Rattle.aql_base.specs.SortingLaws.{SameBag-sorted_by}
 use Rattle.span_token.specs.Extents.{Extent}
+use Rattle.span_token.specs.SourceTokens.{run_extent}
 use Rattle.span_token.specs.SpanOrder.{extent_cmp}
 use Rattle.span_token.specs.RisingLists.{in_range}
-use Rattle.span_sets.specs.Blocks.{block_of, is_run, ends_of, blocks_before, distinct_of, blocks_of}
+use Rattle.span_sets.specs.Blocks.{is_run, ends_of, blocks_before, distinct_of, blocks_of}
 
 in_order : IsTotalOrder extent_cmp
 in_order = then_total (on_total (λ (e : Extent). e.begin) nat_cmp_total) (on_total (λ (e : Extent). e.end) nat_cmp_total)
@@ -35,9 +36,9 @@ module _ (P : ℕ → Type 0) where
     before_ends : (spans : List Extent) → All EndsWell spans → (n : ℕ) → All EndsWell (blocks_before is_next low high spans n)
     before_ends spans all zero = All-nil EndsWell
     before_ends spans all (suc i) =
-        All-append EndsWell (blocks_before is_next low high spans i) (map (block_of spans i) (ends_of is_next low high spans i))
+        All-append EndsWell (blocks_before is_next low high spans i) (map (run_extent spans i) (ends_of is_next low high spans i))
         (before_ends spans all i)
-        (All-map EndsWell (block_of spans i) (ends_of is_next low high spans i)
+        (All-map EndsWell (run_extent spans i) (ends_of is_next low high spans i)
         (λ k d below. all _ (record { begin = 0; end = 0 }) (runs_there spans i k d below)))
 
     -- each block ends where one of the spans ends

@@ -4,8 +4,9 @@ use Rattle.std.proofs.lemmas.List.Sorted.{IsPermutation-sym, Contains-permutatio
 use Rattle.aql_base.specs.Bags.{SameBag}
 use Rattle.span_token.specs.Extents.{Extent}
 use Rattle.span_token.specs.RisingLists.{same_in_order}
+use Rattle.span_token.specs.SourceTokens.{run_extent}
 use Rattle.span_token.specs.SpanOrderLaws.{in_order_is_unique}
-use Rattle.span_sets.specs.Blocks.{AreDistinct, AreBlocksOf, AreBlocks, block_of}
+use Rattle.span_sets.specs.Blocks.{AreDistinct, AreBlocksOf, AreBlocks}
 use Rattle.span_sets.specs.LawProofs.BlockLists.{IsEarlier}
 
 earlier_apart : (p q : ℕ × ℕ) → IsEarlier p q → IsEarlier q p → ⊥
@@ -18,7 +19,7 @@ pub AreBlocksOf-unique : (IsNext : Extent → Extent → Type 0) (low high : ℕ
 AreBlocksOf-unique IsNext low high spans a b is_a is_b =
     let runs : is_a.runs ≡ is_b.runs = same_in_order IsEarlier earlier_apart is_a.runs is_b.runs is_a.rising is_b.rising
     (λ r at. (is_b.exactly r.0 r.1).1 ((is_a.exactly r.0 r.1).0 at)) (λ r at. (is_a.exactly r.0 r.1).1 ((is_b.exactly r.0 r.1).0 at)) in
-    is_a.blocks_are ∙ ap (λ (rs : List (ℕ × ℕ)). map (λ r. block_of spans r.0 r.1) rs) runs ∙ sym is_b.blocks_are
+    is_a.blocks_are ∙ ap (λ (rs : List (ℕ × ℕ)). map (λ r. run_extent spans r.0 r.1) rs) runs ∙ sym is_b.blocks_are
 
 -- one list of blocks for each list of spans
 pub AreBlocks-unique : (IsNext : Extent → Extent → Type 0) (low high : ℕ) (spans a b : List Extent) → AreBlocks IsNext low high spans a → AreBlocks IsNext low high spans b → a ≡ b

@@ -7,7 +7,8 @@ use Rattle.std.proofs.lemmas.List.Elements.{All-append, Contains-append_left, Co
 use Rattle.std.proofs.lemmas.List.Kept.{AllPairs-cons}
 use Rattle.span_token.specs.Extents.{Extent, nth_extent}
 use Rattle.span_token.specs.RisingLists.{AllPairs-head, AllPairs-tail, AllPairs-range, AllPairs-map, Contains-range, in_range}
-use Rattle.span_sets.specs.Blocks.{IsRun, AreBlocksOf, block_of}
+use Rattle.span_token.specs.SourceTokens.{run_extent}
+use Rattle.span_sets.specs.Blocks.{IsRun, AreBlocksOf}
 use Rattle.span_sets.specs.LawProofs.SpanLists.{Contains-shown, from_shown}
 
 -- pairs of two lists end to end
@@ -32,7 +33,7 @@ pub record HasRuns (IsNext : Extent → Extent → Type 0) (low high : ℕ) (spa
   pub runs : List (ℕ × ℕ)
   pub rising : AllPairs IsEarlier runs
   pub exactly : (a b : ℕ) → Contains runs (a, b) ↔ ((a < i) × IsRun IsNext low high spans a b)
-  pub found_is : found ≡ map (λ r. block_of spans r.0 r.1) runs
+  pub found_is : found ≡ map (λ r. run_extent spans r.0 r.1) runs
 
 module _ (IsNext : Extent → Extent → Type 0) (low high : ℕ) (spans : List Extent) where
   pub HasRuns-none : HasRuns IsNext low high spans 0 []
@@ -52,7 +53,7 @@ module _ (IsNext : Extent → Extent → Type 0) (low high : ℕ) (spans : List 
   }
 
   -- the runs that begin with one more span, by their last spans
-  pub HasRuns-more : (i : ℕ) (ends : List ℕ) → AllPairs (λ j k. j < k) ends → ((j : ℕ) → Contains ends j ↔ IsRun IsNext low high spans i j) → (found : List Extent) → HasRuns IsNext low high spans i found → HasRuns IsNext low high spans (i + 1) (found ++ map (block_of spans i) ends)
+  pub HasRuns-more : (i : ℕ) (ends : List ℕ) → AllPairs (λ j k. j < k) ends → ((j : ℕ) → Contains ends j ↔ IsRun IsNext low high spans i j) → (found : List Extent) → HasRuns IsNext low high spans i found → HasRuns IsNext low high spans (i + 1) (found ++ map (run_extent spans i) ends)
   HasRuns-more i ends up run found has =
       let more : List (ℕ × ℕ) = map (pair_with i) ends in
       record {
@@ -77,8 +78,8 @@ module _ (IsNext : Extent → Extent → Type 0) (low high : ℕ) (spans : List 
                 Contains-append_right has.runs more (a, b) (subst (λ (n : ℕ). Contains more (n, b)) (sym e) (Contains-shown (pair_with i) ends b there))
           ]),
         );
-        found_is = ap₂ (λ (xs ys : List Extent). xs ++ ys) has.found_is (sym (map_map (λ (r : ℕ × ℕ). block_of spans r.0 r.1) (pair_with i) ends))
-            ∙ sym (map-append (λ (r : ℕ × ℕ). block_of spans r.0 r.1) has.runs more);
+        found_is = ap₂ (λ (xs ys : List Extent). xs ++ ys) has.found_is (sym (map_map (λ (r : ℕ × ℕ). run_extent spans r.0 r.1) (pair_with i) ends))
+            ∙ sym (map-append (λ (r : ℕ × ℕ). run_extent spans r.0 r.1) has.runs more);
       }
     where
       later : (ks : List ℕ) → AllPairs (λ j k. j < k) ks → AllPairs (λ j k. IsEarlier (pair_with i j) (pair_with i k)) ks
@@ -108,7 +109,7 @@ module _ (IsNext : Extent → Extent → Type 0) (low high : ℕ) (spans : List 
         let here : j < to = (ends j run.ordered).1 (short, run.at_most) in
         ((begins j here).1 (run.ordered, run.at_least), here)
 
-    pub HasRuns-next : (found : List Extent) → HasRuns IsNext low high spans i found → HasRuns IsNext low high spans (i + 1) (found ++ map (block_of spans i) (range_with_len from (to - from)))
+    pub HasRuns-next : (found : List Extent) → HasRuns IsNext low high spans i found → HasRuns IsNext low high spans (i + 1) (found ++ map (run_extent spans i) (range_with_len from (to - from)))
     HasRuns-next found has = HasRuns-more i (range_with_len from (to - from)) (AllPairs-range from (to - from)) runs found has
       where
         runs : (j : ℕ) → Contains (range_with_len from (to - from)) j ↔ IsRun IsNext low high spans i j

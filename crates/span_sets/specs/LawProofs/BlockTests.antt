@@ -18,12 +18,13 @@ use Rattle.aql_base.specs.SortingLaws.{SameBag-sorted_by, IsSorted-sorted_by, so
 use Rattle.span_token.specs.Documents.{Doc, characters}
 use Rattle.span_token.specs.Extents.{Extent, nth_extent}
 use Rattle.span_token.specs.Relations.{Follows, FollowsTok, does_follow, does_follow_tok, tokens_between}
+use Rattle.span_token.specs.SourceTokens.{run_extent}
 use Rattle.span_token.specs.SpanOrder.{IsBefore, extent_cmp}
 use Rattle.span_token.specs.Tokens.{tokens_of}
 use Rattle.span_token.specs.ExtentLaws.{same_extent}
 use Rattle.span_token.specs.RisingLists.{Contains-cases, Contains-here, Contains-there, Contains-range, in_range}
 use Rattle.span_token.specs.SpanOrderLaws.{before_from_Less}
-use Rattle.span_sets.specs.Blocks.{IsNeighbour, AreDistinct, IsRun, AreBlocks, block_of, is_neighbour, is_run, ends_of, blocks_before, distinct_of, blocks_of}
+use Rattle.span_sets.specs.Blocks.{IsNeighbour, AreDistinct, IsRun, AreBlocks, is_neighbour, is_run, ends_of, blocks_before, distinct_of, blocks_of}
 use Rattle.span_sets.specs.LawProofs.BlockLaws.{AreBlocks-unique}
 use Rattle.span_sets.specs.LawProofs.BlockLists.{HasRuns, HasRuns-none, HasRuns-more, HasRuns-all}
 use Rattle.span_sets.specs.LawProofs.CandidateLists.{pairs, nat_exact, then_equal}
@@ -117,7 +118,7 @@ module _ (is_next : Extent → Extent → Bool) (IsNext : Extent → Extent → 
     HasRuns-before zero = HasRuns-none IsNext low high spans
     HasRuns-before (suc i) =
         let next : i + 1 ≡ suc i = omega arith in
-        subst (λ n. HasRuns IsNext low high spans n (blocks_before is_next low high spans i ++ map (block_of spans i) (ends_of is_next low high spans i))) next
+        subst (λ n. HasRuns IsNext low high spans n (blocks_before is_next low high spans i ++ map (run_extent spans i) (ends_of is_next low high spans i))) next
         (HasRuns-more IsNext low high spans i (ends_of is_next low high spans i) (AllPairs-from_increasing (ends_of is_next low high spans i) (IsStrictlyIncreasing-filter (is_run is_next low high spans i) (range_with_len 0 (length spans)) (IsStrictlyIncreasing-range (length spans))))
         (runs_at i) (blocks_before is_next low high spans i) (HasRuns-before i))
 

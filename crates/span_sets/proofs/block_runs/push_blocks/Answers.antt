@@ -4,9 +4,9 @@ use Rattle.std.specs.List.{range_with_len}
 use Rattle.std.proofs.lemmas.List.{map_push, get_or-map}
 use Rattle.std.proofs.lemmas.List.FromFn.{map-range_with_len_more}
 use Rattle.span_token.specs.Extents.{Extent, extent_of, nth_extent}
+use Rattle.span_token.specs.SourceTokens.{run_extent}
 use Rattle.span_token.specs.declared.span.Span.{Span}
 use Rattle.span_token.specs.ExtentLaws.{same_extent}
-use Rattle.span_sets.specs.Blocks.{block_of}
 use Rattle.span_sets.proofs.block_runs.push_blocks.Goals as goal
 
 -- what is read by a number
@@ -29,14 +29,14 @@ loop-j-preserved c =
     let last = read_at c.args.spans.now j c.index-spans-j.result (omega (arith, c.requires.to, c.loop-j-test.true)) in
     let here : from + (j - from) ≡ j = omega (arith, c.loop-j.auto.j) in
     let next : (j - from) + 1 ≡ (j + 1) - from = omega (arith, c.loop-j.auto.j) in
-    let grown : map (block_of spans i) (range_with_len from ((j + 1) - from)) ≡ map (block_of spans i) (range_with_len from (j - from)) ++ block_of spans i j ∷ [] =
-    ap (λ (n : ℕ). map (block_of spans i) (range_with_len from n)) (sym next) ∙ map-range_with_len_more (block_of spans i) from (j - from) j here in
+    let grown : map (run_extent spans i) (range_with_len from ((j + 1) - from)) ≡ map (run_extent spans i) (range_with_len from (j - from)) ++ run_extent spans i j ∷ [] =
+    ap (λ (n : ℕ). map (run_extent spans i) (range_with_len from n)) (sym next) ∙ map-range_with_len_more (run_extent spans i) from (j - from) j here in
     let block : Extent = record { begin = (get_or c.args.spans.now i c.index-spans-first.result).begin; end = (get_or c.args.spans.now j c.index-spans-j.result).end } in
-    let same : block ≡ block_of spans i j = same_extent block (block_of spans i j) (sym (ap (λ (e : Extent). e.begin) first)) (sym (ap (λ (e : Extent). e.end) last)) in
+    let same : block ≡ run_extent spans i j = same_extent block (run_extent spans i j) (sym (ap (λ (e : Extent). e.begin) first)) (sym (ap (λ (e : Extent). e.end) last)) in
     record {
       pushed = ap (λ (xs : List Span). map extent_of xs) c.in_ok-push.ensures.items ∙ map_push extent_of c.loop-j.found.items _
           ∙ ap₂ (λ (xs : List Extent) (e : Extent). xs ++ e ∷ []) c.loop-j.invariant.pushed same
-          ∙ append_assoc (map extent_of c.args.found.now.items) (map (block_of spans i) (range_with_len from (j - from))) (block_of spans i j ∷ [])
+          ∙ append_assoc (map extent_of c.args.found.now.items) (map (run_extent spans i) (range_with_len from (j - from))) (run_extent spans i j ∷ [])
           ∙ ap (λ (xs : List Extent). map extent_of c.args.found.now.items ++ xs) (sym grown);
       none = λ h. absurd (omega (arith, h, c.loop-j.auto.j, c.loop-j-test.true));
     }
@@ -49,5 +49,5 @@ returns c =
     ] in
     record {
       blocks = c.loop-j.invariant.pushed
-          ∙ ap (λ (n : ℕ). map extent_of c.args.found.now.items ++ map (block_of (map extent_of c.args.spans.now) c.args.first) (range_with_len c.args.from n)) many;
+          ∙ ap (λ (n : ℕ). map extent_of c.args.found.now.items ++ map (run_extent (map extent_of c.args.spans.now) c.args.first) (range_with_len c.args.from n)) many;
     }

@@ -5,9 +5,10 @@ use Rattle.std.proofs.lemmas.List.Elements.{All-append, All-map, All-contains_it
 use Rattle.std.specs.List.{range_with_len}
 use Rattle.span_token.specs.Documents.{Doc, LiesIn}
 use Rattle.span_token.specs.Extents.{Extent, extent_of, nth_extent}
+use Rattle.span_token.specs.SourceTokens.{run_extent}
 use Rattle.span_token.specs.declared.span.Span.{Span}
 use Rattle.span_token.specs.RisingLists.{in_range}
-use Rattle.span_sets.specs.Blocks.{IsNeighbour, block_of}
+use Rattle.span_sets.specs.Blocks.{IsNeighbour}
 use Rattle.span_sets.specs.LawProofs.BlockLists.{HasRuns, HasRuns-next, HasRuns-all}
 use Rattle.span_sets.proofs.RowOrders.{All-shown}
 use Rattle.span_sets.specs.LawProofs.SpanLists.{spans_ordered, begins_rise}
@@ -28,9 +29,9 @@ ends_by : (i end to high sum : ℕ) → to ≡ min end sum → sum ≡ min (i + 
 ends_by i end to high sum is sum_is small j h = ((λ g. (omega (arith, g, is, sum_is, small, h), omega (arith, g, is, sum_is, small, h))), (λ g. omega (arith, g, is, sum_is, small, h)))
 
 -- blocks lie in the document that their spans lie in
-blocks_lie : (doc : Doc) (spans : List Span) (i from to : ℕ) → All (λ s. LiesIn (extent_of s) doc) spans → to ≤ length spans → All (λ e. LiesIn e doc) (map (block_of (map extent_of spans) i) (range_with_len from (to - from)))
+blocks_lie : (doc : Doc) (spans : List Span) (i from to : ℕ) → All (λ s. LiesIn (extent_of s) doc) spans → to ≤ length spans → All (λ e. LiesIn e doc) (map (run_extent (map extent_of spans) i) (range_with_len from (to - from)))
 blocks_lie doc spans i from to all within =
-    All-map (λ e. LiesIn e doc) (block_of (map extent_of spans) i) (range_with_len from (to - from)) (λ k d h.
+    All-map (λ e. LiesIn e doc) (run_extent (map extent_of spans) i) (range_with_len from (to - from)) (λ k d h.
     let there = in_range from (to - from) _ (All-contains_itself (range_with_len from (to - from)) k d h) in
     All-map (λ e. LiesIn e doc) extent_of spans all _ (record { begin = 0; end = 0 }) (omega (arith, there, within, length-map spans extent_of)))
 
