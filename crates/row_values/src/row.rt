@@ -10,10 +10,10 @@ use std::cmp::Ordering;
 use std::hash::{Hash, Hasher};
 use std::marker::Model;
 
-/// A row: a list of values, fewer than 2^32. Up to four values take no memory of their own.
+/// A row: a list of values, fewer than 2^32. Up to two values take no memory of their own.
 #[derive(Debug, Drop)]
 pub struct Row<'d> {
-    values: SmallVec<Value<'d>, 4>,
+    values: SmallVec<Value<'d>, 2>,
 }
 
 impl<'d> Model for Row<'d> {
