@@ -1,7 +1,8 @@
 -- What several writes in a row do to the bytes that a sink holds.
-use Rattle.std.proofs.Common.{ℕ, ◌+◌, ◌-◌, ◌≤◌, List, [], ◌++◌, length, take, drop, ap, append_assoc, ◌∙◌, sym, None, Some, Option, Result, Ok, Err, arith}
-use Rattle.std.proofs.Math.Seq.{take-add}
-use Rattle.std.proofs.lemmas.List.{take_rest, take_all, append-nil}
+use Rattle.std.proofs.Common.{ℕ, ◌+◌, ◌-◌, ◌≤◌, List, [], ◌++◌, length, take, drop, ap, append_assoc, ◌∙◌, sym, None, Some, Option, Result, Ok, Err, inl, inr, le_refl, arith}
+use Rattle.std.proofs.Math.Seq.{take-add, take-append-add}
+use Rattle.std.proofs.lemmas.Bool.{cases_lt}
+use Rattle.std.proofs.lemmas.List.{take_rest, take_all, take-append-le, append-nil}
 use Rattle.std.specs.Io.KnownBytes.{Appends}
 use Rattle.aqlx_top.specs.Prefixes.{AppendsFront}
 
@@ -31,3 +32,18 @@ front_of_whole a b (Err e) xs h = let same : length xs ≤ length xs = omega ari
 pub appends_nothing : (a : Option (List ℕ)) → Appends a a []
 appends_nothing None = tt
 appends_nothing (Some xs) = sym (append-nil xs)
+
+-- all of a text, and a front of what is behind it
+pub front_behind : (a b c : Option (List ℕ)) (xs ys : List ℕ) → Appends a b xs → (n : ℕ) → Appends b c (take n ys) → (k : ℕ) × Appends a c (take k (xs ++ ys))
+front_behind a b c xs ys h n k = (length xs + n, rw (take-append-add xs ys n) (appends_more a b c xs (take n ys) h k))
+
+pub front_more : {T E : Type 0} (a b c : Option (List ℕ)) (r : Result T E) (xs ys : List ℕ) → Appends a b xs → AppendsFront b c r ys → AppendsFront a c r (xs ++ ys)
+front_more a b c (Ok x) xs ys h k = appends_more a b c xs ys h k
+front_more a b c (Err e) xs ys h k = front_behind a b c xs ys h k.0 k.1
+
+-- a front of a text is one of what goes on behind it
+pub front_wider : (a b : Option (List ℕ)) (xs ys : List ℕ) (n : ℕ) → Appends a b (take n xs) → (k : ℕ) × Appends a b (take k (xs ++ ys))
+front_wider a b xs ys n h = elim (cases_lt n (length xs)) [
+  | inl short ↦ (n, rw (take-append-le n xs ys (omega (arith, short))) h)
+  | inr long ↦ (length xs, rw (take-append-le (length xs) xs ys (le_refl (length xs)), take_all (length xs) xs (le_refl (length xs))) (rw (take_all n xs (omega (arith, long))) at h))
+]

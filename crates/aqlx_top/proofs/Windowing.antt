@@ -150,7 +150,7 @@ module _ (piece : Doc → List ℕ) (left_before left_now left_next : Option (Li
 
   module _ (s : Stands piece (source_ends left_before left_now faults_before faults_now) before now reading (meant_by piece pending window) number)
       (going : IfSome reading.last (λ step. step ≡ End)) (next : NextLine left_now left_next faults_now faults_next reading mid.reader mid.line.items Line)
-      (within : mid.reader.taken ≤ corpus_limit) (counts : mid.number ≡ number + 1) (same : mid.pending.items ≡ pending) (there : mid.window.items ≡ window) where
+      (within : mid.reader.taken ≤ corpus_limit) (counts : mid.number ≡ number + 1) (same : mid.pending ≡ pending) (there : mid.window.items ≡ window) where
     -- the line was looked at, and isn't bad
     looked_at : is_bad_line mid.line.items ≡ false → Stands piece corpus before now mid.reader (meant_by piece pending window ++ written_for piece (mid.line.items ∷ [])) mid.number
     looked_at good =
@@ -158,41 +158,41 @@ module _ (piece : Doc → List ℕ) (left_before left_now left_next : Option (Li
         s next within good refl counts
 
     -- what is meant where the line's document is in the window
-    put_behind : (good : _) → IsPut mid after good → meant_by piece after.pending.items after.window.items ≡ meant_by piece pending window ++ written_for piece (mid.line.items ∷ [])
+    put_behind : (good : _) → IsPut mid after good → meant_by piece after.pending after.window.items ≡ meant_by piece pending window ++ written_for piece (mid.line.items ∷ [])
     put_behind good is =
         ap (λ (bytes : List ℕ). meant_by piece bytes after.window.items) (is.pending ∙ same)
         ∙ meant_more piece pending window after.window.items (documents (mid.line.items ∷ [])) (is.documents_are ∙ ap (λ (docs : List Input). map doc_of docs ++ documents (mid.line.items ∷ [])) there)
 
-    taken_turned : (turn : Turn) → HasTaken mid after turn → Turned piece corpus before now after.reader (meant_by piece after.pending.items after.window.items) after.number (Ok turn)
+    taken_turned : (turn : Turn) → HasTaken mid after turn → Turned piece corpus before now after.reader (meant_by piece after.pending after.window.items) after.number (Ok turn)
     taken_turned Next is = rw (is.reader, is.number) (stands_with piece corpus before now mid.reader _ _ mid.number (sym (put_behind true is)) (looked_at is.good_is))
     taken_turned (Ended status) is =
         let line = mid.line.items in
         let bad : is_bad_line line ≡ true = is.0.good_is in
-        let kept : meant_by piece after.pending.items after.window.items ≡ meant_by piece pending window = pending_for_bad piece (meant_by piece pending window) (meant_by piece after.pending.items after.window.items) line bad (put_behind false is.0) in
+        let kept : meant_by piece after.pending after.window.items ≡ meant_by piece pending window = pending_for_bad piece (meant_by piece pending window) (meant_by piece after.pending after.window.items) line bad (put_behind false is.0) in
         let short = line_is_short left_now left_next faults_now faults_next reading.ready reading.taken reading.last mid.reader line going next in
         rw is.1
-        (finished_with piece corpus before now (meant_by piece pending window) (meant_by piece after.pending.items after.window.items) _ (sym kept)
+        (finished_with piece corpus before now (meant_by piece pending window) (meant_by piece after.pending after.window.items) _ (sym kept)
         (ended_bad piece left_before left_now left_next faults_before faults_now faults_next before now reading mid.reader (meant_by piece pending window) line number mid.number s next bad (short_is line short) counts))
 
-    answered_turned : HasAnswered piece mid after → Stands piece corpus before now after.reader (meant_by piece after.pending.items after.window.items) after.number
+    answered_turned : HasAnswered piece mid after → Stands piece corpus before now after.reader (meant_by piece after.pending after.window.items) after.number
     answered_turned is =
         let put = is.put in
         let alone : meant_by piece pending window ≡ pending = meant_alone piece pending window (sym there ∙ is.empty_before) in
-        let first : Stands piece corpus before now mid.reader (mid.pending.items ++ written_for piece (mid.line.items ∷ [])) mid.number =
+        let first : Stands piece corpus before now mid.reader (mid.pending ++ written_for piece (mid.line.items ∷ [])) mid.number =
         stands_with piece corpus before now mid.reader _ _ mid.number (ap (λ (b : List ℕ). b ++ written_for piece (mid.line.items ∷ [])) (alone ∙ sym same)) (looked_at put.good) in
         let all = stands_past piece corpus before now mid.reader _ mid.number is.taken.bytes is.taken.lines put.text first (line_kind left_now left_next faults_now faults_next reading.ready reading.taken reading.last mid.reader mid.line.items going next) put.answered in
         let few = number_within piece left_before left_next faults_before faults_next before now (past is.taken.bytes mid.reader) _ (mid.number + is.taken.lines) all in
         let counted = is.counted (omega (arith, few)) in
         rw (is.rest, counted)
-        (stands_with piece corpus before now (past is.taken.bytes mid.reader) _ _ (mid.number + is.taken.lines) (sym put.put ∙ sym (meant_alone piece after.pending.items after.window.items is.empty)) all)
+        (stands_with piece corpus before now (past is.taken.bytes mid.reader) _ _ (mid.number + is.taken.lines) (sym put.put ∙ sym (meant_alone piece after.pending after.window.items is.empty)) all)
 
     -- what a line that was given comes to
-    pub given_turned : (turn : Turn) → IsGiven piece mid after turn → Turned piece corpus before now after.reader (meant_by piece after.pending.items after.window.items) after.number (Ok turn)
+    pub given_turned : (turn : Turn) → IsGiven piece mid after turn → Turned piece corpus before now after.reader (meant_by piece after.pending after.window.items) after.number (Ok turn)
     given_turned turn (inl is) = taken_turned turn is
     given_turned turn (inr is) = rw is.0 (answered_turned is.1)
 
     -- and where memory is wanting for it
-    pub given_result : (result : Result Turn OutOfMemory) → IfOk result (IsGiven piece mid after) → Turned piece corpus before now after.reader (meant_by piece after.pending.items after.window.items) after.number result
+    pub given_result : (result : Result Turn OutOfMemory) → IfOk result (IsGiven piece mid after) → Turned piece corpus before now after.reader (meant_by piece after.pending after.window.items) after.number result
     given_result (Ok turn) is = given_turned turn is
     given_result (Err none) is =
         part_of_next piece left_before left_now left_next faults_before faults_now faults_next before now reading mid.reader (meant_by piece pending window) mid.line.items number s next

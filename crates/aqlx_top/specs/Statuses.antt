@@ -2,6 +2,7 @@
 use Rattle.std.specs.Prelude.{ℕ, List, [], ◌∷◌, ◌++◌, codes}
 use Rattle.std.specs.Fmt.{decimal}
 use Rattle.std.specs.List.{flat_map}
+use Rattle.corpus_json.specs.Limits.{line_limit}
 use Rattle.aqlx_top.specs.Devices.{SinkEnds, GainedFront, HasSent, IsUntouched}
 use Rattle.aqlx_top.specs.declared.status.Status.{Status}
 use Rattle.aqlx_top.specs.declared.status.Status.TheVariants.{Done, Program, Usage, Corpus, ReadFault, WriteFault}
@@ -67,7 +68,7 @@ program_text (Mistyped statement place rule) = place_text statement place (rule_
 
 abbrev pub corpus_text : CorpusFault → List ℕ
 corpus_text (BadLine line) = codes "corpus line " ++ decimal line ++ codes " is not a document"
-corpus_text (LineLong line) = codes "corpus line " ++ decimal line ++ codes " is longer than 16777216 bytes"
+corpus_text (LineLong line) = codes "corpus line " ++ decimal line ++ codes " is longer than " ++ decimal line_limit ++ codes " bytes"
 corpus_text CorpusLarge = codes "corpus too large"
 
 -- what a status writes on standard error: one line, and nothing where all is done or writing failed

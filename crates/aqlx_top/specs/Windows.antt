@@ -39,7 +39,7 @@ pub record Fits (plan : Parts) (work : Windowed) : Type 0 where
 pub record IsPut (before now : Windowed) (good : Bool) : Type 0 where
   pub good_is : is_bad_line before.line.items ≡ not good
   pub documents_are : map doc_of now.window.items ≡ map doc_of before.window.items ++ documents (before.line.items ∷ [])
-  pub pending : now.pending.items ≡ before.pending.items
+  pub pending : now.pending ≡ before.pending
   pub reader : now.reader ≡ before.reader
   pub number : now.number ≡ before.number
 
@@ -51,7 +51,7 @@ HasTaken before now (Ended status) = IsPut before now false × (status ≡ Corpu
 -- what is written for the line that was given, and for those that were ready, is pending
 pub record HasAnswered (piece : Doc → List ℕ) (before now : Windowed) : Type 0 where
   pub taken : Answered
-  pub put : IsAnswered piece before.line.items before.reader.ready taken before.pending.items now.pending.items
+  pub put : IsAnswered piece before.line.items before.reader.ready taken before.pending now.pending
   pub rest : now.reader ≡ past taken.bytes before.reader
   pub risen : before.number ≤ now.number
   pub counted : before.number + taken.lines < 2 ^ 64 → now.number ≡ before.number + taken.lines
@@ -62,7 +62,7 @@ pub record HasAnswered (piece : Doc → List ℕ) (before now : Windowed) : Type
 pub record IsAsBefore (before now : Windowed) : Type 0 where
   pub line : now.line ≡ before.line
   pub window : now.window ≡ before.window
-  pub pending : now.pending.items ≡ before.pending.items
+  pub pending : now.pending ≡ before.pending
   pub reader : now.reader ≡ before.reader
   pub number : now.number ≡ before.number
   pub most : now.most ≡ before.most

@@ -22,7 +22,7 @@ use algebra::Plan;
 use aql_io::Sink;
 use corpus_json::{InputRef, Layout};
 use demo_corpus::{DEMO, Totals, gen_document};
-use plan_operators::{Schedule, evaluate};
+use plan_operators::{EvaluationRoom, Schedule, evaluate};
 use row_values::Rows;
 use run_pool::{Answered, Pool};
 use scalar_ops::Tools;
@@ -73,6 +73,7 @@ fn summary<P: Pool>(
     let mut tools = Tools::new(alloc, plan.tables())?;
     let outputs = outputs_of(alloc, plan)?;
     let layout = Layout::new(alloc, &outputs)?;
+    let mut room = EvaluationRoom::new(alloc);
     let mut totals = Totals::new(alloc, outputs.len())?;
     'documents: for i in 0..count {
         count_document(
@@ -80,6 +81,7 @@ fn summary<P: Pool>(
             &schedule,
             with_tokens,
             &mut tools,
+            &mut room,
             &layout,
             i,
             pool,
@@ -95,6 +97,7 @@ fn count_document<P: Pool>(
     schedule: &Schedule<'_>,
     with_tokens: bool,
     tools: &mut Tools<'_>,
+    room: &mut EvaluationRoom,
     layout: &Layout<'_>,
     i: u32,
     pool: &mut P,
@@ -103,7 +106,7 @@ fn count_document<P: Pool>(
     requires layout { layout.now ≡ names_in schedule.now }
     requires tables { tools.old ≡ schedule.now.lists }
     requires one_of_each { length totals.old.totals ≡ length schedule.now.outputs }
-    requires room { totals.old.documents < 2 ^ 32 - 1 }
+    requires countable { totals.old.documents < 2 ^ 32 - 1 }
     ensures counted { OnOk result (IsCounted (length schedule.now.outputs) (P.means pool.old schedule.now (generated i)) totals.old totals.new) }
     ensures handed { AreHanded (P.told pool.old) (P.told pool.new) (entry_of (P.means pool.old) schedule.now (generated i) ∷ []) result }
     ensures means { P.means pool.new ≡ P.means pool.old }
@@ -115,6 +118,7 @@ fn count_document<P: Pool>(
         schedule,
         with_tokens,
         tools,
+        room,
         layout,
         lent(&input),
         pool,
@@ -128,6 +132,7 @@ fn count_rows<P: Pool>(
     schedule: &Schedule<'_>,
     with_tokens: bool,
     tools: &mut Tools<'_>,
+    room: &mut EvaluationRoom,
     layout: &Layout<'_>,
     input: InputRef<'_>,
     pool: &mut P,
@@ -137,14 +142,14 @@ fn count_rows<P: Pool>(
     requires tables { tools.old ≡ schedule.now.lists }
     requires short { length input.text.now ≤ text_limit }
     requires one_of_each { length totals.old.totals ≡ length schedule.now.outputs }
-    requires room { totals.old.documents < 2 ^ 32 - 1 }
+    requires countable { totals.old.documents < 2 ^ 32 - 1 }
     ensures counted { OnOk result (IsCounted (length schedule.now.outputs) (P.means pool.old schedule.now (doc_of_ref input.entry)) totals.old totals.new) }
     ensures handed { AreHanded (P.told pool.old) (P.told pool.new) (entry_of (P.means pool.old) schedule.now (doc_of_ref input.entry) ∷ []) result }
     ensures means { P.means pool.new ≡ P.means pool.old }
     ensures same { tools.new ≡ tools.old }
 {
     let document = document_of(alloc, with_tokens, input)?;
-    let board = evaluate(alloc, tools, &document, schedule)?;
+    let board = evaluate(alloc, tools, room, &document, schedule)?;
     count_shown(
         alloc,
         schedule.plan(),
@@ -171,7 +176,7 @@ fn count_shown<'d, P: Pool>(
     requires long { length board.now ≡ length plan.now.nodes }
     requires shown { All (λ out. Holds plan.now.lists document.now plan.now.nodes out.node (slice_index_or board.now out.node None)) plan.now.outputs }
     requires one_of_each { length totals.old.totals ≡ length plan.now.outputs }
-    requires room { totals.old.documents < 2 ^ 32 - 1 }
+    requires countable { totals.old.documents < 2 ^ 32 - 1 }
     ensures counted { OnOk result (IsCounted (length plan.now.outputs) (P.means pool.old plan.now document.now) totals.old totals.new) }
     ensures handed { AreHanded (P.told pool.old) (P.told pool.new) (entry_of (P.means pool.old) plan.now document.now ∷ []) result }
     ensures means { P.means pool.new ≡ P.means pool.old }
@@ -201,7 +206,7 @@ fn count_answered<'d, P: Pool>(
     requires layout { layout.now ≡ names_in plan.now }
     requires found { IsAnswer rows_by plan.now document.now (map (λ list. list.now) found.now) }
     requires one_of_each { length totals.old.totals ≡ length plan.now.outputs }
-    requires room { totals.old.documents < 2 ^ 32 - 1 }
+    requires countable { totals.old.documents < 2 ^ 32 - 1 }
     ensures counted { OnOk result (IsCounted (length plan.now.outputs) (P.means pool.old plan.now document.now) totals.old totals.new) }
     ensures handed { AreHanded (P.told pool.old) (P.told pool.new) (entry_of (P.means pool.old) plan.now document.now ∷ []) result }
     ensures means { P.means pool.new ≡ P.means pool.old }
@@ -229,7 +234,7 @@ fn count<'d, P: Pool>(
 )
     requires rows { IsAnswer (P.means pool.now) plan.now document.now (map (λ list. list.now) rows.now) }
     requires one_of_each { length totals.old.totals ≡ length plan.now.outputs }
-    requires room { totals.old.documents < 2 ^ 32 - 1 }
+    requires countable { totals.old.documents < 2 ^ 32 - 1 }
     ensures { IsCounted (length plan.now.outputs) (P.means pool.now plan.now document.now) totals.old totals.new }
 {
     let _ = plan;

@@ -1,8 +1,10 @@
 ghost use Rattle.std.specs.Prelude.{◌≡◌, ◌≤◌, OnErr, OnOk, IfSome, is_some, length};
 ghost use Rattle.aql_io.specs.Causes.{Rose};
+ghost use Rattle.window_lines.specs.Pending.{texts_of};
 ghost use Rattle.aqlx_top.specs.Prefixes.{AppendsFront};
 
 use aql_io::{Failed, Sink};
+use window_lines::Pending;
 
 /// Writes `piece` whole, in as many calls as the sink wants; after a failed call a prefix of it is
 /// written, and nothing more is tried.
@@ -22,6 +24,35 @@ pub(crate) fn put<O: Sink>(out: &mut O, piece: &[u8]) -> Result<(), Failed>
     Ok(())
 }
 
+/// Writes all that is pending, one text after another, as `put` does.
+pub(crate) fn put_all<O: Sink>(out: &mut O, pending: &Pending) -> Result<(), Failed>
+    ensures bytes { AppendsFront (O.held out.old) (O.held out.new) result pending.now }
+    ensures told { is_some (O.held out.new) ≡ is_some (O.held out.old) }
+    ensures flushed { O.flushed out.new ≡ O.flushed out.old }
+    ensures stands { OnOk result (O.faults out.new ≡ O.faults out.old) }
+    ensures later { O.faults out.old ≤ O.faults out.new }
+    ensures cause { OnErr result (Rose (O.faults out.old) (O.faults out.new)) }
+{
+    let texts = pending.texts();
+    put_texts(out, texts.whole)?;
+    put(out, texts.last)
+}
+
+/// Writes texts, one after another.
+fn put_texts<O: Sink>(out: &mut O, texts: &[Vec<u8>]) -> Result<(), Failed>
+    ensures bytes { AppendsFront (O.held out.old) (O.held out.new) result (texts_of texts.now) }
+    ensures told { is_some (O.held out.new) ≡ is_some (O.held out.old) }
+    ensures flushed { O.flushed out.new ≡ O.flushed out.old }
+    ensures stands { OnOk result (O.faults out.new ≡ O.faults out.old) }
+    ensures later { O.faults out.old ≤ O.faults out.new }
+    ensures cause { OnErr result (Rose (O.faults out.old) (O.faults out.new)) }
+{
+    for text in texts {
+        put(out, text.as_slice())?;
+    }
+    Ok(())
+}
+
 /// Writes `piece` whole and hands on all that the sink holds.
 pub(crate) fn put_and_flush<O: Sink>(out: &mut O, piece: &[u8]) -> Result<(), Failed>
     ensures bytes { AppendsFront (O.held out.old) (O.held out.new) result piece.now }
@@ -32,6 +63,21 @@ pub(crate) fn put_and_flush<O: Sink>(out: &mut O, piece: &[u8]) -> Result<(), Fa
     ensures cause { OnErr result (Rose (O.faults out.old) (O.faults out.new)) }
 {
     match put(out, piece) {
+        Ok(()) => out.flush(),
+        Err(failed) => Err(failed),
+    }
+}
+
+/// Writes all that is pending and hands on all that the sink holds.
+pub(crate) fn put_all_and_flush<O: Sink>(out: &mut O, pending: &Pending) -> Result<(), Failed>
+    ensures bytes { AppendsFront (O.held out.old) (O.held out.new) result pending.now }
+    ensures told { is_some (O.held out.new) ≡ is_some (O.held out.old) }
+    ensures flushed { OnOk result (IfSome (O.held out.new) (λ bytes. O.flushed out.new ≡ length bytes)) }
+    ensures stands { OnOk result (O.faults out.new ≡ O.faults out.old) }
+    ensures later { O.faults out.old ≤ O.faults out.new }
+    ensures cause { OnErr result (Rose (O.faults out.old) (O.faults out.new)) }
+{
+    match put_all(out, pending) {
         Ok(()) => out.flush(),
         Err(failed) => Err(failed),
     }

@@ -166,11 +166,7 @@ fn take_turn<S: Source, P: Pool>(
 
 /// Writes what is pending and flushes it.
 pub(crate) fn finish<O: Sink>(out: &mut O, pending: &[u8], status: Status) -> Status
-    ensures run { (piece : Doc → List ℕ) (corpus : SourceEnds) (before : Option (List ℕ)) (flushed faults : ℕ) →
-        O.faults out.old ≡ faults →
-        Finished piece corpus before (O.held out.old) pending.now status →
-        IsRunTo piece corpus (sink_ends before (O.held out.new) flushed (O.flushed out.new) faults (O.faults out.new)) result }
-    ensures by_pool { (pool : PoolEnds) (plan : Parts) (corpus : SourceEnds) (before : Option (List ℕ)) (flushed faults : ℕ) →
+    ensures { (pool : PoolEnds) (plan : Parts) (corpus : SourceEnds) (before : Option (List ℕ)) (flushed faults : ℕ) →
         O.faults out.old ≡ faults →
         FinishedBy pool plan corpus before (O.held out.old) pending.now status →
         IsRunBy pool plan corpus (sink_ends before (O.held out.new) flushed (O.flushed out.new) faults (O.faults out.new)) result }

@@ -7,6 +7,7 @@ use crate::put::put_and_flush;
 use crate::type_line::text_of_rule;
 use crate::{CorpusFault, NameFault, ProgramFault, Status, SyntaxFault, What};
 use aql_io::{Failed, Sink};
+use corpus_json::LINE_LIMIT;
 use span_token::{OutOfMemory, OwnedText};
 use std::alloc::Global;
 
@@ -179,9 +180,16 @@ fn text_of_corpus_fault(alloc: Global, fault: &CorpusFault) -> Result<String, Ou
         CorpusFault::BadLine(line) => Ok(format!(in alloc;
             "corpus line {line} is not a document"
         )?),
-        CorpusFault::LineLong(line) => {
-            Ok(format!(in alloc; "corpus line {line} is longer than 16777216 bytes")?)
-        }
+        CorpusFault::LineLong(line) => text_of_long_line(alloc, line),
         CorpusFault::CorpusLarge => Ok(String::from_str(alloc, "corpus too large")?),
     }
+}
+
+fn text_of_long_line(alloc: Global, line: u64) -> Result<String, OutOfMemory>
+    ensures { IfOk result (λ text. string_bytes text ≡ corpus_text (CorpusFault.LineLong line)) }
+{
+    let most = LINE_LIMIT;
+    let first = format!(in alloc; "corpus line {line} is longer than ")?;
+    let second = format!(in alloc; "{first}{most}")?;
+    Ok(format!(in alloc; "{second} bytes")?)
 }

@@ -9,17 +9,17 @@ ghost use Rattle.corpus_json.specs.Inputs.{doc_of};
 ghost use Rattle.corpus_json.specs.Limits.{line_limit};
 ghost use Rattle.run_pool.specs.Lines.{rows_by};
 ghost use Rattle.span_token.specs.Documents.{Doc};
-ghost use Rattle.aqlx_top.specs.Devices.{source_ends, source_between, sink_between};
+ghost use Rattle.aqlx_top.specs.Devices.{SourceEnds, source_ends, sink_ends, source_between, sink_between};
 ghost use Rattle.aqlx_top.specs.Endings.{InPart};
-ghost use Rattle.aqlx_top.specs.Progress.{Stands, IsGoing, IsRunTo};
+ghost use Rattle.aqlx_top.specs.Progress.{Finished, Stands, IsGoing, IsRunTo};
 ghost use Rattle.aqlx_top.specs.Planned.{line_by, names_in};
 ghost use Rattle.aqlx_top.specs.Turns.{Turned};
 ghost use Rattle.aqlx_top.specs.Windows.{meant_by, Fits, HasAnswered, HasTaken, IsAsBefore, IsGiven};
 ghost use Rattle.window_lines.specs.Lines.{AreShort};
 
 use crate::asks::asks_for_tokens;
-use crate::put::put;
-use crate::run::{PIECE, Turn, finish};
+use crate::put::{put_all, put_all_and_flush};
+use crate::run::{PIECE, Turn};
 use crate::{CorpusFault, Status};
 use algebra::Plan;
 use aql_io::{Failed, Sink, Source};
@@ -31,7 +31,7 @@ use run_pool::Pool;
 use span_token::{Failure, OutOfMemory};
 use std::alloc::Global;
 use std::thread::Threads;
-use window_lines::{Hands, append_ready, append_window};
+use window_lines::{Hands, Pending, append_ready, append_window};
 use worker_pool::Crew;
 
 /// The most documents of a window.
@@ -65,7 +65,7 @@ pub(crate) struct Windowed<'p> {
     pub most: usize,
     pub window: Vec<Input>,
     pub bytes: usize,
-    pub pending: Vec<u8>,
+    pub pending: Pending,
 }
 
 /// Runs a plan over a corpus as `run` does, with the documents evaluated by so many workers, each alone or in
@@ -101,7 +101,7 @@ pub(crate) fn run_in_windows<R: Threads + Sync, S: Source, O: Sink, P: Pool>(
         }
         match turn_in_window(rt, alloc, &mut work, pool, corpus)? {
             Turn::Next => {}
-            Turn::Ended(status) => return Ok(finish(out, &work.pending, status)),
+            Turn::Ended(status) => return Ok(finish_all(out, &work.pending, status)),
         }
     }
 }
@@ -116,7 +116,7 @@ fn begin_windows<'p>(
     requires outputs { outputs.now ≡ names_in plan.now }
     ensures fits { IfOk result (Fits plan.now) }
     ensures reader { IfOk result (λ work. work.reader ≡ record { ready = []; taken = 0; last = None }) }
-    ensures nothing { IfOk result (λ work. (work.pending.items ≡ []) × (work.window.items ≡ []) × (work.number ≡ 0)) }
+    ensures nothing { IfOk result (λ work. (work.pending ≡ []) × (work.window.items ≡ []) × (work.number ≡ 0)) }
 {
     let schedule = Schedule::new(alloc, plan)?;
     let with_tokens = asks_for_tokens(&schedule);
@@ -135,7 +135,7 @@ fn begin_windows<'p>(
         most: most_documents(plan) as usize,
         window: Vec::new(alloc),
         bytes: 0,
-        pending: Vec::new(alloc),
+        pending: Pending::new(alloc),
     })
 }
 
@@ -156,9 +156,9 @@ fn most_documents(plan: &Plan) -> u32
 /// yet, so that what is there stands on the output before the corpus is waited for.
 fn send_between<O: Sink>(out: &mut O, work: &mut Windowed<'_>) -> Result<(), Failed>
     ensures sent { (piece : Doc → List ℕ) (left_before left_now : Option (List ℕ)) (faults_before faults_now : ℕ) (before : Option (List ℕ)) →
-        Stands piece (source_ends left_before left_now faults_before faults_now) before (O.held out.old) work.old.reader (meant_by piece work.old.pending.items work.old.window.items) work.old.number →
+        Stands piece (source_ends left_before left_now faults_before faults_now) before (O.held out.old) work.old.reader (meant_by piece work.old.pending work.old.window.items) work.old.number →
         MatchResult result
-        (λ _. Stands piece (source_ends left_before left_now faults_before faults_now) before (O.held out.new) work.new.reader (meant_by piece work.new.pending.items work.new.window.items) work.new.number)
+        (λ _. Stands piece (source_ends left_before left_now faults_before faults_now) before (O.held out.new) work.new.reader (meant_by piece work.new.pending work.new.window.items) work.new.number)
         (λ _. InPart piece (source_ends left_before left_now faults_before faults_now) before (O.held out.new)) }
     ensures fits { OnOk result ((plan : Parts) → Fits plan work.old → Fits plan work.new) }
     ensures same { OnOk result ((work.new.reader ≡ work.old.reader) × (work.new.number ≡ work.old.number) × (work.new.most ≡ work.old.most) × (work.new.window.items ≡ work.old.window.items)) }
@@ -166,7 +166,7 @@ fn send_between<O: Sink>(out: &mut O, work: &mut Windowed<'_>) -> Result<(), Fai
     ensures cause { OnErr result (Rose (O.faults out.old) (O.faults out.new)) }
 {
     if is_to_send(work) {
-        put(out, &work.pending)?;
+        put_all(out, &work.pending)?;
         work.pending.clear();
     }
     Ok(())
@@ -177,7 +177,7 @@ fn send_between<O: Sink>(out: &mut O, work: &mut Windowed<'_>) -> Result<(), Fai
 fn is_to_send(work: &Windowed<'_>) -> bool
     ensures { result ≡ true → work.now.window.items ≡ [] }
 {
-    work.window.is_empty() && (work.pending.len() >= PIECE || !work.reader.has_line())
+    work.window.is_empty() && (work.pending.has_many(PIECE) || !work.reader.has_line())
 }
 
 /// Looks at the next line and at those that are ready, and evaluates the window where it is due: so it is
@@ -196,8 +196,8 @@ fn turn_in_window<R: Threads + Sync, S: Source, P: Pool>(
     requires room { work.old.number < 2 ^ 63 }
     requires going { IsGoing work.old.reader }
     ensures turned { (plan : Parts) (left : Option (List ℕ)) (faults : ℕ) (before now : Option (List ℕ)) → work.old.plan.now ≡ plan →
-        Stands (line_by plan) (source_ends left (S.left corpus.old) faults (S.faults corpus.old)) before now work.old.reader (meant_by (line_by plan) work.old.pending.items work.old.window.items) work.old.number →
-        Turned (line_by plan) (source_ends left (S.left corpus.new) faults (S.faults corpus.new)) before now work.new.reader (meant_by (line_by plan) work.new.pending.items work.new.window.items) work.new.number result }
+        Stands (line_by plan) (source_ends left (S.left corpus.old) faults (S.faults corpus.old)) before now work.old.reader (meant_by (line_by plan) work.old.pending work.old.window.items) work.old.number →
+        Turned (line_by plan) (source_ends left (S.left corpus.new) faults (S.faults corpus.new)) before now work.new.reader (meant_by (line_by plan) work.new.pending work.new.window.items) work.new.number result }
     ensures counts { IfOk result (λ came. came ≡ Turn.Next → work.old.number < work.new.number) }
     ensures going { IfOk result (λ came. came ≡ Turn.Next → IsGoing work.new.reader) }
     ensures fits { IfOk result (λ _. (plan : Parts) → Fits plan work.old → Fits plan work.new) }
@@ -230,8 +230,8 @@ fn take_line<R: Threads + Sync, S: Source, P: Pool>(
     requires room { work.old.number < 2 ^ 63 }
     requires going { IsGoing work.old.reader }
     ensures turned { (plan : Parts) (left : Option (List ℕ)) (faults : ℕ) (before now : Option (List ℕ)) → work.old.plan.now ≡ plan →
-        Stands (line_by plan) (source_ends left (S.left corpus.old) faults (S.faults corpus.old)) before now work.old.reader (meant_by (line_by plan) work.old.pending.items work.old.window.items) work.old.number →
-        Turned (line_by plan) (source_ends left (S.left corpus.new) faults (S.faults corpus.new)) before now work.new.reader (meant_by (line_by plan) work.new.pending.items work.new.window.items) work.new.number result }
+        Stands (line_by plan) (source_ends left (S.left corpus.old) faults (S.faults corpus.old)) before now work.old.reader (meant_by (line_by plan) work.old.pending work.old.window.items) work.old.number →
+        Turned (line_by plan) (source_ends left (S.left corpus.new) faults (S.faults corpus.new)) before now work.new.reader (meant_by (line_by plan) work.new.pending work.new.window.items) work.new.number result }
     ensures counts { IfOk result (λ came. came ≡ Turn.Next → work.old.number < work.new.number) }
     ensures going { IfOk result (λ came. came ≡ Turn.Next → IsGoing work.new.reader) }
     ensures fits { IfOk result (λ _. (plan : Parts) → Fits plan work.old → Fits plan work.new) }
@@ -424,7 +424,7 @@ fn evaluate_window<R: Threads + Sync, P: Pool>(
     requires fits { Fits work.old.plan.now work.old }
     requires as_found { P.means pool.old ≡ rows_by }
     requires untold { P.told pool.old ≡ None }
-    ensures meant { OnOk result (work.new.pending.items ≡ meant_by (line_by work.old.plan.now) work.old.pending.items work.old.window.items) }
+    ensures meant { OnOk result (work.new.pending ≡ meant_by (line_by work.old.plan.now) work.old.pending work.old.window.items) }
     ensures empty { OnOk result (work.new.window.items ≡ []) }
     ensures fits { OnOk result ((plan : Parts) → Fits plan work.old → Fits plan work.new) }
     ensures same { OnOk result ((work.new.reader ≡ work.old.reader) × (work.new.number ≡ work.old.number) × (work.new.most ≡ work.old.most)) }
@@ -446,4 +446,17 @@ fn evaluate_window<R: Threads + Sync, P: Pool>(
     work.window.clear();
     work.bytes = 0;
     Ok(())
+}
+
+/// Writes what is pending and flushes it.
+fn finish_all<O: Sink>(out: &mut O, pending: &Pending, status: Status) -> Status
+    ensures { (piece : Doc → List ℕ) (corpus : SourceEnds) (before : Option (List ℕ)) (flushed faults : ℕ) →
+        O.faults out.old ≡ faults →
+        Finished piece corpus before (O.held out.old) pending.now status →
+        IsRunTo piece corpus (sink_ends before (O.held out.new) flushed (O.flushed out.new) faults (O.faults out.new)) result }
+{
+    match put_all_and_flush(out, pending) {
+        Ok(()) => status,
+        Err(Failed) => Status::WriteFault,
+    }
 }

@@ -15,6 +15,10 @@ const PAIRS: &str = "create view N as extract regex /[0-9]+/ on D.text as num fr
 const TOKENS: &str = "create view P as extract regex /[0-9]+/ on 1 token in D.text as num \
     from Document D; output view P;";
 
+/// Each digit by itself.
+const DIGITS: &str = "create view P as extract regex /[0-9]/ on D.text as digit from Document D; \
+    output view P;";
+
 /// So many documents, every third without a number, and a blank line behind every fifth.
 fn corpus(alloc: Global, count: u32) -> Result<String, Fail> {
     let mut all = String::new(alloc);
@@ -125,6 +129,28 @@ fn joins_and_several_outputs_are_the_same_by_workers(rt: HostRuntime) -> Result<
     is_as_alone(&rt, alloc, PAIRS, text.as_str(), 0, "")
 }
 
+/// Documents of 5,800 equal digits and 11,000 letters, whose output lines have more than 262,144 bytes each, and a
+/// short one behind each.
+fn large_lines(alloc: Global) -> Result<String, Fail> {
+    let letters = repeated(alloc, "x", 11_000)?;
+    let mut all = String::new(alloc);
+    for digit in &["1", "2", "3"] {
+        let digits = repeated(alloc, digit, 5_800)?;
+        all.push_str("{\"text\":\"")?;
+        all.push_str(digits.as_str())?;
+        all.push_str(letters.as_str())?;
+        all.push_str("\"}\n{\"text\":\"9\"}\n")?;
+    }
+    Ok(all)
+}
+
+#[test]
+fn large_texts_of_workers_come_in_the_order_of_the_corpus(rt: HostRuntime) -> Result<(), Fail> {
+    let alloc = rt.alloc();
+    let text = large_lines(alloc)?;
+    is_as_alone(&rt, alloc, DIGITS, text.as_str(), 0, "")
+}
+
 /// Asserts that a run of which a write fails writes no more than a beginning of what it would have written.
 fn is_cut<R: Threads + Sync + Abort>(
     rt: &R,
@@ -157,6 +183,26 @@ fn a_failed_write_of_a_run_by_workers_leaves_the_lines_written_before_it(
             ..usual(NUMBERS, text.as_str())
         };
         is_cut(&rt, alloc, &setup, whole.as_bytes(), *call)?;
+    }
+    Ok(())
+}
+
+#[test]
+fn a_failed_write_between_large_texts_leaves_those_before_it(rt: HostRuntime) -> Result<(), Fail> {
+    let alloc = rt.alloc();
+    let text = large_lines(alloc)?;
+    let alone = run(&rt, alloc, &usual(DIGITS, text.as_str()))?;
+    assert_eq!(rt; alone.code, 0);
+    for call in &[1u64, 2, 3] {
+        let fails = [*call];
+        let setup = Setup {
+            words: &["run", "p.aql", "--workers", "4"],
+            piece: 1 << 20,
+            out_piece: 1 << 20,
+            out_fails: &fails,
+            ..usual(DIGITS, text.as_str())
+        };
+        is_cut(&rt, alloc, &setup, alone.out.bytes(), *call)?;
     }
     Ok(())
 }

@@ -6,13 +6,14 @@ ghost use Rattle.plan_operators.specs.Boards.{Holds, IsBoardOf};
 ghost use Rattle.plan_operators.specs.Filling.{IsAskedBy, IsEvaluated, IsNeededNode, IsStanding, shown_by};
 ghost use Rattle.plan_operators.specs.Readers.{number_of_readers, waits};
 
-use crate::Schedule;
 use crate::filling::{missing, rows_of, source_of};
+use crate::{EvaluationRoom, Schedule};
 use algebra::{Plan, PlanOut};
 use row_values::Rows;
 use scalar_ops::Tools;
 use span_token::{Document, OutOfMemory};
 use std::alloc::Global;
+use std::mem;
 
 /// The rows of the nodes that the outputs of a plan show, on a document.
 ///
@@ -27,13 +28,15 @@ use std::alloc::Global;
 /// has a row. Rows are given up to the last node that reads them, so that what only passes through isn't copied;
 /// what is given up, passed on or not asked for has no rows here.
 ///
-/// `tools` are made of the plan's tables (`of_plan`), and stay as they are (`same`), for want of memory too. The
-/// only error is `OutOfMemory`; what was evaluated until then is freed.
+/// `tools` are made of the plan's tables (`of_plan`), and stay as they are (`same`), for want of memory too. `room`
+/// is used again from call to call, and changes no row. The only error is `OutOfMemory`; what was evaluated until
+/// then is freed.
 ///
 /// Meaning: `val`, `specs/Values.antt`, and `IsNeeded`, `specs/Needed.antt` of `algebra`.
 pub fn evaluate<'d>(
     alloc: Global,
     tools: &mut Tools<'_>,
+    room: &mut EvaluationRoom,
     doc: &Document<'d>,
     schedule: &Schedule<'d>,
 ) -> Result<Vec<Option<Rows<'d>>>, OutOfMemory>
@@ -47,8 +50,9 @@ pub fn evaluate<'d>(
     let plan = schedule.plan();
     let outputs = plan.outputs();
     let mut board = empty_board(alloc, plan.nodes().len())?;
-    let mut readers = Vec::from_slice(alloc, schedule.readers())?;
-    let mut asking = Vec::new(alloc);
+    let kept = mem::replace(&mut room.readers, Vec::new(alloc));
+    let mut readers = copied(kept, schedule.readers())?;
+    let mut asking = mem::replace(&mut room.asking, Vec::new(alloc));
     for out in outputs {
         fill(
             alloc,
@@ -61,7 +65,19 @@ pub fn evaluate<'d>(
             &mut asking,
         )?;
     }
+    room.readers = readers;
+    room.asking = asking;
     Ok(board)
+}
+
+/// A copy of the numbers, in the room of a list.
+fn copied(room: Vec<u64>, numbers: &[u64]) -> Result<Vec<u64>, OutOfMemory>
+    ensures { IfOk result (λ copy. copy.items ≡ numbers.now) }
+{
+    let mut copy = room;
+    copy.clear();
+    copy.extend_from_slice(numbers)?;
+    Ok(copy)
 }
 
 /// The rows of an output, of those that were evaluated.

@@ -6,7 +6,7 @@ use crate::setup::{
 };
 use crate::standing::{put, showing};
 use algebra::{JoinKind, Local, Node, Nodes, Plan};
-use plan_operators::{Schedule, evaluate};
+use plan_operators::{EvaluationRoom, Schedule, evaluate};
 use row_values::Rows;
 use scalar_ops::{Op, Tools};
 use span_token::{Document, OutOfMemory};
@@ -29,7 +29,8 @@ pub(crate) fn evaluated_on<'d>(
 ) -> Result<String, Fail> {
     let mut tools = Tools::new(alloc, plan.tables())?;
     let schedule = Schedule::new(alloc, plan)?;
-    let board = evaluate(alloc, &mut tools, doc, &schedule)?;
+    let mut room = EvaluationRoom::new(alloc);
+    let board = evaluate(alloc, &mut tools, &mut room, doc, &schedule)?;
     let mut text = String::new(alloc);
     for n in seen {
         push_line(alloc, *n, board.as_slice(), &mut text)?;

@@ -12,7 +12,7 @@ use run_pool::Workers;
 use scalar_ops::Tools;
 use std::alloc::Global;
 use std::io::Write;
-use window_lines::append_answer;
+use window_lines::{AnswerRoom, append_answer};
 
 /// How many bytes of output are held before they are written.
 const PIECE: usize = 65_536;
@@ -23,7 +23,7 @@ struct Lines {
     corpus: LineBuffer,
     line: Vec<u8>,
     documents: DocumentReader,
-    room: Vec<u8>,
+    room: AnswerRoom,
     pending: Vec<u8>,
 }
 
@@ -55,7 +55,7 @@ impl Lines {
             corpus: LineBuffer::new(alloc)?,
             line: Vec::new(alloc),
             documents: DocumentReader::new(alloc),
-            room: Vec::new(alloc),
+            room: AnswerRoom::new(alloc),
             pending: Vec::new(alloc),
         })
     }

@@ -9,7 +9,6 @@ use Rattle.std.proofs.Crossing.{crosses}
 use Rattle.std.proofs.vec.Vec.TheSendSync as vec
 use Rattle.span_token.proofs.document.Document.TheSendSync as document
 use Rattle.std.proofs.sync.atomic.AtomicUsize.TheSendSync as word
-use Rattle.corpus_json.proofs.read.DocumentReader.TheSendSync as reader
 use Rattle.corpus_json.proofs.write.layout.Layout.TheSendSync as layout
 use Rattle.scalar_ops.proofs.Crosses.{tools}
 use Rattle.plan_operators.specs.contracts.schedule.Schedule as Schedule
@@ -31,8 +30,8 @@ Schedule-sync p = search (Plan-sync, vec.the_sync, crosses, sendable) depth 60 f
 
 -- what threads share that answer lines, with a pool that may be shared
 pub Ready-sync : (a l p : NamedLft) (P : RattleType) (ghosts : Ghosts P.Denot) → IsSync P → IsSync (Ready.the_row a l p P ghosts)
-Ready-sync a l p P ghosts shared = search (Schedule-sync, layout.the_sync, vec.the_sync, word.the_sync, crosses, sendable) depth 60 fits 20000
+Ready-sync a l p P ghosts shared = search (Schedule-sync, layout.the_sync, word.the_sync, crosses, sendable) depth 60 fits 20000
 
 -- a hand may be sent: its tools, and room
 pub Hand-send : (p : NamedLft) → IsSend (Hand.the_row p)
-Hand-send p = search (tools, reader.the_send, vec.the_send, crosses, sendable) depth 60 fits 20000
+Hand-send p = search (tools, vec.the_send, crosses, sendable) depth 60 fits 20000

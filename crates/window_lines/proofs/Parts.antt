@@ -1,5 +1,5 @@
 -- Parts of bytes, whose lines were answered: one line more, and one part behind another.
-use Rattle.std.proofs.Common.{◌≡◌, ◌++◌, ◌+◌, ◌-◌, ◌≤◌, ℕ, List, [], ◌∷◌, false, take, drop, get_or, refl, sym, ap, ◌∙◌, subst, arith}
+use Rattle.std.proofs.Common.{◌≡◌, ◌++◌, ◌+◌, ◌-◌, ◌≤◌, ℕ, List, [], ◌∷◌, false, take, drop, get_or, refl, sym, ap, ◌∙◌, subst, append_assoc, arith}
 use Rattle.std.specs.List.{slice_range}
 use Rattle.std.proofs.Math.Seq.{take-add}
 use Rattle.std.proofs.lemmas.List.{take_more, drop-drop, get_or_at, length-take-le}
@@ -8,8 +8,8 @@ use Rattle.corpus_json.specs.Documents.{is_bad_line}
 use Rattle.corpus_json.specs.Lines.{FirstLfAt}
 use Rattle.window_lines.specs.Answered.{AreAnswered, answer_to}
 use Rattle.window_lines.specs.AnsweredLaws.{answered-line, answered-append}
-use Rattle.window_lines.specs.Hands.{IsPart}
-use Rattle.window_lines.specs.declared.hands.Part.{Part}
+use Rattle.window_lines.specs.Hands.{IsStretchPut, IsAnsweredBehind}
+use Rattle.window_lines.specs.declared.ready.Answered.{Answered}
 
 -- a line with its LF
 line_taken : (bytes : List ℕ) (n : ℕ) → FirstLfAt bytes n → take (n + 1) bytes ≡ take n bytes ++ 10 ∷ []
@@ -39,13 +39,21 @@ module _ (piece : Doc → List ℕ) (bytes : List ℕ) where
       (answered-append piece (slice_range bytes from at) (line ++ 10 ∷ []) count 1 text (answer_to piece (line ∷ [])) so_far
       (answered-line piece line (answer_to piece (line ∷ [])) lf.no_lf good refl)))
 
-  -- a part behind what was answered
-  pub longer : (at to count : ℕ) (text more : List ℕ) (part : Part) → IsPart piece bytes part → part.from ≡ at → to ≡ part.to → more ≡ part.text.items
-      → AreAnswered piece (take at bytes) count text → AreAnswered piece (take to bytes) (count + part.count) (text ++ more)
-  longer at to count text more part is same ends written so_far =
-      let on : part.to ≡ at + (part.to - at) = omega (arith, same, is.few) in
-      let next : AreAnswered piece (slice_range bytes at part.to) part.count part.text.items = subst (λ k. AreAnswered piece (slice_range bytes k part.to) part.count part.text.items) same is.answered in
-      subst (λ k. AreAnswered piece (take k bytes) (count + part.count) (text ++ more)) (sym ends)
-      (subst (λ t. AreAnswered piece (take part.to bytes) (count + part.count) (text ++ t)) (sym written)
-      (subst (λ l. AreAnswered piece l (count + part.count) (text ++ part.text.items)) (sym (ap (λ k. take k bytes) on ∙ take-add at (part.to - at) bytes))
-      (answered-append piece (take at bytes) (slice_range bytes at part.to) count part.count text part.text.items so_far next)))
+  -- a stretch behind what was answered
+  pub longer : (before middle after : List ℕ) (taken end next : Answered) → next.bytes ≡ end.bytes → next.lines ≡ taken.lines + end.lines
+      → IsAnsweredBehind piece bytes taken before middle → IsStretchPut piece bytes taken.bytes end middle after → IsAnsweredBehind piece bytes next before after
+  longer before middle after taken end next ends counts so_far more =
+      let on : end.bytes ≡ taken.bytes + (end.bytes - taken.bytes) = omega (arith, more.few) in
+      let all : AreAnswered piece (take end.bytes bytes) (taken.lines + end.lines) (so_far.text ++ more.text) =
+      subst (λ l. AreAnswered piece l (taken.lines + end.lines) (so_far.text ++ more.text)) (sym (ap (λ k. take k bytes) on ∙ take-add taken.bytes (end.bytes - taken.bytes) bytes))
+      (answered-append piece (take taken.bytes bytes) (slice_range bytes taken.bytes end.bytes) taken.lines end.lines so_far.text more.text so_far.answered more.answered) in
+      let within = more.within in
+      let few = more.few in
+      let before_few = so_far.few in
+      record {
+        within = omega (arith, ends, within);
+        few = omega (arith, ends, counts, few, before_few);
+        text = so_far.text ++ more.text;
+        answered = rw (ends, counts) all;
+        put = more.put ∙ ap (λ (l : List ℕ). l ++ more.text) so_far.put ∙ append_assoc before so_far.text more.text;
+      }

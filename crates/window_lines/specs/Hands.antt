@@ -1,5 +1,5 @@
 -- Threads that answer lines by themselves. Only private clauses cite this.
-use Rattle.std.specs.Prelude.{◌≡◌, ℕ, ◌+◌, ◌≤◌, true, false, List, [], ◌∷◌, ◌++◌, All, length, take}
+use Rattle.std.specs.Prelude.{◌≡◌, ℕ, ◌+◌, ◌≤◌, true, false, List, [], ◌∷◌, ◌++◌, All, Option, MatchOption, length, take}
 use Rattle.std.specs.List.{slice_range}
 use Rattle.span_token.specs.Documents.{Doc}
 use Rattle.scalar_ops.specs.Tables.{Lists}
@@ -46,3 +46,15 @@ pub record IsAnsweredBehind (piece : Doc → List ℕ) (bytes : List ℕ) (taken
   pub text : List ℕ
   pub answered : AreAnswered piece (take taken.bytes bytes) taken.lines text
   pub put : after ≡ before ++ text
+
+-- what is written for the lines that stand from a place to another is put behind what was there, and their number is told
+pub record IsStretchPut (piece : Doc → List ℕ) (bytes : List ℕ) (from : ℕ) (end : Answered) (before after : List ℕ) : Type 0 where
+  pub within : end.bytes ≤ length bytes
+  pub few : from + end.lines ≤ end.bytes
+  pub text : List ℕ
+  pub answered : AreAnswered piece (slice_range bytes from end.bytes) end.lines text
+  pub put : after ≡ before ++ text
+
+-- the same, or nothing is put
+abbrev pub IsPutFrom : (Doc → List ℕ) → List ℕ → ℕ → Option Answered → List ℕ → List ℕ → Type 0
+IsPutFrom piece bytes from told before after = MatchOption told (after ≡ before) (λ end. IsStretchPut piece bytes from end before after)

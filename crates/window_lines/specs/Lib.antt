@@ -3,6 +3,8 @@
 pub mod Lines
 -- lines that are answered
 pub mod Answered
+-- bytes that are pending, in several texts
+pub mod Pending
 -- Words of private clauses
 -- threads that answer lines by themselves
 pub mod Hands

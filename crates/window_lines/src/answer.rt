@@ -15,7 +15,7 @@ ghost use Rattle.window_lines.specs.Answered.{answer_to};
 
 use algebra::{Plan, PlanOut};
 use corpus_json::{DocumentReader, Input, InputRef, Layout, NotDocument, append_document};
-use plan_operators::{Schedule, evaluate, rows_shown};
+use plan_operators::{EvaluationRoom, Schedule, evaluate, rows_shown};
 use row_values::Rows;
 use run_pool::{Answered, Pool};
 use scalar_ops::Tools;
@@ -27,6 +27,13 @@ use std::mem;
 #[derive(Drop)]
 pub struct Room {
     reader: DocumentReader,
+    answer: AnswerRoom,
+}
+
+/// Memory that is used again for each document.
+#[derive(Drop)]
+pub struct AnswerRoom {
+    evaluation: EvaluationRoom,
     line: Vec<u8>,
 }
 
@@ -35,6 +42,16 @@ impl Room {
     pub fn new(alloc: Global) -> Room {
         Room {
             reader: DocumentReader::new(alloc),
+            answer: AnswerRoom::new(alloc),
+        }
+    }
+}
+
+impl AnswerRoom {
+    /// No room yet: it grows with what it is used for.
+    pub fn new(alloc: Global) -> AnswerRoom {
+        AnswerRoom {
+            evaluation: EvaluationRoom::new(alloc),
             line: Vec::new(alloc),
         }
     }
@@ -76,7 +93,7 @@ pub fn answer_line<P: Pool>(
                 tools,
                 pool,
                 input,
-                &mut room.line,
+                &mut room.answer,
                 pending,
             )?;
             Ok(true)
@@ -88,7 +105,7 @@ pub fn answer_line<P: Pool>(
 }
 
 /// Hands a document to a pool, with the rows that are found, and puts the line that the pool answers behind what
-/// is pending; `line` is room for it.
+/// is pending.
 ///
 /// `schedule` is the plan's, `layout` has its outputs, and `tools` are made of its tables. `with_tokens` says
 /// whether the document keeps its tokens, and changes no byte. The text is no longer than a document's may be.
@@ -102,7 +119,7 @@ pub fn append_answer<P: Pool>(
     tools: &mut Tools<'_>,
     pool: &mut P,
     input: InputRef<'_>,
-    line: &mut Vec<u8>,
+    room: &mut AnswerRoom,
     pending: &mut Vec<u8>,
 ) -> Result<(), OutOfMemory>
     requires layout { layout.now ≡ names_in schedule.now }
@@ -114,7 +131,7 @@ pub fn append_answer<P: Pool>(
     ensures same { tools.new ≡ tools.old }
 {
     let document = document_of(alloc, with_tokens, input)?;
-    let board = evaluate(alloc, tools, &document, schedule)?;
+    let board = evaluate(alloc, tools, &mut room.evaluation, &document, schedule)?;
     append_rows(
         alloc,
         schedule.plan(),
@@ -122,7 +139,7 @@ pub fn append_answer<P: Pool>(
         pool,
         &document,
         board.as_slice(),
-        line,
+        &mut room.line,
         pending,
     )
 }
@@ -162,7 +179,12 @@ fn append_rows<'d, P: Pool>(
     ensures handed { AreHanded (P.told pool.old) (P.told pool.new) (entry_of (P.means pool.old) plan.now document.now ∷ []) result }
     ensures means { P.means pool.new ≡ P.means pool.old }
 {
-    let shown = all_shown(alloc, plan.outputs(), board)?;
+    let outputs = plan.outputs();
+    if outputs.len() == 1 {
+        let shown = [rows_shown(board, &outputs[0])];
+        return append_answered(alloc, plan, layout, pool, document, &shown, line, pending);
+    }
+    let shown = all_shown(alloc, outputs, board)?;
     append_answered(
         alloc,
         plan,

@@ -4,14 +4,12 @@ ghost use Rattle.std.specs.Prelude.{◌≡◌, ◌≤◌, [], IfOk, vec_len};
 ghost use Rattle.window_lines.specs.Hands.{HaveTools};
 
 use crate::answer::Room;
+use crate::pending::LARGE;
 use algebra::Plan;
 use scalar_ops::{Tables, Tools};
 use span_token::OutOfMemory;
 use std::alloc::Global;
 use std::marker::Model;
-
-/// Texts with room for more bytes aren't kept.
-const LARGE: usize = 262_144;
 
 /// What each of several threads keeps of its own for a plan, made once and used for all lines of a run.
 ///

@@ -13,11 +13,15 @@ mod documents;
 mod hands;
 mod lines;
 mod order;
+mod pending;
 mod ready;
 mod stretch;
 mod window;
 
-pub use answer::{Room, all_lent, all_shown, answer_line, append_answer, document_of, lent};
+pub use answer::{
+    AnswerRoom, Room, all_lent, all_shown, answer_line, append_answer, document_of, lent,
+};
 pub use hands::Hands;
+pub use pending::{Pending, Texts};
 pub use ready::{Answered, append_ready};
 pub use window::append_window;

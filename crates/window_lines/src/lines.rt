@@ -9,6 +9,7 @@ ghost use Rattle.run_pool.specs.Answers.{AreAllAnswers, IsAnswer};
 ghost use Rattle.run_pool.specs.Lines.{line_from, names_in};
 
 use crate::answer::append_line;
+use crate::pending::Pending;
 use crate::stretch::{stretch, stretch_count, stretch_size};
 use algebra::Plan;
 use corpus_json::Layout;
@@ -67,15 +68,15 @@ pub(crate) fn append_lines<'d, R: Threads + Sync, P: Pool>(
     layout: &Layout<'_>,
     docs: &[Document<'d>],
     answers: &[Vec<Arc<Rows<'d>, Global>>],
-    pending: &mut Vec<u8>,
+    pending: &mut Pending,
 ) -> Result<(), OutOfMemory>
     requires some { 0 < threads }
     requires layout { layout.now ≡ names_in plan.now }
     requires answers { AreAllAnswers (P.means pool.now) plan.now docs.now (map (λ rows. map arc_value rows.items) answers.now) }
-    ensures bytes { OnOk result (pending.new.items ≡ pending.old.items ++ flat_map (line_from (P.means pool.now) plan.now) docs.now) }
+    ensures bytes { OnOk result (pending.new ≡ pending.old ++ flat_map (line_from (P.means pool.now) plan.now) docs.now) }
 {
     if threads == 1 {
-        return append_answers(alloc, pool, plan, layout, docs, answers, pending);
+        return append_answers(alloc, pool, plan, layout, docs, answers, &mut pending.last);
     }
     let size = stretch_size(docs.len(), threads);
     let writing = Writing {
@@ -117,20 +118,20 @@ fn append_parts<P: Pool>(
     docs: &[Document<'_>],
     size: usize,
     parts: Vec<Result<Vec<u8>, OutOfMemory>>,
-    pending: &mut Vec<u8>,
+    pending: &mut Pending,
 ) -> Result<(), OutOfMemory>
     requires all { length docs.now ≤ vec_len parts * size }
     requires each { (n : ℕ) (d : _) → n < vec_len parts →
         IfOk (slice_index_or parts.items n d) (λ lines. lines.items ≡ flat_map (line_from (P.means pool.now) plan.now) (slice_chunk docs.now size n)) }
-    ensures bytes { OnOk result (pending.new.items ≡ pending.old.items ++ flat_map (line_from (P.means pool.now) plan.now) docs.now) }
+    ensures bytes { OnOk result (pending.new ≡ pending.old ++ flat_map (line_from (P.means pool.now) plan.now) docs.now) }
 {
     let _ = pool;
     let _ = plan;
     let _ = docs;
     let _ = size;
     for part in parts {
-        let lines = part?;
-        pending.extend_from_slice(lines.as_slice())?;
+        let mut lines = part?;
+        pending.take_text(&mut lines)?;
     }
     Ok(())
 }

@@ -1,19 +1,21 @@
 //! Lines that are ready: each of several threads reads, evaluates and answers pieces of them by itself.
 
-ghost use Rattle.std.specs.Prelude.{◌≡◌, ◌<◌, ◌≤◌, ◌+◌, ◌*◌, ◌^◌, ◌++◌, ◌-◌, ◌∷◌, [], ℕ, List, true, false, take, drop, None, IfOk, IfSome, OnOk, MatchOption, length, slice_index_or};
+ghost use Rattle.std.specs.Prelude.{◌≡◌, ◌<◌, ◌≤◌, ◌+◌, ◌*◌, ◌^◌, ◌++◌, ◌-◌, ◌∷◌, [], ℕ, List, true, false, take, drop, Some, None, IfOk, OnOk, MatchOption, length, slice_index_or};
 ghost use Rattle.std.specs.Thread.{IsSync};
 ghost use Rattle.corpus_json.specs.Documents.{is_bad_line};
 ghost use Rattle.corpus_json.specs.Lines.{HasNoLf, FirstLfAt};
 ghost use Rattle.span_token.specs.Documents.{Doc};
+ghost use Rattle.scalar_ops.specs.Tables.{Lists};
 ghost use Rattle.window_lines.specs.declared.hands.First.TheVariants as declared_first;
 ghost use Rattle.window_lines.specs.declared.hands.Hand as declared_hand;
 ghost use Rattle.window_lines.specs.Answered.{answer_to, AreAnswered, IsAnswered};
-ghost use Rattle.window_lines.specs.Hands.{AreParts, HasAnswered, HaveAnswered, HaveTools, IsAnsweredBehind, IsHead, IsPart};
+ghost use Rattle.window_lines.specs.Hands.{AreParts, HasAnswered, HaveAnswered, HaveTools, IsAnsweredBehind, IsHead, IsPart, IsPutFrom};
 ghost use Rattle.window_lines.specs.Lines.{line_by, names_in, rows_by};
 
 use crate::answer::answer_line;
 use crate::hands::{First, Hand, Hands, Part};
 use crate::order::order_of;
+use crate::pending::Pending;
 use crate::stretch::stretch_count;
 use corpus_json::{LINE_LIMIT, Layout};
 use memchr::memchr;
@@ -95,15 +97,15 @@ pub fn append_ready<R: Threads + Sync, P: Pool>(
     pool: &P,
     first: &[u8],
     bytes: &[u8],
-    pending: &mut Vec<u8>,
+    pending: &mut Pending,
 ) -> Result<Option<Answered>, OutOfMemory>
     requires layout { layout.now ≡ names_in schedule.now }
     requires of_plan { hands.old ≡ schedule.now.lists }
     requires as_found { P.means pool.now ≡ rows_by }
     requires untold { P.told pool.now ≡ None }
     ensures taken { IfOk result (λ told. MatchOption told
-        ((is_bad_line first.now ≡ true) × (pending.new.items ≡ pending.old.items))
-        (λ taken. IsAnswered (line_by schedule.now) first.now bytes.now taken pending.old.items pending.new.items)) }
+        ((is_bad_line first.now ≡ true) × (pending.new ≡ pending.old))
+        (λ taken. IsAnswered (line_by schedule.now) first.now bytes.now taken pending.old pending.new)) }
     ensures same { hands.new ≡ hands.old }
 {
     let next = AtomicUsize::new(0);
@@ -124,7 +126,7 @@ pub fn append_ready<R: Threads + Sync, P: Pool>(
         next: &next,
     };
     answer_in_threads(rt, &ready, hands.hands.as_mut_slice());
-    append_answered(&ready, hands.hands.as_slice(), pending)
+    append_answered(&ready, hands.hands.as_mut_slice(), pending)
 }
 
 /// The size of a piece, where so many bytes are answered by so many threads.
@@ -357,70 +359,112 @@ impl<'a, 'l, 'p, P: Pool> Ready<'a, 'l, 'p, P> {
 /// where the one before it ends.
 fn append_answered<P: Pool>(
     ready: &Ready<'_, '_, '_, P>,
-    hands: &[Hand<'_>],
-    pending: &mut Vec<u8>,
+    hands: &mut [Hand<'_>],
+    pending: &mut Pending,
 ) -> Result<Option<Answered>, OutOfMemory>
-    requires some { 0 < length hands.now }
-    requires answered { HaveAnswered (line_by ready.now.schedule.now) ready.now.first.now ready.now.bytes.now hands.now }
+    requires some { 0 < length hands.old }
+    requires answered { HaveAnswered (line_by ready.now.schedule.now) ready.now.first.now ready.now.bytes.now hands.old }
+    ensures long { length hands.new ≡ length hands.old }
+    ensures tools { (lists : Lists) → HaveTools lists hands.old → HaveTools lists hands.new }
     ensures taken { IfOk result (λ told. MatchOption told
-        ((is_bad_line ready.now.first.now ≡ true) × (pending.new.items ≡ pending.old.items))
-        (λ taken. IsAnswered (line_by ready.now.schedule.now) ready.now.first.now ready.now.bytes.now taken pending.old.items pending.new.items)) }
+        ((is_bad_line ready.now.first.now ≡ true) × (pending.new ≡ pending.old))
+        (λ taken. IsAnswered (line_by ready.now.schedule.now) ready.now.first.now ready.now.bytes.now taken pending.old pending.new)) }
 {
-    let hand = &hands[0];
-    match hand.first {
+    match hands[0].first {
         First::Unknown => Err(OutOfMemory),
         First::Bad => Ok(None),
         First::Good => {
-            pending.extend_from_slice(hand.head.as_slice())?;
+            append_head(&mut hands[0], pending)?;
             let taken = append_parts(ready, hands, pending)?;
             Ok(Some(taken))
         }
     }
 }
 
+/// Puts what is written for the first line behind what is pending.
+fn append_head(hand: &mut Hand<'_>, pending: &mut Pending) -> Result<(), OutOfMemory>
+    ensures put { OnOk result (pending.new ≡ pending.old ++ hand.old.head.items) }
+    ensures tools { hand.new.tools ≡ hand.old.tools }
+    ensures answered { OnOk result ((piece : Doc → List ℕ) (first bytes : List ℕ) → HasAnswered piece first bytes hand.old → HasAnswered piece first bytes hand.new) }
+{
+    hand.first = First::Unknown;
+    pending.take_text(&mut hand.head)
+}
+
 /// Puts the parts of the hands behind what is pending.
 fn append_parts<P: Pool>(
     ready: &Ready<'_, '_, '_, P>,
-    hands: &[Hand<'_>],
-    pending: &mut Vec<u8>,
+    hands: &mut [Hand<'_>],
+    pending: &mut Pending,
 ) -> Result<Answered, OutOfMemory>
-    requires answered { HaveAnswered (line_by ready.now.schedule.now) ready.now.first.now ready.now.bytes.now hands.now }
-    ensures taken { IfOk result (λ taken. IsAnsweredBehind (line_by ready.now.schedule.now) ready.now.bytes.now taken pending.old.items pending.new.items) }
+    requires answered { HaveAnswered (line_by ready.now.schedule.now) ready.now.first.now ready.now.bytes.now hands.old }
+    ensures long { length hands.new ≡ length hands.old }
+    ensures tools { (lists : Lists) → HaveTools lists hands.old → HaveTools lists hands.new }
+    ensures taken { IfOk result (λ taken. IsAnsweredBehind (line_by ready.now.schedule.now) ready.now.bytes.now taken pending.old pending.new) }
 {
     let mut taken = Answered { bytes: 0, lines: 0 };
     'pieces: for _ in 0..ready.count {
-        let Some(part) = part_at(hands, taken.bytes) else {
+        let Some(end) = append_part_at(hands, taken.bytes, pending)? else {
             return Ok(taken);
         };
-        pending.extend_from_slice(part.text.as_slice())?;
-        taken.bytes = part.to;
-        taken.lines += part.count;
+        taken.bytes = end.bytes;
+        taken.lines += end.lines;
     }
     Ok(taken)
 }
 
-/// A part with some line that begins at a place.
-fn part_at<'h>(hands: &'h [Hand<'_>], at: usize) -> Option<&'h Part>
-    ensures { (piece : Doc → List ℕ) (first bytes : List ℕ) → HaveAnswered piece first bytes hands.now → IfSome result (λ part. (part.now.from ≡ at) × IsPart piece bytes part.now) }
+/// Puts a part with some line that begins at a place behind what is pending, and tells where it ends and how
+/// many lines it has. `None`, and nothing is put, where there is no such part.
+fn append_part_at(
+    hands: &mut [Hand<'_>],
+    at: usize,
+    pending: &mut Pending,
+) -> Result<Option<Answered>, OutOfMemory>
+    ensures long { length hands.new ≡ length hands.old }
+    ensures tools { (lists : Lists) → HaveTools lists hands.old → HaveTools lists hands.new }
+    ensures put { (piece : Doc → List ℕ) (first bytes : List ℕ) → HaveAnswered piece first bytes hands.old
+        → IfOk result (λ told. HaveAnswered piece first bytes hands.new × IsPutFrom piece bytes at told pending.old pending.new) }
 {
     for k in 0..hands.len() {
-        if let Some(part) = part_in(hands[k].parts.as_slice(), at) {
-            return Some(part);
+        if let Some(end) = append_part_of(&mut hands[k], at, pending)? {
+            return Ok(Some(end));
         }
     }
-    None
+    Ok(None)
 }
 
-/// One of the parts with some line that begins at a place.
-fn part_in(parts: &[Part], at: usize) -> Option<&Part>
-    ensures { (piece : Doc → List ℕ) (bytes : List ℕ) → AreParts piece bytes parts.now → IfSome result (λ part. (part.now.from ≡ at) × IsPart piece bytes part.now) }
+/// The same of one hand.
+fn append_part_of(
+    hand: &mut Hand<'_>,
+    at: usize,
+    pending: &mut Pending,
+) -> Result<Option<Answered>, OutOfMemory>
+    ensures tools { hand.new.tools ≡ hand.old.tools }
+    ensures put { (piece : Doc → List ℕ) (first bytes : List ℕ) → HasAnswered piece first bytes hand.old
+        → IfOk result (λ told. HasAnswered piece first bytes hand.new × IsPutFrom piece bytes at told pending.old pending.new) }
 {
-    for part in parts {
-        if part.from == at && at < part.to {
-            return Some(part);
+    for k in 0..hand.parts.len() {
+        if hand.parts[k].from == at && at < hand.parts[k].to {
+            let end = append_part(&mut hand.parts[k], pending)?;
+            return Ok(Some(end));
         }
     }
-    None
+    Ok(None)
+}
+
+/// Puts a part behind what is pending, and tells where it ends and how many lines it has. Nothing is left of it.
+fn append_part(part: &mut Part, pending: &mut Pending) -> Result<Answered, OutOfMemory>
+    ensures { (piece : Doc → List ℕ) (bytes : List ℕ) → IsPart piece bytes part.old
+        → IfOk result (λ end. IsPart piece bytes part.new × IsPutFrom piece bytes part.old.from (Some end) pending.old pending.new) }
+{
+    let end = Answered {
+        bytes: part.to,
+        lines: part.count,
+    };
+    part.to = part.from;
+    part.count = 0;
+    pending.take_text(&mut part.text)?;
+    Ok(end)
 }
 
 /// Where the first line begins from the place `from` on: there, where a line begins there, or behind the next

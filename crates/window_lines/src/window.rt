@@ -8,6 +8,7 @@ ghost use Rattle.window_lines.specs.Lines.{AreShort};
 use crate::answers::answers_of;
 use crate::documents::documents_of;
 use crate::lines::append_lines;
+use crate::pending::Pending;
 use algebra::Plan;
 use corpus_json::{Input, Layout};
 use row_values::Rows;
@@ -43,14 +44,14 @@ pub fn append_window<R: Threads + Sync, P: Pool>(
     threads: usize,
     pool: &mut P,
     inputs: &[Input],
-    pending: &mut Vec<u8>,
+    pending: &mut Pending,
 ) -> Result<(), OutOfMemory>
     requires some { 0 < threads }
     requires layout { layout.now ≡ names_in plan.now }
     requires of_plan { crew.old ≡ plan.now.lists }
     requires few { length inputs.now * length plan.now.nodes < 2 ^ 32 }
     requires short { AreShort inputs.now }
-    ensures bytes { OnOk result (pending.new.items ≡ pending.old.items ++ flat_map (line_from (P.means pool.old) plan.now) (map doc_of inputs.now)) }
+    ensures bytes { OnOk result (pending.new ≡ pending.old ++ flat_map (line_from (P.means pool.old) plan.now) (map doc_of inputs.now)) }
     ensures handed { AreHanded (P.told pool.old) (P.told pool.new) (map (entry_of (P.means pool.old) plan.now) (map doc_of inputs.now)) result }
     ensures means { P.means pool.new ≡ P.means pool.old }
     ensures same { crew.new ≡ crew.old }
@@ -87,13 +88,13 @@ fn append_documents<'d, R: Threads + Sync, P: Pool>(
     threads: usize,
     pool: &mut P,
     docs: &'d [Document<'d>],
-    pending: &mut Vec<u8>,
+    pending: &mut Pending,
 ) -> Result<(), OutOfMemory>
     requires some { 0 < threads }
     requires layout { layout.now ≡ names_in plan.now }
     requires of_plan { crew.old ≡ plan.now.lists }
     requires few { length docs.now * length plan.now.nodes < 2 ^ 32 }
-    ensures bytes { OnOk result (pending.new.items ≡ pending.old.items ++ flat_map (line_from (P.means pool.old) plan.now) docs.now) }
+    ensures bytes { OnOk result (pending.new ≡ pending.old ++ flat_map (line_from (P.means pool.old) plan.now) docs.now) }
     ensures handed { AreHanded (P.told pool.old) (P.told pool.new) (map (entry_of (P.means pool.old) plan.now) docs.now) result }
     ensures means { P.means pool.new ≡ P.means pool.old }
     ensures same { crew.new ≡ crew.old }

@@ -17,8 +17,8 @@ count_document-requires-clause-one_of_each g c = λ κs within.
     ap (λ (tally : Tally). length tally.totals) c.documents.invariant.counted ∙ law.as_many (length plan.outputs) (map ((g.P.Pool.means c.args.pool.now) plan) (first_documents c.documents.i))
     ∙ ap (λ (p : Parts). length p.outputs) (sym c.in_ok-schedule.ensures)
 
-pub count_document-requires-clause-room : goal.count_document-requires-clause-room
-count_document-requires-clause-room g c = λ κs within.
+pub count_document-requires-clause-countable : goal.count_document-requires-clause-countable
+count_document-requires-clause-countable g c = λ κs within.
     let plan : Parts = c.args.plan.now in
     let so_many : c.documents.totals.documents ≡ c.documents.i =
     ap (λ (tally : Tally). tally.documents) c.documents.invariant.counted ∙ law.documents_counted (length plan.outputs) ((g.P.Pool.means c.args.pool.now) plan) c.documents.i in

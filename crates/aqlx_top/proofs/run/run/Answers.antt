@@ -88,5 +88,5 @@ returns-in-Ended-clause-ran g c =
     (by.stands_as (g.P.Pool.means c.lines.pool) (g.P.Pool.means c.args.pool.now) c.send_in_time.new.work.schedule c.args.plan.now (g.P.Pool.told c.args.pool.now) (g.P.Pool.told c.lines.pool) (sym c.lines.invariant.means) (sym same_plan) (source_ends (g.S.Source.left c.args.corpus.now) (g.S.Source.left c.lines.corpus) (g.S.Source.faults c.args.corpus.now) (g.S.Source.faults c.lines.corpus)) (g.O.Sink.held c.args.out.now) (g.O.Sink.held c.send_in_time.new.out) c.send_in_time.new.work.reader c.send_in_time.new.work.pending.items c.send_in_time.new.work.number sent) in
     let own = rw c.in-Ended.is at turned in
     let ended = by.finished_as (g.P.Pool.means c.args.pool.now) (g.P.Pool.means c.lines.pool) c.args.plan.now c.send_in_time.new.work.schedule (g.P.Pool.told c.args.pool.now) (g.P.Pool.told c.take_turn.new.pool) c.lines.invariant.means same_plan (source_ends (g.S.Source.left c.args.corpus.now) (g.S.Source.left c.take_turn.new.corpus) (g.S.Source.faults c.args.corpus.now) (g.S.Source.faults c.take_turn.new.corpus)) (g.O.Sink.held c.args.out.now) (g.O.Sink.held c.send_in_time.new.out) c.take_turn.new.work.pending.items c.in-Ended.status own in
-    let finish = rw c.deref.ensures.value at c.finish.ensures.by_pool in
+    let finish = rw c.deref.ensures.value at c.finish.ensures in
     finish (pool_ends (g.P.Pool.means c.args.pool.now) (g.P.Pool.told c.args.pool.now) (g.P.Pool.told c.take_turn.new.pool)) c.args.plan.now (source_ends (g.S.Source.left c.args.corpus.now) (g.S.Source.left c.take_turn.new.corpus) (g.S.Source.faults c.args.corpus.now) (g.S.Source.faults c.take_turn.new.corpus)) (g.O.Sink.held c.args.out.now) (g.O.Sink.flushed c.args.out.now) (g.O.Sink.faults c.args.out.now) (c.in-Ok.ensures.stands ∙ c.lines.invariant.unfailed) ended

@@ -44,7 +44,7 @@ turn_in_window-requires-clause-below g c = λ κs within. rw (c.in-Ok.ensures.sa
 pub turn_in_window-requires-clause-room : goal.turn_in_window-requires-clause-room
 turn_in_window-requires-clause-room g c =
     let sent = c.in-Ok.ensures.sent (line_by c.args.plan.now) (g.S.Source.left c.args.corpus.now) (g.S.Source.left c.lines.corpus) (g.S.Source.faults c.args.corpus.now) (g.S.Source.faults c.lines.corpus) (g.O.Sink.held c.args.out.now) c.lines.invariant.stands in
-    let few = law.number_within (line_by c.args.plan.now) (g.S.Source.left c.args.corpus.now) (g.S.Source.left c.lines.corpus) (g.S.Source.faults c.args.corpus.now) (g.S.Source.faults c.lines.corpus) (g.O.Sink.held c.args.out.now) (g.O.Sink.held c.send_between.new.out) c.send_between.new.work.reader (meant_by (line_by c.args.plan.now) c.send_between.new.work.pending.items c.send_between.new.work.window.items) c.send_between.new.work.number sent in
+    let few = law.number_within (line_by c.args.plan.now) (g.S.Source.left c.args.corpus.now) (g.S.Source.left c.lines.corpus) (g.S.Source.faults c.args.corpus.now) (g.S.Source.faults c.lines.corpus) (g.O.Sink.held c.args.out.now) (g.O.Sink.held c.send_between.new.out) c.send_between.new.work.reader (meant_by (line_by c.args.plan.now) c.send_between.new.work.pending c.send_between.new.work.window.items) c.send_between.new.work.number sent in
     omega arith
 
 pub lines-smaller : goal.lines-smaller
@@ -53,7 +53,7 @@ lines-smaller g c =
     let sent = c.in-Ok.ensures.sent (line_by c.args.plan.now) (g.S.Source.left c.args.corpus.now) (g.S.Source.left c.lines.corpus) (g.S.Source.faults c.args.corpus.now) (g.S.Source.faults c.lines.corpus) (g.O.Sink.held c.args.out.now) c.lines.invariant.stands in
     let turned = c.in_ok-turn_in_window.ensures.turned c.args.plan.now (g.S.Source.left c.args.corpus.now) (g.S.Source.faults c.args.corpus.now) (g.O.Sink.held c.args.out.now) (g.O.Sink.held c.send_between.new.out) fits.plan_is sent in
     let next = rw c.in-Next.is at turned in
-    let few = law.number_within (line_by c.args.plan.now) (g.S.Source.left c.args.corpus.now) (g.S.Source.left c.turn_in_window.new.corpus) (g.S.Source.faults c.args.corpus.now) (g.S.Source.faults c.turn_in_window.new.corpus) (g.O.Sink.held c.args.out.now) (g.O.Sink.held c.send_between.new.out) c.turn_in_window.new.work.reader (meant_by (line_by c.args.plan.now) c.turn_in_window.new.work.pending.items c.turn_in_window.new.work.window.items) c.turn_in_window.new.work.number next in
+    let few = law.number_within (line_by c.args.plan.now) (g.S.Source.left c.args.corpus.now) (g.S.Source.left c.turn_in_window.new.corpus) (g.S.Source.faults c.args.corpus.now) (g.S.Source.faults c.turn_in_window.new.corpus) (g.O.Sink.held c.args.out.now) (g.O.Sink.held c.send_between.new.out) c.turn_in_window.new.work.reader (meant_by (line_by c.args.plan.now) c.turn_in_window.new.work.pending c.turn_in_window.new.work.window.items) c.turn_in_window.new.work.number next in
     let counts = c.in_ok-turn_in_window.ensures.counts c.in-Next.is in
     falls_to corpus_limit c.lines.work.number c.send_between.new.work.number c.turn_in_window.new.work.number few counts c.in-Ok.ensures.same.1
 
@@ -86,7 +86,6 @@ returns-in-Ended-clause-ran g c =
     let turned = c.in_ok-turn_in_window.ensures.turned c.args.plan.now (g.S.Source.left c.args.corpus.now) (g.S.Source.faults c.args.corpus.now) (g.O.Sink.held c.args.out.now) (g.O.Sink.held c.send_between.new.out) fits.plan_is sent in
     let own = rw c.in-Ended.is at turned in
     let empty = c.in_ok-turn_in_window.ensures.ended (λ e. let other = sym c.in-Ended.is ∙ e in absurd (cc)) in
-    let ended = more.finished_with (line_by c.args.plan.now) (source_ends (g.S.Source.left c.args.corpus.now) (g.S.Source.left c.turn_in_window.new.corpus) (g.S.Source.faults c.args.corpus.now) (g.S.Source.faults c.turn_in_window.new.corpus)) (g.O.Sink.held c.args.out.now) (g.O.Sink.held c.send_between.new.out) (meant_by (line_by c.args.plan.now) c.turn_in_window.new.work.pending.items c.turn_in_window.new.work.window.items) c.turn_in_window.new.work.pending.items c.in-Ended.status
-    (more.meant_alone (line_by c.args.plan.now) c.turn_in_window.new.work.pending.items c.turn_in_window.new.work.window.items empty) own in
-    let finish = rw c.deref.ensures.value at c.finish.ensures.run in
-    finish (line_by c.args.plan.now) (source_ends (g.S.Source.left c.args.corpus.now) (g.S.Source.left c.turn_in_window.new.corpus) (g.S.Source.faults c.args.corpus.now) (g.S.Source.faults c.turn_in_window.new.corpus)) (g.O.Sink.held c.args.out.now) (g.O.Sink.flushed c.args.out.now) (g.O.Sink.faults c.args.out.now) (c.in-Ok.ensures.stands ∙ c.lines.invariant.unfailed) ended
+    let ended = more.finished_with (line_by c.args.plan.now) (source_ends (g.S.Source.left c.args.corpus.now) (g.S.Source.left c.turn_in_window.new.corpus) (g.S.Source.faults c.args.corpus.now) (g.S.Source.faults c.turn_in_window.new.corpus)) (g.O.Sink.held c.args.out.now) (g.O.Sink.held c.send_between.new.out) (meant_by (line_by c.args.plan.now) c.turn_in_window.new.work.pending c.turn_in_window.new.work.window.items) c.turn_in_window.new.work.pending c.in-Ended.status
+    (more.meant_alone (line_by c.args.plan.now) c.turn_in_window.new.work.pending c.turn_in_window.new.work.window.items empty) own in
+    c.finish_all.ensures (line_by c.args.plan.now) (source_ends (g.S.Source.left c.args.corpus.now) (g.S.Source.left c.turn_in_window.new.corpus) (g.S.Source.faults c.args.corpus.now) (g.S.Source.faults c.turn_in_window.new.corpus)) (g.O.Sink.held c.args.out.now) (g.O.Sink.flushed c.args.out.now) (g.O.Sink.faults c.args.out.now) (c.in-Ok.ensures.stands ∙ c.lines.invariant.unfailed) ended

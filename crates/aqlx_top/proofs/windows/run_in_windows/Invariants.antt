@@ -10,7 +10,7 @@ abbrev pub invariant-lines : goal.invariant-lines
 invariant-lines g l = record {
   stands : Stands (line_by l.fn.plan)
       (source_ends (g.S.Source.left l.initial.corpus) (g.S.Source.left l.corpus) (g.S.Source.faults l.initial.corpus) (g.S.Source.faults l.corpus))
-      (g.O.Sink.held l.initial.out) (g.O.Sink.held l.out) l.work.reader (meant_by (line_by l.fn.plan) l.work.pending.items l.work.window.items) l.work.number;
+      (g.O.Sink.held l.initial.out) (g.O.Sink.held l.out) l.work.reader (meant_by (line_by l.fn.plan) l.work.pending l.work.window.items) l.work.number;
   fits : Fits l.fn.plan l.work;
   below : length l.work.window.items < l.work.most;
   going : IsGoing l.work.reader;

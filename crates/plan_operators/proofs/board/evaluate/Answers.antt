@@ -17,7 +17,7 @@ loop-out-init c =
     let board : List (Option RowList) = c.in_ok-board.board.items in
     let readers : List ℕ = c.in_ok-readers.readers.items in
     let is : IsScheduled plan readers =
-    subst (IsScheduled plan) (sym c.in_ok-readers.ensures.items) (subst (λ (parts : Parts). IsScheduled parts c.readers.result.now) (sym c.plan-plan.ensures) c.readers.ensures) in
+    subst (IsScheduled plan) (sym c.in_ok-readers.ensures) (subst (λ (parts : Parts). IsScheduled parts c.readers.result.now) (sym c.plan-plan.ensures) c.readers.ensures) in
     let long : length board ≡ length plan.nodes =
     sym c.in_ok-board.board.ok.0 ∙ (c.in_ok-board.ensures.long ∙ (c.len.ensures ∙ ap (λ (ns : List Node). length ns) c.nodes.ensures)) in
     record {

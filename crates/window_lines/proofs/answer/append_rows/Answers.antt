@@ -6,11 +6,11 @@ use Rattle.run_pool.specs.PoolLaws.{part_none}
 use Rattle.window_lines.specs.ShownLaws.{list_of, shown_answer}
 use Rattle.window_lines.proofs.answer.append_rows.Goals as goal
 
-pub append_answered-requires-clause-found : goal.append_answered-requires-clause-found
-append_answered-requires-clause-found g c = λ κs within.
+pub append_answered-requires-2-clause-found : goal.append_answered-requires-2-clause-found
+append_answered-requires-2-clause-found g c = λ κs within.
     subst (IsAnswer rows_by c.args.plan.now c.args.document.now)
-    (sym (ap (map (λ list. list.now)) c.as_slice.ensures.value ∙ c.in_ok-shown.ensures ∙ ap (map (list_of c.args.board.now)) c.outputs.ensures.outputs))
-    (shown_answer c.args.plan.now c.args.document.now c.args.board.now c.requires.shown c.outputs.ensures.valid.each)
+    (sym (ap (map (λ list. list.now)) c.as_slice.ensures.value ∙ c.in_ok-shown.ensures ∙ ap (map (list_of c.args.board.now)) c.outputs-outputs.ensures.outputs))
+    (shown_answer c.args.plan.now c.args.document.now c.args.board.now c.requires.shown c.outputs-outputs.ensures.valid.each)
 
 pub returns-in_err-shown-clause-handed : goal.returns-in_err-shown-clause-handed
 returns-in_err-shown-clause-handed g c =

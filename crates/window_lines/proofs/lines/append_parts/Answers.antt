@@ -13,5 +13,5 @@ loop-part-preserved g c =
     let turn = YieldsList-turn list c.loop-part.yielded c.loop-part.part-iterator c.loop-part.yielded_by c.next.result c.next.new.self c.in-Some.part c.in-Some.is c.next.ensures.steps in
     let told : IfOk c.in-Some.part (λ lines. lines.items ≡ flat_map (line_from (g.P.Pool.means c.args.pool.now) c.args.plan.now) (slice_chunk c.args.docs.now c.args.size (length c.loop-part.yielded))) =
     subst (λ part. IfOk part (λ lines. lines.items ≡ flat_map (line_from (g.P.Pool.means c.args.pool.now) c.args.plan.now) (slice_chunk c.args.docs.now c.args.size (length c.loop-part.yielded)))) (sym turn.1) (c.requires.each (length c.loop-part.yielded) c.in-Some.part (omega (arith, turn.0, c.args.parts.ok.0))) in
-    joined-turn (line_from (g.P.Pool.means c.args.pool.now) c.args.plan.now) c.args.docs.now c.args.size c.loop-part.yielded c.in-Some.part c.args.pending.now.items c.loop-part.pending.items c.in_ok-lines.lines.items c.extend_from_slice.new.self.items
+    joined-turn (line_from (g.P.Pool.means c.args.pool.now) c.args.plan.now) c.args.docs.now c.args.size c.loop-part.yielded c.in-Some.part c.args.pending.now c.loop-part.pending c.in_ok-lines.lines.items c.take_text.new.self
     c.loop-part.invariant (search rules) (search rules)

@@ -1,33 +1,37 @@
-use Rattle.std.proofs.Common.{rules, ◌≡◌, ◌++◌, ℕ, List, refl, ap, ◌∙◌, append_assoc, arith}
+use Rattle.std.proofs.Common.{◌+◌, ◌∙◌, refl, arith}
 use Rattle.window_lines.specs.Lines.{line_by}
 use Rattle.window_lines.proofs.Parts.{longer}
 use Rattle.window_lines.proofs.ready.append_parts.Goals as goal
 
+pub returns-in_err-end-clause-tools : goal.returns-in_err-end-clause-tools
+returns-in_err-end-clause-tools g c = λ lists have. c.append_part_at.ensures.tools lists (c.pieces.invariant.tools lists have)
+
+pub returns-in_default-clause-tools : goal.returns-in_default-clause-tools
+returns-in_default-clause-tools g c = λ lists have. c.append_part_at.ensures.tools lists (c.pieces.invariant.tools lists have)
+
+pub returns-in_default-clause-taken : goal.returns-in_default-clause-taken
+returns-in_default-clause-taken g c =
+    let put = rw c.in_default.is at c.in_ok-end.ensures.put (line_by c.args.ready.now.schedule.now) c.args.ready.now.first.now c.args.ready.now.bytes.now c.pieces.invariant.answered in
+    rw put.1 c.pieces.invariant.taken
+
 pub overflow_add-taken : goal.overflow_add-taken
 overflow_add-taken g c =
-    let found = c.in-Some.ensures (line_by c.args.ready.now.schedule.now) c.args.ready.now.first.now c.args.ready.now.bytes.now c.requires.answered in
-    let few = found.1.few in
-    let so_far = c.pieces.invariant.few in
-    let from = found.0 in
-    let within = found.1.within in
-    let most = c.in-Some.part.now.to in
-    omega (arith, few, so_far, from, within)
+    let put = rw c.in-Some.is at c.in_ok-end.ensures.put (line_by c.args.ready.now.schedule.now) c.args.ready.now.first.now c.args.ready.now.bytes.now c.pieces.invariant.answered in
+    let few = put.1.few in
+    let so_far = c.pieces.invariant.taken.few in
+    let within = put.1.within in
+    let most = c.in-Some.end.bytes in
+    omega (arith, few, so_far, within)
 
 pub pieces-preserved : goal.pieces-preserved
 pieces-preserved g c =
     let piece = line_by c.args.ready.now.schedule.now in
     let bytes = c.args.ready.now.bytes.now in
-    let found = c.in-Some.ensures piece c.args.ready.now.first.now bytes c.requires.answered in
-    let part = c.in-Some.part.now in
-    let so_far = c.pieces.invariant in
-    let few = found.1.few in
-    let before = so_far.few in
-    let from = found.0 in
-    let put : c.extend_from_slice.new.self.items ≡ c.pieces.pending.items ++ part.text.items = search rules in
+    let put = rw c.in-Some.is at c.in_ok-end.ensures.put piece c.args.ready.now.first.now bytes c.pieces.invariant.answered in
     record {
-      within = found.1.within;
-      few = omega (arith, few, before, from);
-      text = so_far.text ++ part.text.items;
-      answered = longer piece bytes c.pieces.taken.bytes part.to c.pieces.taken.lines so_far.text part.text.items part found.1 found.0 refl refl so_far.answered;
-      put = put ∙ ap (λ (l : List ℕ). l ++ part.text.items) so_far.put ∙ append_assoc c.args.pending.now.items so_far.text part.text.items;
+      long = c.append_part_at.ensures.long ∙ c.pieces.invariant.long;
+      tools = λ lists have. c.append_part_at.ensures.tools lists (c.pieces.invariant.tools lists have);
+      answered = put.0;
+      taken = longer piece bytes c.args.pending.now c.pieces.pending c.append_part_at.new.pending c.pieces.taken c.in-Some.end
+          (record { bytes = c.in-Some.end.bytes; lines = c.pieces.taken.lines + c.in-Some.end.lines }) refl refl c.pieces.invariant.taken put.1;
     }
