@@ -114,34 +114,6 @@ fn own_rows<'d>(
     }
 }
 
-/// The rows of all sides of a union, one side after another.
-#[cycle(query)]
-fn union<'d>(
-    alloc: Global,
-    tools: &mut Tools<'_>,
-    doc: &Document<'d>,
-    below: &[Rows<'d>],
-    sides: &'d [TypedQuery],
-) -> Result<Rows<'d>, OutOfMemory>
-    requires in_document { AllLieIn doc.now below.now }
-    requires fit { All (λ side. Fits (widths_in below.now) (query_of side)) sides.now }
-    requires same_width { All (λ side. width_of (widths_in below.now) (query_of side) ≡ first_width (widths_in below.now) (as_queries (map query_of sides.now))) sides.now }
-    ensures rows { IfOk result (λ out. out.rows ≡ all_sides tools.old doc.now (rows_in below.now) (as_queries (map query_of sides.now))) }
-    ensures width { IfOk result (λ out. out.width ≡ first_width (widths_in below.now) (as_queries (map query_of sides.now))) }
-    ensures lies { IfOk result (λ out. RowsLieIn doc.now out.rows) }
-    ensures same { tools.new ≡ tools.old }
-{
-    let Some((first, rest)) = sides.split_first() else {
-        return Ok(Rows::new(alloc, 0));
-    };
-    let mut out = slow_query(alloc, tools, doc, below, first)?;
-    for side in rest {
-        let rows = slow_query(alloc, tools, doc, below, side)?;
-        append_rows(rows, &mut out)?;
-    }
-    Ok(out)
-}
-
 /// What a selection means; `own` has the rows of each source that is no view.
 fn selection_of<'d>(
     alloc: Global,
@@ -185,5 +157,33 @@ fn extraction_of<'d>(
 {
     let rows = lent(below, &extract.source, own);
     let out = extraction(alloc, tools, doc, rows, &extract.clauses)?;
+    Ok(out)
+}
+
+/// The rows of all sides of a union, one side after another.
+#[cycle(query)]
+fn union<'d>(
+    alloc: Global,
+    tools: &mut Tools<'_>,
+    doc: &Document<'d>,
+    below: &[Rows<'d>],
+    sides: &'d [TypedQuery],
+) -> Result<Rows<'d>, OutOfMemory>
+    requires in_document { AllLieIn doc.now below.now }
+    requires fit { All (λ side. Fits (widths_in below.now) (query_of side)) sides.now }
+    requires same_width { All (λ side. width_of (widths_in below.now) (query_of side) ≡ first_width (widths_in below.now) (as_queries (map query_of sides.now))) sides.now }
+    ensures rows { IfOk result (λ out. out.rows ≡ all_sides tools.old doc.now (rows_in below.now) (as_queries (map query_of sides.now))) }
+    ensures width { IfOk result (λ out. out.width ≡ first_width (widths_in below.now) (as_queries (map query_of sides.now))) }
+    ensures lies { IfOk result (λ out. RowsLieIn doc.now out.rows) }
+    ensures same { tools.new ≡ tools.old }
+{
+    let Some((first, rest)) = sides.split_first() else {
+        return Ok(Rows::new(alloc, 0));
+    };
+    let mut out = slow_query(alloc, tools, doc, below, first)?;
+    for side in rest {
+        let rows = slow_query(alloc, tools, doc, below, side)?;
+        append_rows(rows, &mut out)?;
+    }
     Ok(out)
 }

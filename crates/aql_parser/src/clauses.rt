@@ -62,12 +62,14 @@ pub fn keys(
     Ok(Vec::new(alloc))
 }
 
-fn policy(alloc: Global, toks: &mut Cursor<'_>) -> Result<Option<Ident>, Refused>
-    ensures { Gives (λ o. option_map name_of o) (optional (sees "using") a_string toks.old.at toks.old.kinds) result toks.new }
+/// The consolidation, if one is written.
+#[tactic(auto, unfolding(crate::specs::Reading::Queries::read_cons))]
+pub fn cons(alloc: Global, depth: u32, toks: &mut Cursor<'_>) -> Result<Option<Cons>, Refused>
+    ensures { Gives (λ o. option_map cons_of o) (spec.read_cons depth toks.old.at toks.old.kinds) result toks.new }
 {
-    if toks.eat_word("using") {
-        let policy = toks.string(alloc)?;
-        return Ok(Some(policy));
+    if toks.eat_word("consolidate") {
+        let cons = consolidate(alloc, depth, toks)?;
+        return Ok(Some(cons));
     }
     Ok(None)
 }
@@ -88,14 +90,12 @@ fn consolidate(alloc: Global, depth: u32, toks: &mut Cursor<'_>) -> Result<Cons,
     Ok(Cons { target, policy })
 }
 
-/// The consolidation, if one is written.
-#[tactic(auto, unfolding(crate::specs::Reading::Queries::read_cons))]
-pub fn cons(alloc: Global, depth: u32, toks: &mut Cursor<'_>) -> Result<Option<Cons>, Refused>
-    ensures { Gives (λ o. option_map cons_of o) (spec.read_cons depth toks.old.at toks.old.kinds) result toks.new }
+fn policy(alloc: Global, toks: &mut Cursor<'_>) -> Result<Option<Ident>, Refused>
+    ensures { Gives (λ o. option_map name_of o) (optional (sees "using") a_string toks.old.at toks.old.kinds) result toks.new }
 {
-    if toks.eat_word("consolidate") {
-        let cons = consolidate(alloc, depth, toks)?;
-        return Ok(Some(cons));
+    if toks.eat_word("using") {
+        let policy = toks.string(alloc)?;
+        return Ok(Some(policy));
     }
     Ok(None)
 }
@@ -109,21 +109,6 @@ pub fn limit(toks: &mut Cursor<'_>) -> Result<Option<Number>, Refused>
         return Ok(Some(limit));
     }
     Ok(None)
-}
-
-/// `group by`, `order by` and the limit, each if it is written.
-#[tactic(auto, unfolding(crate::specs::Reading::Queries::read_keys_and_limit))]
-fn keys_and_limit(
-    alloc: Global,
-    depth: u32,
-    toks: &mut Cursor<'_>,
-) -> Result<(Vec<Ast>, Vec<Ast>, Option<Number>), Refused>
-    ensures { Gives (λ ends. (map term_of ends.0.items, (map term_of ends.1.items, option_map number_of ends.2))) (spec.read_keys_and_limit depth toks.old.at toks.old.kinds) result toks.new }
-{
-    let group = keys(alloc, depth, toks, "group")?;
-    let order = keys(alloc, depth, toks, "order")?;
-    let limit = limit(toks)?;
-    Ok((group, order, limit))
 }
 
 /// The clauses of a selection.
@@ -147,6 +132,21 @@ pub fn clauses(alloc: Global, depth: u32, toks: &mut Cursor<'_>) -> Result<Selec
         order,
         limit,
     })
+}
+
+/// `group by`, `order by` and the limit, each if it is written.
+#[tactic(auto, unfolding(crate::specs::Reading::Queries::read_keys_and_limit))]
+fn keys_and_limit(
+    alloc: Global,
+    depth: u32,
+    toks: &mut Cursor<'_>,
+) -> Result<(Vec<Ast>, Vec<Ast>, Option<Number>), Refused>
+    ensures { Gives (λ ends. (map term_of ends.0.items, (map term_of ends.1.items, option_map number_of ends.2))) (spec.read_keys_and_limit depth toks.old.at toks.old.kinds) result toks.new }
+{
+    let group = keys(alloc, depth, toks, "group")?;
+    let order = keys(alloc, depth, toks, "order")?;
+    let limit = limit(toks)?;
+    Ok((group, order, limit))
 }
 
 /// The clauses of an extraction.

@@ -22,24 +22,6 @@ pub fn column(alloc: Global, toks: &mut Cursor<'_>) -> Result<(Ident, Ident), Re
     Ok((alias, name))
 }
 
-/// What follows a name: the rest of a column, or nothing.
-fn after_name(alloc: Global, toks: &mut Cursor<'_>, name: Ident) -> Result<Ast, Refused>
-    ensures { Gives term_of (spec.after_name (name_of name) toks.old.at toks.old.kinds) result toks.new }
-{
-    let at = name.at;
-    if toks.eat(b'.') {
-        let other = toks.name(alloc)?;
-        return Ok(Ast {
-            at,
-            form: Form::Column(name, other),
-        });
-    }
-    Ok(Ast {
-        at,
-        form: Form::Bare(name),
-    })
-}
-
 /// An expression within at most `depth` parentheses.
 #[cycle(expression)]
 #[tactic(auto, unfolding(crate::specs::Reading::Expressions::read_term))]
@@ -165,6 +147,24 @@ pub fn arguments(alloc: Global, depth: u32, toks: &mut Cursor<'_>) -> Result<Vec
     Err(Failure::Fault(NoTree))
 }
 
+/// What follows a name: the rest of a column, or nothing.
+fn after_name(alloc: Global, toks: &mut Cursor<'_>, name: Ident) -> Result<Ast, Refused>
+    ensures { Gives term_of (spec.after_name (name_of name) toks.old.at toks.old.kinds) result toks.new }
+{
+    let at = name.at;
+    if toks.eat(b'.') {
+        let other = toks.name(alloc)?;
+        return Ok(Ast {
+            at,
+            form: Form::Column(name, other),
+        });
+    }
+    Ok(Ast {
+        at,
+        form: Form::Bare(name),
+    })
+}
+
 /// Conditions with `and` between them.
 pub fn conditions(alloc: Global, depth: u32, toks: &mut Cursor<'_>) -> Result<Vec<Ast>, Refused>
     ensures { Gives (λ conds. map term_of conds.items) (separated (sees "and") (spec.read_term depth) toks.old.at toks.old.kinds) result toks.new }
@@ -180,10 +180,12 @@ pub fn conditions(alloc: Global, depth: u32, toks: &mut Cursor<'_>) -> Result<Ve
     Err(Failure::Fault(NoTree))
 }
 
-fn is_column(ast: &Ast) -> bool
-    ensures { result ≡ spec.is_column (term_of ast.now) }
+/// An item of a select list.
+pub fn item(alloc: Global, depth: u32, toks: &mut Cursor<'_>) -> Result<Item, Refused>
+    ensures { Gives item_of (spec.read_item depth toks.old.at toks.old.kinds) result toks.new }
 {
-    matches!(&ast.form, Form::Column(_, _))
+    let expr = expression(alloc, depth, toks)?;
+    after_expression(alloc, toks, expr)
 }
 
 /// What follows an item's expression: a name, which only a column can do without.
@@ -210,12 +212,10 @@ fn after_expression(alloc: Global, toks: &mut Cursor<'_>, expr: Ast) -> Result<I
     Err(Failure::Fault(NoTree))
 }
 
-/// An item of a select list.
-pub fn item(alloc: Global, depth: u32, toks: &mut Cursor<'_>) -> Result<Item, Refused>
-    ensures { Gives item_of (spec.read_item depth toks.old.at toks.old.kinds) result toks.new }
+fn is_column(ast: &Ast) -> bool
+    ensures { result ≡ spec.is_column (term_of ast.now) }
 {
-    let expr = expression(alloc, depth, toks)?;
-    after_expression(alloc, toks, expr)
+    matches!(&ast.form, Form::Column(_, _))
 }
 
 /// Items with commas between them.

@@ -1,6 +1,6 @@
 //! The parser of programs.
 //!
-//! `parse` answers the trees whose tokens a program's are, with every node's place, or names the first
+//! `parse` answers the trees whose tokens a program's are, with each place that it keeps, or names the first
 //! statement that has no tree. `measure` counts statements and nested parentheses first and takes no
 //! memory. Stands on `aql_lexer` for tokens, on `aql_syntax` for trees and their grammar, and on
 //! `span_token` for owned text and refusals.

@@ -19,6 +19,34 @@ pub struct Sizes {
     pub nesting: u32,
 }
 
+/// How many statements the tokens are, and the greatest number of `(` without their `)` before one
+/// place within a statement.
+///
+/// A statement is the tokens up to and with a `;`; the tokens after the last `;`, if any, are one more.
+/// Takes no memory. `parse` takes programs that nest no deeper than `MAX_NESTING`, 64.
+///
+/// Meaning: `runs_of`, `aql_syntax`'s `specs/Programs.antt`; `IsNesting`, `specs/Nesting.antt`.
+pub fn measure(toks: &[Tok]) -> Sizes
+    requires few { length toks.now < 2 ^ 32 }
+    ensures statements { result.statements ≡ length (runs_of (kinds_of toks.now)) }
+    ensures nesting { IsNesting (kinds_of toks.now) result.nesting }
+    ensures limit { MAX_NESTING ≡ nesting_limit }
+{
+    let mut statements = 0;
+    let mut nesting = 0u32;
+    let mut rest = toks;
+    while !rest.is_empty() {
+        let run = first_run(rest);
+        statements += 1;
+        nesting = nesting.max(run.nesting);
+        rest = &rest[run.len..];
+    }
+    Sizes {
+        statements,
+        nesting,
+    }
+}
+
 /// The first statement's tokens: how many they are, and how deep their parentheses nest.
 #[derive(Clone, Copy)]
 pub struct Run {
@@ -49,34 +77,6 @@ pub fn first_run(toks: &[Tok]) -> Run
     }
     Run {
         len: toks.len(),
-        nesting,
-    }
-}
-
-/// How many statements the tokens are, and the greatest number of `(` without their `)` before one
-/// place within a statement.
-///
-/// A statement is the tokens up to and with a `;`; the tokens after the last `;`, if any, are one more.
-/// Takes no memory. `parse` takes programs that nest no deeper than `MAX_NESTING`, 64.
-///
-/// Meaning: `runs_of`, `aql_syntax`'s `specs/Programs.antt`; `IsNesting`, `specs/Nesting.antt`.
-pub fn measure(toks: &[Tok]) -> Sizes
-    requires few { length toks.now < 2 ^ 32 }
-    ensures statements { result.statements ≡ length (runs_of (kinds_of toks.now)) }
-    ensures nesting { IsNesting (kinds_of toks.now) result.nesting }
-    ensures limit { MAX_NESTING ≡ nesting_limit }
-{
-    let mut statements = 0;
-    let mut nesting = 0u32;
-    let mut rest = toks;
-    while !rest.is_empty() {
-        let run = first_run(rest);
-        statements += 1;
-        nesting = nesting.max(run.nesting);
-        rest = &rest[run.len..];
-    }
-    Sizes {
-        statements,
         nesting,
     }
 }

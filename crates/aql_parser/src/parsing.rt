@@ -74,33 +74,6 @@ pub fn parse(alloc: Global, toks: &[Tok]) -> Result<Vec<Statement>, Failure<Synt
     Ok(trees)
 }
 
-fn is_module(tree: &Statement) -> bool
-    ensures { result ≡ is_module (statement_of tree.now) }
-{
-    matches!(tree, Statement::Module(_))
-}
-
-/// Whether the statement may have so many before it.
-fn may_follow(tree: &Statement, before: usize) -> bool
-    ensures { result ≡ may_follow before (statement_of tree.now) }
-{
-    before == 0 || !is_module(tree)
-}
-
-/// Whether no token is left, and the statement may have so many before it.
-fn is_whole(toks: &Cursor<'_>, tree: &Statement, before: usize) -> bool
-    ensures { IsTrue result ↔ ((toks.now.kinds ≡ []) × (may_follow before (statement_of tree.now) ≡ true)) }
-{
-    toks.is_done() && may_follow(tree, before)
-}
-
-/// The statement, where it is one.
-fn kept(tree: Statement, is_whole: bool) -> Result<Statement, Refused>
-    ensures { IsKept tree is_whole result }
-{
-    is_whole.then_some(tree).ok_or(Failure::Fault(NoTree))
-}
-
 /// The statement whose tokens are all of `run`, where `before` statements stand before it.
 fn whole(alloc: Global, run: &[Tok], at: u32, before: usize) -> Result<Statement, Refused>
     requires few { at + length run.now < 2 ^ 32 }
@@ -111,6 +84,33 @@ fn whole(alloc: Global, run: &[Tok], at: u32, before: usize) -> Result<Statement
     let tree = statement(alloc, MAX_NESTING, &mut toks)?;
     let stands = is_whole(&toks, &tree, before);
     kept(tree, stands)
+}
+
+/// Whether no token is left, and the statement may have so many before it.
+fn is_whole(toks: &Cursor<'_>, tree: &Statement, before: usize) -> bool
+    ensures { IsTrue result ↔ ((toks.now.kinds ≡ []) × (may_follow before (statement_of tree.now) ≡ true)) }
+{
+    toks.is_done() && may_follow(tree, before)
+}
+
+/// Whether the statement may have so many before it.
+fn may_follow(tree: &Statement, before: usize) -> bool
+    ensures { result ≡ may_follow before (statement_of tree.now) }
+{
+    before == 0 || !is_module(tree)
+}
+
+fn is_module(tree: &Statement) -> bool
+    ensures { result ≡ is_module (statement_of tree.now) }
+{
+    matches!(tree, Statement::Module(_))
+}
+
+/// The statement, where it is one.
+fn kept(tree: Statement, is_whole: bool) -> Result<Statement, Refused>
+    ensures { IsKept tree is_whole result }
+{
+    is_whole.then_some(tree).ok_or(Failure::Fault(NoTree))
 }
 
 /// The refusal, with the statement and the line at which it stands.

@@ -15,49 +15,6 @@ use aql_syntax::{Extract, FromPart, Ident, Item, Query, Select, Spec};
 use span_token::{Failure, OutOfMemory};
 use std::alloc::Global;
 
-fn begins_sought(toks: &Cursor<'_>) -> bool
-    ensures { result ≡ spec.begins_sought toks.now.kinds }
-{
-    toks.begins_pattern() || toks.begins_dictionary()
-}
-
-/// An item and the comma after it.
-fn item_before(alloc: Global, depth: u32, toks: &mut Cursor<'_>) -> Result<Item, Refused>
-    ensures { Gives item_of (spec.item_before depth toks.old.at toks.old.kinds) result toks.new }
-{
-    let one = item(alloc, depth, toks)?;
-    toks.expect_after(one, b',')
-}
-
-/// Items with a comma after each, up to what the extraction looks for.
-fn items_before(alloc: Global, depth: u32, toks: &mut Cursor<'_>) -> Result<Vec<Item>, Refused>
-    ensures { Gives (λ items. map item_of items.items) (spec.read_items_before depth toks.old.at toks.old.kinds) result toks.new }
-{
-    let mut items = Vec::new(alloc);
-    for _turn in 0..toks.left() + 1 {
-        if begins_sought(toks) {
-            return Ok(items);
-        }
-        let one = item_before(alloc, depth, toks)?;
-        items.push(one)?;
-    }
-    Err(Failure::Fault(NoTree))
-}
-
-/// The items of an extraction, and what it looks for.
-#[tactic(auto, unfolding(crate::specs::Reading::Queries::read_extracted))]
-fn extracted(alloc: Global, depth: u32, toks: &mut Cursor<'_>) -> Result<(Vec<Item>, Spec), Refused>
-    ensures { Gives (λ pair. (map item_of pair.0.items, spec_of pair.1)) (spec.read_extracted depth toks.old.at toks.old.kinds) result toks.new }
-{
-    if toks.begins_blocks() {
-        let spec = blocks(alloc, toks)?;
-        return Ok((Vec::new(alloc), spec));
-    }
-    let items = items_before(alloc, depth, toks)?;
-    let spec = sought(alloc, toks)?;
-    Ok((items, spec))
-}
-
 /// A query within at most `depth` parentheses.
 #[cycle(query)]
 #[tactic(auto, unfolding(crate::specs::Reading::Queries::read_query))]
@@ -118,6 +75,15 @@ fn put_together(
     Ok(Query::of_union(sides))
 }
 
+/// A query in parentheses.
+#[cycle(query)]
+fn opened(alloc: Global, depth: u32, toks: &mut Cursor<'_>) -> Result<Query, Refused>
+    ensures { Gives query_of ((symbol "(" ▷ spec.within depth) toks.old.at toks.old.kinds) result toks.new }
+{
+    toks.expect(b'(')?;
+    parenthesis(alloc, depth, toks)
+}
+
 fn minus(alloc: Global, first: Box<Query>, second: Query) -> Result<Query, OutOfMemory>
     ensures { IfOk result (λ query. query_of query ≡ minus (query_of (box_value first)) (query_of second)) }
 {
@@ -131,25 +97,6 @@ fn one_side(alloc: Global, first: Query) -> Result<Vec<Query>, OutOfMemory>
     let mut sides = Vec::new(alloc);
     sides.push(first)?;
     Ok(sides)
-}
-
-/// A side of a union, after its `union`.
-#[cycle(query)]
-#[tactic(auto, unfolding(crate::specs::Reading::Queries::side))]
-fn side(alloc: Global, depth: u32, toks: &mut Cursor<'_>) -> Result<Query, Refused>
-    ensures { Gives query_of (spec.side depth (spec.within depth) toks.old.at toks.old.kinds) result toks.new }
-{
-    toks.expect_word("all")?;
-    opened(alloc, depth, toks)
-}
-
-/// A query in parentheses.
-#[cycle(query)]
-fn opened(alloc: Global, depth: u32, toks: &mut Cursor<'_>) -> Result<Query, Refused>
-    ensures { Gives query_of ((symbol "(" ▷ spec.within depth) toks.old.at toks.old.kinds) result toks.new }
-{
-    toks.expect(b'(')?;
-    parenthesis(alloc, depth, toks)
 }
 
 /// The sides of a union: `sides`, and those that follow.
@@ -172,14 +119,43 @@ fn sides_after(
     Err(Failure::Fault(NoTree))
 }
 
-fn alias(alloc: Global, toks: &mut Cursor<'_>) -> Result<Option<Ident>, Refused>
-    ensures { Gives (λ o. option_map name_of o) (where_seen sees_name a_name toks.old.at toks.old.kinds) result toks.new }
+/// A side of a union, after its `union`.
+#[cycle(query)]
+#[tactic(auto, unfolding(crate::specs::Reading::Queries::side))]
+fn side(alloc: Global, depth: u32, toks: &mut Cursor<'_>) -> Result<Query, Refused>
+    ensures { Gives query_of (spec.side depth (spec.within depth) toks.old.at toks.old.kinds) result toks.new }
 {
-    if toks.sees_name() {
-        let alias = toks.name(alloc)?;
-        return Ok(Some(alias));
+    toks.expect_word("all")?;
+    opened(alloc, depth, toks)
+}
+
+/// A selection, after its `select`, which has the number `at`.
+#[cycle(query)]
+#[tactic(auto, unfolding(crate::specs::Reading::Queries::selection))]
+fn selection(alloc: Global, depth: u32, toks: &mut Cursor<'_>, at: u32) -> Result<Query, Refused>
+    ensures { Gives query_of (spec.selection depth (spec.within depth) at toks.old.at toks.old.kinds) result toks.new }
+{
+    let items = items(alloc, depth, toks)?;
+    toks.expect_word("from")?;
+    let sources = sources(alloc, depth, toks)?;
+    let clauses = clauses(alloc, depth, toks)?;
+    Ok(select(at, items, sources, clauses))
+}
+
+/// Sources with commas between them.
+#[cycle(query)]
+fn sources(alloc: Global, depth: u32, toks: &mut Cursor<'_>) -> Result<Vec<FromPart>, Refused>
+    ensures { Gives (λ sources. map source_of sources.items) (separated (sees_sign ",") (spec.read_source depth) toks.old.at toks.old.kinds) result toks.new }
+{
+    let mut sources = Vec::new(alloc);
+    for _turn in 0..toks.left() + 1 {
+        let one = source(alloc, depth, toks)?;
+        sources.push(one)?;
+        if !toks.eat(b',') {
+            return Ok(sources);
+        }
     }
-    Ok(None)
+    Err(Failure::Fault(NoTree))
 }
 
 /// A source of a query.
@@ -202,6 +178,16 @@ fn source(alloc: Global, depth: u32, toks: &mut Cursor<'_>) -> Result<FromPart, 
     view(alloc, toks)
 }
 
+fn alias(alloc: Global, toks: &mut Cursor<'_>) -> Result<Option<Ident>, Refused>
+    ensures { Gives (λ o. option_map name_of o) (where_seen sees_name a_name toks.old.at toks.old.kinds) result toks.new }
+{
+    if toks.sees_name() {
+        let alias = toks.name(alloc)?;
+        return Ok(Some(alias));
+    }
+    Ok(None)
+}
+
 fn nested(alloc: Global, query: Query, alias: Ident) -> Result<FromPart, OutOfMemory>
     ensures { IfOk result (λ source. source_of source ≡ nested (query_of query) (name_of alias)) }
 {
@@ -217,35 +203,6 @@ fn view(alloc: Global, toks: &mut Cursor<'_>) -> Result<FromPart, Refused>
     let name = toks.name(alloc)?;
     let alias = alias(alloc, toks)?;
     Ok(FromPart::View { name, alias })
-}
-
-/// Sources with commas between them.
-#[cycle(query)]
-fn sources(alloc: Global, depth: u32, toks: &mut Cursor<'_>) -> Result<Vec<FromPart>, Refused>
-    ensures { Gives (λ sources. map source_of sources.items) (separated (sees_sign ",") (spec.read_source depth) toks.old.at toks.old.kinds) result toks.new }
-{
-    let mut sources = Vec::new(alloc);
-    for _turn in 0..toks.left() + 1 {
-        let one = source(alloc, depth, toks)?;
-        sources.push(one)?;
-        if !toks.eat(b',') {
-            return Ok(sources);
-        }
-    }
-    Err(Failure::Fault(NoTree))
-}
-
-/// A selection, after its `select`, which has the number `at`.
-#[cycle(query)]
-#[tactic(auto, unfolding(crate::specs::Reading::Queries::selection))]
-fn selection(alloc: Global, depth: u32, toks: &mut Cursor<'_>, at: u32) -> Result<Query, Refused>
-    ensures { Gives query_of (spec.selection depth (spec.within depth) at toks.old.at toks.old.kinds) result toks.new }
-{
-    let items = items(alloc, depth, toks)?;
-    toks.expect_word("from")?;
-    let sources = sources(alloc, depth, toks)?;
-    let clauses = clauses(alloc, depth, toks)?;
-    Ok(select(at, items, sources, clauses))
 }
 
 fn select(at: u32, items: Vec<Item>, sources: Vec<FromPart>, clauses: SelectClauses) -> Query
@@ -270,6 +227,66 @@ fn select(at: u32, items: Vec<Item>, sources: Vec<FromPart>, clauses: SelectClau
     })
 }
 
+/// An extraction, after its `extract`, which has the number `at`.
+#[cycle(query)]
+#[tactic(auto, unfolding(crate::specs::Reading::Queries::extraction))]
+fn extraction(alloc: Global, depth: u32, toks: &mut Cursor<'_>, at: u32) -> Result<Query, Refused>
+    ensures { Gives query_of (spec.extraction depth (spec.within depth) at toks.old.at toks.old.kinds) result toks.new }
+{
+    let found = extracted(alloc, depth, toks)?;
+    let rest = match source_and_tail(alloc, depth, toks) {
+        Ok(rest) => rest,
+        Err(refused) => {
+            drop(found);
+            return Err(refused);
+        }
+    };
+    Ok(extract(at, found, rest))
+}
+
+/// The items of an extraction, and what it looks for.
+#[tactic(auto, unfolding(crate::specs::Reading::Queries::read_extracted))]
+fn extracted(alloc: Global, depth: u32, toks: &mut Cursor<'_>) -> Result<(Vec<Item>, Spec), Refused>
+    ensures { Gives (λ pair. (map item_of pair.0.items, spec_of pair.1)) (spec.read_extracted depth toks.old.at toks.old.kinds) result toks.new }
+{
+    if toks.begins_blocks() {
+        let spec = blocks(alloc, toks)?;
+        return Ok((Vec::new(alloc), spec));
+    }
+    let items = items_before(alloc, depth, toks)?;
+    let spec = sought(alloc, toks)?;
+    Ok((items, spec))
+}
+
+/// Items with a comma after each, up to what the extraction looks for.
+fn items_before(alloc: Global, depth: u32, toks: &mut Cursor<'_>) -> Result<Vec<Item>, Refused>
+    ensures { Gives (λ items. map item_of items.items) (spec.read_items_before depth toks.old.at toks.old.kinds) result toks.new }
+{
+    let mut items = Vec::new(alloc);
+    for _turn in 0..toks.left() + 1 {
+        if begins_sought(toks) {
+            return Ok(items);
+        }
+        let one = item_before(alloc, depth, toks)?;
+        items.push(one)?;
+    }
+    Err(Failure::Fault(NoTree))
+}
+
+fn begins_sought(toks: &Cursor<'_>) -> bool
+    ensures { result ≡ spec.begins_sought toks.now.kinds }
+{
+    toks.begins_pattern() || toks.begins_dictionary()
+}
+
+/// An item and the comma after it.
+fn item_before(alloc: Global, depth: u32, toks: &mut Cursor<'_>) -> Result<Item, Refused>
+    ensures { Gives item_of (spec.item_before depth toks.old.at toks.old.kinds) result toks.new }
+{
+    let one = item(alloc, depth, toks)?;
+    toks.expect_after(one, b',')
+}
+
 /// `from`, the source of an extraction, and its clauses.
 #[cycle(query)]
 fn source_and_tail(
@@ -289,23 +306,6 @@ fn source_and_tail(
         }
     };
     Ok((source, tail))
-}
-
-/// An extraction, after its `extract`, which has the number `at`.
-#[cycle(query)]
-#[tactic(auto, unfolding(crate::specs::Reading::Queries::extraction))]
-fn extraction(alloc: Global, depth: u32, toks: &mut Cursor<'_>, at: u32) -> Result<Query, Refused>
-    ensures { Gives query_of (spec.extraction depth (spec.within depth) at toks.old.at toks.old.kinds) result toks.new }
-{
-    let found = extracted(alloc, depth, toks)?;
-    let rest = match source_and_tail(alloc, depth, toks) {
-        Ok(rest) => rest,
-        Err(refused) => {
-            drop(found);
-            return Err(refused);
-        }
-    };
-    Ok(extract(at, found, rest))
 }
 
 fn extract(at: u32, found: (Vec<Item>, Spec), rest: (FromPart, ExtractTail)) -> Query

@@ -27,6 +27,15 @@ pub(crate) fn mark_bytes(tree: &Hir, set: &mut ByteSet)
     }
 }
 
+fn mark_literal(bytes: &[u8], set: &mut ByteSet)
+    ensures marks { IsMadeOf set.new (literal bytes.now) }
+    ensures keeps { Widens set.old set.new }
+{
+    for byte in bytes {
+        set.add_range(u32::from(*byte), u32::from(*byte));
+    }
+}
+
 /// The same of trees one after another, and of a choice among them.
 #[cycle(mark_bytes)]
 fn mark_bytes_of_each(subs: &[Hir], set: &mut ByteSet)
@@ -36,15 +45,6 @@ fn mark_bytes_of_each(subs: &[Hir], set: &mut ByteSet)
 {
     for i in 0..subs.len() {
         mark_bytes(&subs[i], set);
-    }
-}
-
-fn mark_literal(bytes: &[u8], set: &mut ByteSet)
-    ensures marks { IsMadeOf set.new (literal bytes.now) }
-    ensures keeps { Widens set.old set.new }
-{
-    for byte in bytes {
-        set.add_range(u32::from(*byte), u32::from(*byte));
     }
 }
 
@@ -71,6 +71,19 @@ pub(crate) fn mark_firsts(tree: &Hir, set: &mut ByteSet) -> bool
         Hir::Capture { sub, .. } => mark_firsts(sub, set),
         Hir::Concat(subs) => mark_firsts_of_all(subs, set),
         Hir::Alternation(subs) => mark_firsts_of_any(subs, set),
+    }
+}
+
+fn mark_first(bytes: &[u8], set: &mut ByteSet) -> bool
+    ensures marks { BeginsIn set.new result (literal bytes.now) }
+    ensures keeps { Widens set.old set.new }
+{
+    match bytes.first() {
+        Some(byte) => {
+            set.add_range(u32::from(*byte), u32::from(*byte));
+            false
+        }
+        None => true,
     }
 }
 
@@ -102,17 +115,4 @@ fn mark_firsts_of_any(subs: &[Hir], set: &mut ByteSet) -> bool
         }
     }
     may_be_empty
-}
-
-fn mark_first(bytes: &[u8], set: &mut ByteSet) -> bool
-    ensures marks { BeginsIn set.new result (literal bytes.now) }
-    ensures keeps { Widens set.old set.new }
-{
-    match bytes.first() {
-        Some(byte) => {
-            set.add_range(u32::from(*byte), u32::from(*byte));
-            false
-        }
-        None => true,
-    }
 }

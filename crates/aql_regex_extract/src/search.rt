@@ -15,6 +15,30 @@ use crate::sought::Sought;
 use regex::Matcher;
 use span_token::{OutOfMemory, Span};
 
+/// The end of the match that the text has from `start` on. Where it is `least` or later, its row is
+/// put after the others.
+pub(crate) fn push_from(
+    matcher: &mut Matcher<'_>,
+    sought: &Sought<'_, '_>,
+    text: &str,
+    start: usize,
+    least: usize,
+    into: &mut Vec<Option<Span>>,
+) -> Result<Option<usize>, OutOfMemory>
+    requires text { IsTextOf sought.now text.now }
+    ensures found { IfOk result (Pushes least sought.now.doc.now (extent_of sought.now.source) sought.now.groups.now
+        (find_str (matcher_pattern matcher.old) text.now start)
+        (extents_of into.old.items) (extents_of into.new.items)) }
+    ensures within { (wide : Extent) → ContainsExtent wide (extent_of sought.now.source)
+        → All (IsInside wide) into.old.items → OnOk result (All (IsInside wide) into.new.items) }
+    ensures same { matcher_pattern matcher.new ≡ matcher_pattern matcher.old }
+{
+    if asks_whole_matches(sought.groups) {
+        return push_span_from(matcher, sought, text, start, least, into);
+    }
+    push_groups_from(matcher, sought, text, start, least, into)
+}
+
 /// Whether the spans of the whole matches are asked for, and nothing else.
 fn asks_whole_matches(groups: &[u32]) -> bool
     ensures { IsTrue result → groups.now ≡ 0 ∷ [] }
@@ -78,30 +102,6 @@ fn push_groups_from(
     Ok(Some(end))
 }
 
-/// The end of the match that the text has from `start` on. Where it is `least` or later, its row is
-/// put after the others.
-pub(crate) fn push_from(
-    matcher: &mut Matcher<'_>,
-    sought: &Sought<'_, '_>,
-    text: &str,
-    start: usize,
-    least: usize,
-    into: &mut Vec<Option<Span>>,
-) -> Result<Option<usize>, OutOfMemory>
-    requires text { IsTextOf sought.now text.now }
-    ensures found { IfOk result (Pushes least sought.now.doc.now (extent_of sought.now.source) sought.now.groups.now
-        (find_str (matcher_pattern matcher.old) text.now start)
-        (extents_of into.old.items) (extents_of into.new.items)) }
-    ensures within { (wide : Extent) → ContainsExtent wide (extent_of sought.now.source)
-        → All (IsInside wide) into.old.items → OnOk result (All (IsInside wide) into.new.items) }
-    ensures same { matcher_pattern matcher.new ≡ matcher_pattern matcher.old }
-{
-    if asks_whole_matches(sought.groups) {
-        return push_span_from(matcher, sought, text, start, least, into);
-    }
-    push_groups_from(matcher, sought, text, start, least, into)
-}
-
 /// The same of the next match, where `after` is one more than the end of the last one, or 0 before
 /// the first.
 pub(crate) fn push_next(
@@ -127,6 +127,28 @@ pub(crate) fn push_next(
         return push_from(matcher, sought, text, after, 0, into);
     }
     Ok(Some(end))
+}
+
+/// The same for any pattern whose tree the matcher has.
+pub(crate) fn push_found(
+    matcher: &mut Matcher<'_>,
+    sought: &Sought<'_, '_>,
+    text: &str,
+    into: &mut Vec<Option<Span>>,
+) -> Result<usize, OutOfMemory>
+    requires text { IsTextOf sought.now text.now }
+    ensures matches { (pattern : List ℕ) → Finds (matcher_pattern matcher.old) pattern
+        → OnOk result (extents_of into.new.items ≡ extents_of into.old.items
+        ++ flat_map (row_of sought.now.doc.now (extent_of sought.now.source) sought.now.groups.now) (matches_of pattern text.now)) }
+    ensures rows { (pattern : List ℕ) → Finds (matcher_pattern matcher.old) pattern
+        → IfOk result (PutsRows (map (row_of sought.now.doc.now (extent_of sought.now.source) sought.now.groups.now) (matches_of pattern text.now))
+        (extents_of into.old.items) (extents_of into.new.items)) }
+    ensures within { All (IsInside (extent_of sought.now.source)) into.old.items
+        → OnOk result (All (IsInside (extent_of sought.now.source)) into.new.items) }
+    ensures same { matcher_pattern matcher.new ≡ matcher_pattern matcher.old }
+{
+    let number = push_all(matcher, sought, text, into)?;
+    Ok(number)
 }
 
 /// The rows of all successive matches, put after the others; gives their number.
@@ -166,28 +188,6 @@ fn one_more(number: usize) -> Result<usize, OutOfMemory>
         Some(more) => Ok(more),
         None => Err(OutOfMemory),
     }
-}
-
-/// The same for any pattern whose tree the matcher has.
-pub(crate) fn push_found(
-    matcher: &mut Matcher<'_>,
-    sought: &Sought<'_, '_>,
-    text: &str,
-    into: &mut Vec<Option<Span>>,
-) -> Result<usize, OutOfMemory>
-    requires text { IsTextOf sought.now text.now }
-    ensures matches { (pattern : List ℕ) → Finds (matcher_pattern matcher.old) pattern
-        → OnOk result (extents_of into.new.items ≡ extents_of into.old.items
-        ++ flat_map (row_of sought.now.doc.now (extent_of sought.now.source) sought.now.groups.now) (matches_of pattern text.now)) }
-    ensures rows { (pattern : List ℕ) → Finds (matcher_pattern matcher.old) pattern
-        → IfOk result (PutsRows (map (row_of sought.now.doc.now (extent_of sought.now.source) sought.now.groups.now) (matches_of pattern text.now))
-        (extents_of into.old.items) (extents_of into.new.items)) }
-    ensures within { All (IsInside (extent_of sought.now.source)) into.old.items
-        → OnOk result (All (IsInside (extent_of sought.now.source)) into.new.items) }
-    ensures same { matcher_pattern matcher.new ≡ matcher_pattern matcher.old }
-{
-    let number = push_all(matcher, sought, text, into)?;
-    Ok(number)
 }
 
 /// Whether a pattern whose tree the matcher has matches somewhere in the text.

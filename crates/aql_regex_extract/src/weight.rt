@@ -23,25 +23,13 @@ pub(crate) fn weigh(alloc: Global, text: &[u8]) -> Result<u64, OutOfMemory>
     Ok(product(&greatest))
 }
 
-/// The product, counted up to the limit.
-fn product(numbers: &[u64]) -> u64
-    requires { All IsCounted numbers.now }
-    ensures { result ≡ capped (product_below (slice_index numbers.now) (length numbers.now)) }
-{
-    let mut product = 1;
-    for number in numbers {
-        product = (product * *number).min(MOST);
-    }
-    product
-}
-
-/// All but the first byte.
-fn pass(text: &[u8]) -> &[u8]
-    ensures { result.now ≡ drop 1 text.now }
+/// The first byte and the others.
+fn split(text: &[u8]) -> Option<(u8, &[u8])>
+    ensures { MatchOption result (text.now ≡ []) (λ p. text.now ≡ p.0 ∷ p.1.now) }
 {
     match text {
-        [_, rest @ ..] => rest,
-        [] => text,
+        [first, rest @ ..] => Some((*first, rest)),
+        [] => None,
     }
 }
 
@@ -83,6 +71,16 @@ fn read_piece<'t>(
     }
 }
 
+/// All but the first byte.
+fn pass(text: &[u8]) -> &[u8]
+    ensures { result.now ≡ drop 1 text.now }
+{
+    match text {
+        [_, rest @ ..] => rest,
+        [] => text,
+    }
+}
+
 /// Makes room for a depth, at which no chain stands so far.
 fn deepen(greatest: &mut Vec<u64>, depth: usize) -> Result<(), OutOfMemory>
     requires next { depth ≤ vec_len greatest.old }
@@ -95,20 +93,6 @@ fn deepen(greatest: &mut Vec<u64>, depth: usize) -> Result<(), OutOfMemory>
         greatest.push(1)?;
     }
     Ok(())
-}
-
-/// Takes `number` as the greatest chain at `depth`, if it is.
-fn raise(greatest: &mut Vec<u64>, depth: usize, number: u64)
-    requires known { depth < vec_len greatest.old }
-    requires counted { IsCounted number }
-    ensures raised { (d : ℕ) → slice_index_or greatest.new.items d 1
-        ≡ (if depth == d then max (slice_index_or greatest.old.items d 1) number else slice_index_or greatest.old.items d 1) }
-    ensures counted { All IsCounted greatest.old.items → All IsCounted greatest.new.items }
-    ensures len { vec_len greatest.new ≡ vec_len greatest.old }
-{
-    if greatest[depth] < number {
-        greatest[depth] = number;
-    }
 }
 
 /// The number of the chain at the front, and what follows it.
@@ -145,22 +129,14 @@ fn count_behind(text: &[u8]) -> Option<(u64, &[u8])>
     closed(low, rest).or(bounded(low, rest))
 }
 
-/// The rest of a count from its comma on, with a second number where one stands there.
-fn bounded(low: u64, text: &[u8]) -> Option<(u64, &[u8])>
-    ensures { (n : ℕ) → low ≡ capped n
-        → option_map (λ c. (c.0, c.1.now)) result ≡ capped_count (bounded n text.now) }
+/// Whether a digit stands at the front.
+fn begins_number(text: &[u8]) -> bool
+    ensures { result ≡ begins_number text.now }
 {
-    let (high, rest) = read_number(behind(b',', text)?);
-    closed(low.max(high), rest)
-}
-
-/// The end of a count whose number is counted up to the limit.
-fn closed(number: u64, text: &[u8]) -> Option<(u64, &[u8])>
-    ensures { (n : ℕ) → number ≡ capped n
-        → option_map (λ c. (c.0, c.1.now)) result ≡ capped_count (closed n text.now) }
-{
-    let rest = behind(b'}', text)?;
-    Some((number.max(1), behind(b'?', rest).unwrap_or(rest)))
+    match split(text) {
+        Some((first, _)) => first.is_ascii_digit(),
+        None => false,
+    }
 }
 
 /// The number at the front, and what follows its digits.
@@ -181,14 +157,13 @@ fn read_number(text: &[u8]) -> (u64, &[u8])
     (number, rest)
 }
 
-/// Whether a digit stands at the front.
-fn begins_number(text: &[u8]) -> bool
-    ensures { result ≡ begins_number text.now }
+/// The end of a count whose number is counted up to the limit.
+fn closed(number: u64, text: &[u8]) -> Option<(u64, &[u8])>
+    ensures { (n : ℕ) → number ≡ capped n
+        → option_map (λ c. (c.0, c.1.now)) result ≡ capped_count (closed n text.now) }
 {
-    match split(text) {
-        Some((first, _)) => first.is_ascii_digit(),
-        None => false,
-    }
+    let rest = behind(b'}', text)?;
+    Some((number.max(1), behind(b'?', rest).unwrap_or(rest)))
 }
 
 /// What stands behind the byte, where the text begins with it.
@@ -201,12 +176,37 @@ fn behind(byte: u8, text: &[u8]) -> Option<&[u8]>
     }
 }
 
-/// The first byte and the others.
-fn split(text: &[u8]) -> Option<(u8, &[u8])>
-    ensures { MatchOption result (text.now ≡ []) (λ p. text.now ≡ p.0 ∷ p.1.now) }
+/// The rest of a count from its comma on, with a second number where one stands there.
+fn bounded(low: u64, text: &[u8]) -> Option<(u64, &[u8])>
+    ensures { (n : ℕ) → low ≡ capped n
+        → option_map (λ c. (c.0, c.1.now)) result ≡ capped_count (bounded n text.now) }
 {
-    match text {
-        [first, rest @ ..] => Some((*first, rest)),
-        [] => None,
+    let (high, rest) = read_number(behind(b',', text)?);
+    closed(low.max(high), rest)
+}
+
+/// Takes `number` as the greatest chain at `depth`, if it is.
+fn raise(greatest: &mut Vec<u64>, depth: usize, number: u64)
+    requires known { depth < vec_len greatest.old }
+    requires counted { IsCounted number }
+    ensures raised { (d : ℕ) → slice_index_or greatest.new.items d 1
+        ≡ (if depth == d then max (slice_index_or greatest.old.items d 1) number else slice_index_or greatest.old.items d 1) }
+    ensures counted { All IsCounted greatest.old.items → All IsCounted greatest.new.items }
+    ensures len { vec_len greatest.new ≡ vec_len greatest.old }
+{
+    if greatest[depth] < number {
+        greatest[depth] = number;
     }
+}
+
+/// The product, counted up to the limit.
+fn product(numbers: &[u64]) -> u64
+    requires { All IsCounted numbers.now }
+    ensures { result ≡ capped (product_below (slice_index numbers.now) (length numbers.now)) }
+{
+    let mut product = 1;
+    for number in numbers {
+        product = (product * *number).min(MOST);
+    }
+    product
 }

@@ -14,6 +14,15 @@ use span_token::{OutOfMemory, OwnedList, OwnedText};
 use std::alloc::Global;
 use view_graph::Graph;
 
+/// Whether a dictionary of the program has this name.
+///
+/// Meaning: `is_dictionary`, `specs/Programs.antt`.
+pub fn is_dictionary(graph: &Graph, name: &str) -> bool
+    ensures { result ≡ spec.is_dictionary (map statement_of graph.now.0) name.now }
+{
+    dictionary(graph, name).is_some()
+}
+
 /// The dictionaries of some mentions with their entries, each once for each way in which it is compared.
 #[derive(Drop)]
 pub(crate) struct Dicts {
@@ -106,15 +115,6 @@ impl Dicts {
             set_entry(alloc, &mut self.other, name, number)
         }
     }
-}
-
-/// Whether a dictionary of the program has this name.
-///
-/// Meaning: `is_dictionary`, `specs/Programs.antt`.
-pub fn is_dictionary(graph: &Graph, name: &str) -> bool
-    ensures { result ≡ spec.is_dictionary (map statement_of graph.now.0) name.now }
-{
-    dictionary(graph, name).is_some()
 }
 
 /// The entries of the program's dictionary with this name, if there is one.

@@ -39,32 +39,21 @@ pub(crate) struct Below<'a> {
     body: TypedSource,
 }
 
-/// The document: one column, the span of its text.
-fn document<'a>(alloc: Global) -> Result<Below<'a>, OutOfMemory>
-    ensures { IfOk result (λ b. below_seen b ≡ spec.document_below) }
+/// A view as a source.
+pub(crate) fn view_source<'a>(
+    alloc: Global,
+    below: &'a [TypedView],
+    alias: &Ident,
+    name: &str,
+) -> Result<CheckedSource<'a>, OutOfMemory>
+    ensures { IfOk result (λ s. spec.typing_of_view (name_of alias.now) (spec.view_named name.now 0 (map view_seen below.now)) ≡ source_seen s) }
 {
-    let name = OwnedText::copied(alloc, "text")?;
-    let mut columns = Vec::new(alloc);
-    columns.push(Column {
-        name,
-        kind: Kind::Span,
-    })?;
-    Ok(Below {
-        columns: Columns::Own(columns),
-        body: TypedSource::Document,
-    })
-}
-
-/// The view with this number.
-fn numbered(index: usize, view: &TypedView) -> Result<Below<'_>, OutOfMemory>
-    ensures { IfOk result (λ b. below_seen b ≡ spec.view_below index (view_seen view.now)) }
-{
-    let Ok(number) = u32::try_from(index) else {
-        return Err(OutOfMemory);
-    };
-    Ok(Below {
-        columns: Columns::OfView(&view.columns),
-        body: TypedSource::View(number),
+    let text = OwnedText::copied(alloc, alias.text.as_str())?;
+    let Below { columns, body } = view_named(alloc, name, below)?;
+    Ok(CheckedSource {
+        alias: Ident { text, at: alias.at },
+        columns,
+        body,
     })
 }
 
@@ -84,20 +73,31 @@ fn view_named<'a>(
     document(alloc)
 }
 
-/// A view as a source.
-pub(crate) fn view_source<'a>(
-    alloc: Global,
-    below: &'a [TypedView],
-    alias: &Ident,
-    name: &str,
-) -> Result<CheckedSource<'a>, OutOfMemory>
-    ensures { IfOk result (λ s. spec.typing_of_view (name_of alias.now) (spec.view_named name.now 0 (map view_seen below.now)) ≡ source_seen s) }
+/// The view with this number.
+fn numbered(index: usize, view: &TypedView) -> Result<Below<'_>, OutOfMemory>
+    ensures { IfOk result (λ b. below_seen b ≡ spec.view_below index (view_seen view.now)) }
 {
-    let text = OwnedText::copied(alloc, alias.text.as_str())?;
-    let Below { columns, body } = view_named(alloc, name, below)?;
-    Ok(CheckedSource {
-        alias: Ident { text, at: alias.at },
-        columns,
-        body,
+    let Ok(number) = u32::try_from(index) else {
+        return Err(OutOfMemory);
+    };
+    Ok(Below {
+        columns: Columns::OfView(&view.columns),
+        body: TypedSource::View(number),
+    })
+}
+
+/// The document: one column, the span of its text.
+fn document<'a>(alloc: Global) -> Result<Below<'a>, OutOfMemory>
+    ensures { IfOk result (λ b. below_seen b ≡ spec.document_below) }
+{
+    let name = OwnedText::copied(alloc, "text")?;
+    let mut columns = Vec::new(alloc);
+    columns.push(Column {
+        name,
+        kind: Kind::Span,
+    })?;
+    Ok(Below {
+        columns: Columns::Own(columns),
+        body: TypedSource::Document,
     })
 }

@@ -63,57 +63,6 @@ fn selected(
     select(alloc, known, sources, query)
 }
 
-/// An extraction: its source, and then the rest.
-#[cycle(query)]
-#[tactic(auto, using(clause_types::specs::FaultLaws::first_here))]
-fn extracted(
-    alloc: Global,
-    known: &Known<'_>,
-    below: &[TypedView],
-    query: &Extract,
-) -> Result<CheckedQuery, Failure<Breach>>
-    ensures ok { IfOk result (λ q. extraction (known_of known.now) (spec.typing_of_source (known_of known.now) (map view_seen below.now) (see.source_of query.now.source)) (map see.item_of query.now.items.items) (see.spec_of query.now.spec) (see.tail_of query.now) query.now.at ≡ query_seen q) }
-    ensures fault { IfErr result (IsFirst (extraction (known_of known.now) (spec.typing_of_source (known_of known.now) (map view_seen below.now) (see.source_of query.now.source)) (map see.item_of query.now.items.items) (see.spec_of query.now.spec) (see.tail_of query.now) query.now.at).faults) }
-{
-    let source = source(alloc, known, below, &query.source)?;
-    extract(alloc, known, source, query)
-}
-
-/// The sides of a union, from the left, and then their columns.
-#[cycle(query)]
-#[tactic(auto, using(clause_types::specs::FaultLaws::first_here))]
-fn united(
-    alloc: Global,
-    known: &Known<'_>,
-    below: &[TypedView],
-    sides: &[Query],
-) -> Result<CheckedQuery, Failure<Breach>>
-    ensures ok { IfOk result (λ q. spec.union_of (map (spec.typing_of_query (known_of known.now) (map view_seen below.now)) (map see.query_of sides.now)) ≡ query_seen q) }
-    ensures fault { IfErr result (IsFirst (spec.union_of (map (spec.typing_of_query (known_of known.now) (map view_seen below.now)) (map see.query_of sides.now))).faults) }
-{
-    let sides = queries(alloc, known, below, sides)?;
-    unite(alloc, sides)
-}
-
-#[cycle(query)]
-#[tactic(auto, using(clause_types::specs::FaultLaws::first_here))]
-fn queries(
-    alloc: Global,
-    known: &Known<'_>,
-    below: &[TypedView],
-    sides: &[Query],
-) -> Result<Vec<CheckedQuery>, Failure<Breach>>
-    ensures ok { IfOk result (λ all. map (spec.typing_of_query (known_of known.now) (map view_seen below.now)) (map see.query_of sides.now) ≡ map query_seen all.items) }
-    ensures fault { IfErr result (IsFirst (spec.faults_of_sides (map (spec.typing_of_query (known_of known.now) (map view_seen below.now)) (map see.query_of sides.now)))) }
-{
-    let mut all = Vec::new(alloc);
-    for side in sides {
-        let checked = query(alloc, known, below, side)?;
-        all.push(checked)?;
-    }
-    Ok(all)
-}
-
 #[cycle(query)]
 #[tactic(auto, using(clause_types::specs::FaultLaws::first_here))]
 fn sources<'a>(
@@ -181,4 +130,55 @@ fn nested<'a>(
         columns: Columns::Own(columns),
         body: TypedSource::Nested(Box::new(alloc, body)?),
     })
+}
+
+/// An extraction: its source, and then the rest.
+#[cycle(query)]
+#[tactic(auto, using(clause_types::specs::FaultLaws::first_here))]
+fn extracted(
+    alloc: Global,
+    known: &Known<'_>,
+    below: &[TypedView],
+    query: &Extract,
+) -> Result<CheckedQuery, Failure<Breach>>
+    ensures ok { IfOk result (λ q. extraction (known_of known.now) (spec.typing_of_source (known_of known.now) (map view_seen below.now) (see.source_of query.now.source)) (map see.item_of query.now.items.items) (see.spec_of query.now.spec) (see.tail_of query.now) query.now.at ≡ query_seen q) }
+    ensures fault { IfErr result (IsFirst (extraction (known_of known.now) (spec.typing_of_source (known_of known.now) (map view_seen below.now) (see.source_of query.now.source)) (map see.item_of query.now.items.items) (see.spec_of query.now.spec) (see.tail_of query.now) query.now.at).faults) }
+{
+    let source = source(alloc, known, below, &query.source)?;
+    extract(alloc, known, source, query)
+}
+
+/// The sides of a union, from the left, and then their columns.
+#[cycle(query)]
+#[tactic(auto, using(clause_types::specs::FaultLaws::first_here))]
+fn united(
+    alloc: Global,
+    known: &Known<'_>,
+    below: &[TypedView],
+    sides: &[Query],
+) -> Result<CheckedQuery, Failure<Breach>>
+    ensures ok { IfOk result (λ q. spec.union_of (map (spec.typing_of_query (known_of known.now) (map view_seen below.now)) (map see.query_of sides.now)) ≡ query_seen q) }
+    ensures fault { IfErr result (IsFirst (spec.union_of (map (spec.typing_of_query (known_of known.now) (map view_seen below.now)) (map see.query_of sides.now))).faults) }
+{
+    let sides = queries(alloc, known, below, sides)?;
+    unite(alloc, sides)
+}
+
+#[cycle(query)]
+#[tactic(auto, using(clause_types::specs::FaultLaws::first_here))]
+fn queries(
+    alloc: Global,
+    known: &Known<'_>,
+    below: &[TypedView],
+    sides: &[Query],
+) -> Result<Vec<CheckedQuery>, Failure<Breach>>
+    ensures ok { IfOk result (λ all. map (spec.typing_of_query (known_of known.now) (map view_seen below.now)) (map see.query_of sides.now) ≡ map query_seen all.items) }
+    ensures fault { IfErr result (IsFirst (spec.faults_of_sides (map (spec.typing_of_query (known_of known.now) (map view_seen below.now)) (map see.query_of sides.now)))) }
+{
+    let mut all = Vec::new(alloc);
+    for side in sides {
+        let checked = query(alloc, known, below, side)?;
+        all.push(checked)?;
+    }
+    Ok(all)
 }

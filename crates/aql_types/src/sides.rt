@@ -14,22 +14,54 @@ use scalar_ops::Kind;
 use span_token::{Failure, OutOfMemory, OwnedText};
 use std::alloc::Global;
 
-fn same_kind(a: Kind, b: Kind) -> bool
-    ensures { result ≡ spec.same_kind a b }
+/// A union of sides without a fault.
+#[tactic(auto, using(crate::proofs::SourceFaults::sides_faultless, clause_types::specs::FaultLaws::first_later, clause_types::specs::FaultLaws::all_faultless))]
+pub(crate) fn unite(
+    alloc: Global,
+    sides: Vec<CheckedQuery>,
+) -> Result<CheckedQuery, Failure<Breach>>
+    ensures ok { IfOk result (λ q. spec.union_of (map query_seen sides.items) ≡ query_seen q) }
+    ensures fault { IfErr result (IsFirst (spec.union_of (map query_seen sides.items)).faults) }
 {
-    match a {
-        Kind::Integer => matches!(b, Kind::Integer),
-        Kind::Boolean => matches!(b, Kind::Boolean),
-        Kind::Text => matches!(b, Kind::Text),
-        Kind::Span => matches!(b, Kind::Span),
-        _ => false,
+    refuse_mismatched(&sides)?;
+    let at = first_at(&sides);
+    let columns = first_columns(alloc, &sides)?;
+    let bodies = bodies(alloc, sides)?;
+    Ok(joined(at, columns, bodies))
+}
+
+/// Refuses sides whose columns differ.
+fn refuse_mismatched(sides: &[CheckedQuery]) -> Result<(), Failure<Breach>>
+    ensures ok { OnOk result (spec.mismatched (map query_seen sides.now) ≡ []) }
+    ensures fault { IfErr result (IsFirst (spec.mismatched (map query_seen sides.now))) }
+{
+    match sides {
+        [] => Ok(()),
+        [first, later @ ..] => refuse_sides(first, later),
     }
 }
 
-fn same_column(a: &Column, b: &Column) -> bool
-    ensures { result ≡ spec.same_column a.now b.now }
+/// Refuses the first later side whose columns aren't those of the first.
+fn refuse_sides(first: &CheckedQuery, later: &[CheckedQuery]) -> Result<(), Failure<Breach>>
+    ensures ok { OnOk result (spec.mismatches (query_seen first.now) (map query_seen later.now) ≡ []) }
+    ensures fault { IfErr result (IsFirst (spec.mismatches (query_seen first.now) (map query_seen later.now))) }
 {
-    a.name.as_str() == b.name.as_str() && same_kind(a.kind, b.kind)
+    for side in later {
+        refuse_side(first, side)?;
+    }
+    Ok(())
+}
+
+/// Refuses a side whose columns aren't those of the first.
+fn refuse_side(first: &CheckedQuery, side: &CheckedQuery) -> Result<(), Failure<Breach>>
+    ensures ok { OnOk result (spec.mismatch (query_seen first.now) (query_seen side.now) ≡ []) }
+    ensures fault { IfErr result (IsFirst (spec.mismatch (query_seen first.now) (query_seen side.now))) }
+{
+    if same_columns(&first.columns, &side.columns) {
+        Ok(())
+    } else {
+        Err(refusal(side.at, TypeRule::SchemaMismatch))
+    }
 }
 
 /// Whether the columns are equal in name and kind, one by one.
@@ -47,37 +79,21 @@ fn same_columns(columns: &[Column], others: &[Column]) -> bool
     true
 }
 
-/// Refuses a side whose columns aren't those of the first.
-fn refuse_side(first: &CheckedQuery, side: &CheckedQuery) -> Result<(), Failure<Breach>>
-    ensures ok { OnOk result (spec.mismatch (query_seen first.now) (query_seen side.now) ≡ []) }
-    ensures fault { IfErr result (IsFirst (spec.mismatch (query_seen first.now) (query_seen side.now))) }
+fn same_column(a: &Column, b: &Column) -> bool
+    ensures { result ≡ spec.same_column a.now b.now }
 {
-    if same_columns(&first.columns, &side.columns) {
-        Ok(())
-    } else {
-        Err(refusal(side.at, TypeRule::SchemaMismatch))
-    }
+    a.name.as_str() == b.name.as_str() && same_kind(a.kind, b.kind)
 }
 
-/// Refuses the first later side whose columns aren't those of the first.
-fn refuse_sides(first: &CheckedQuery, later: &[CheckedQuery]) -> Result<(), Failure<Breach>>
-    ensures ok { OnOk result (spec.mismatches (query_seen first.now) (map query_seen later.now) ≡ []) }
-    ensures fault { IfErr result (IsFirst (spec.mismatches (query_seen first.now) (map query_seen later.now))) }
+fn same_kind(a: Kind, b: Kind) -> bool
+    ensures { result ≡ spec.same_kind a b }
 {
-    for side in later {
-        refuse_side(first, side)?;
-    }
-    Ok(())
-}
-
-/// Refuses sides whose columns differ.
-fn refuse_mismatched(sides: &[CheckedQuery]) -> Result<(), Failure<Breach>>
-    ensures ok { OnOk result (spec.mismatched (map query_seen sides.now) ≡ []) }
-    ensures fault { IfErr result (IsFirst (spec.mismatched (map query_seen sides.now))) }
-{
-    match sides {
-        [] => Ok(()),
-        [first, later @ ..] => refuse_sides(first, later),
+    match a {
+        Kind::Integer => matches!(b, Kind::Integer),
+        Kind::Boolean => matches!(b, Kind::Boolean),
+        Kind::Text => matches!(b, Kind::Text),
+        Kind::Span => matches!(b, Kind::Span),
+        _ => false,
     }
 }
 
@@ -87,6 +103,15 @@ fn first_at(sides: &[CheckedQuery]) -> u32
     match sides {
         [] => 0,
         [side, ..] => side.at,
+    }
+}
+
+fn first_columns(alloc: Global, sides: &[CheckedQuery]) -> Result<Vec<Column>, OutOfMemory>
+    ensures { IfOk result (λ columns. columns.items ≡ spec.first_columns (map query_seen sides.now)) }
+{
+    match sides {
+        [] => Ok(Vec::new(alloc)),
+        [side, ..] => copied_columns(alloc, &side.columns),
     }
 }
 
@@ -102,15 +127,6 @@ fn copied_columns(alloc: Global, columns: &[Column]) -> Result<Vec<Column>, OutO
         })?;
     }
     Ok(copies)
-}
-
-fn first_columns(alloc: Global, sides: &[CheckedQuery]) -> Result<Vec<Column>, OutOfMemory>
-    ensures { IfOk result (λ columns. columns.items ≡ spec.first_columns (map query_seen sides.now)) }
-{
-    match sides {
-        [] => Ok(Vec::new(alloc)),
-        [side, ..] => copied_columns(alloc, &side.columns),
-    }
 }
 
 fn bodies(alloc: Global, sides: Vec<CheckedQuery>) -> Result<Vec<TypedQuery>, OutOfMemory>
@@ -135,20 +151,19 @@ fn joined(at: u32, columns: Vec<Column>, bodies: Vec<TypedQuery>) -> CheckedQuer
     }
 }
 
-/// A union of sides without a fault.
-#[tactic(auto, using(crate::proofs::SourceFaults::sides_faultless, clause_types::specs::FaultLaws::first_later, clause_types::specs::FaultLaws::all_faultless))]
-pub(crate) fn unite(
+/// The difference of two sides without a fault.
+#[tactic(auto, using(clause_types::specs::FaultLaws::first_here, crate::proofs::SourceFaults::minus_is))]
+pub(crate) fn differ(
     alloc: Global,
-    sides: Vec<CheckedQuery>,
+    left: CheckedQuery,
+    right: CheckedQuery,
 ) -> Result<CheckedQuery, Failure<Breach>>
-    ensures ok { IfOk result (λ q. spec.union_of (map query_seen sides.items) ≡ query_seen q) }
-    ensures fault { IfErr result (IsFirst (spec.union_of (map query_seen sides.items)).faults) }
+    ensures ok { IfOk result (λ q. spec.minus_of (query_seen left) (query_seen right) ≡ query_seen q) }
+    ensures fault { IfErr result (IsFirst (spec.minus_of (query_seen left) (query_seen right)).faults) }
 {
-    refuse_mismatched(&sides)?;
-    let at = first_at(&sides);
-    let columns = first_columns(alloc, &sides)?;
-    let bodies = bodies(alloc, sides)?;
-    Ok(joined(at, columns, bodies))
+    refuse_side(&left, &right)?;
+    let query = minus(alloc, left, right)?;
+    Ok(query)
 }
 
 /// The difference of two sides, in words of their parts.
@@ -168,19 +183,4 @@ fn minus(
         columns,
         body: TypedQuery::Minus(kept, taken),
     })
-}
-
-/// The difference of two sides without a fault.
-#[tactic(auto, using(clause_types::specs::FaultLaws::first_here, crate::proofs::SourceFaults::minus_is))]
-pub(crate) fn differ(
-    alloc: Global,
-    left: CheckedQuery,
-    right: CheckedQuery,
-) -> Result<CheckedQuery, Failure<Breach>>
-    ensures ok { IfOk result (λ q. spec.minus_of (query_seen left) (query_seen right) ≡ query_seen q) }
-    ensures fault { IfErr result (IsFirst (spec.minus_of (query_seen left) (query_seen right)).faults) }
-{
-    refuse_side(&left, &right)?;
-    let query = minus(alloc, left, right)?;
-    Ok(query)
 }

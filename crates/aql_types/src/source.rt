@@ -37,13 +37,30 @@ pub(crate) struct CheckedQuery {
     pub(crate) body: TypedQuery,
 }
 
-fn label<'a>(source: &'a CheckedSource<'_>) -> Label<'a>
-    ensures { label_of result ≡ (source_seen source.now).alias }
+/// A selection over sources without a fault.
+#[tactic(auto, using(clause_types::specs::FaultLaws::first_here, clause_types::specs::FaultLaws::first_later, clause_types::specs::FaultLaws::all_faultless, crate::proofs::SourceFaults::sources_faultless))]
+pub(crate) fn select(
+    alloc: Global,
+    known: &Known<'_>,
+    sources: Vec<CheckedSource<'_>>,
+    query: &Select,
+) -> Result<CheckedQuery, Failure<Breach>>
+    ensures ok { IfOk result (λ q. spec.selection (known_of known.now) (map source_seen sources.entry.items) (map item_of query.now.items.items) (clauses_of query.now) query.now.at ≡ query_seen q) }
+    ensures fault { IfErr result (IsFirst (spec.selection (known_of known.now) (map source_seen sources.entry.items) (map item_of query.now.items.items) (clauses_of query.now) query.now.at).faults) }
 {
-    Label {
-        text: source.alias.text.as_str(),
-        at: source.alias.at,
-    }
+    refuse_same(alloc, &sources)?;
+    let rows = rows_of(alloc, known, &sources, query)?;
+    let sources = bodies(alloc, sources)?;
+    Ok(selected(query.at, sources, rows))
+}
+
+/// Refuses an alias that two sources have.
+fn refuse_same(alloc: Global, sources: &[CheckedSource<'_>]) -> Result<(), Failure<Breach>>
+    ensures ok { OnOk result (spec.duplicate_aliases (map source_seen sources.now) ≡ []) }
+    ensures fault { IfErr result (IsFirst (spec.duplicate_aliases (map source_seen sources.now))) }
+{
+    let labels = labels(alloc, sources)?;
+    refuse_aliases(alloc, &labels)
 }
 
 fn labels<'a>(
@@ -59,47 +76,13 @@ fn labels<'a>(
     Ok(labels)
 }
 
-/// Refuses an alias that two sources have.
-fn refuse_same(alloc: Global, sources: &[CheckedSource<'_>]) -> Result<(), Failure<Breach>>
-    ensures ok { OnOk result (spec.duplicate_aliases (map source_seen sources.now) ≡ []) }
-    ensures fault { IfErr result (IsFirst (spec.duplicate_aliases (map source_seen sources.now))) }
+fn label<'a>(source: &'a CheckedSource<'_>) -> Label<'a>
+    ensures { label_of result ≡ (source_seen source.now).alias }
 {
-    let labels = labels(alloc, sources)?;
-    refuse_aliases(alloc, &labels)
-}
-
-fn visible<'a>(source: &'a CheckedSource<'_>) -> Visible<'a>
-    ensures { visible_of result ≡ spec.visible_source (source_seen source.now) }
-{
-    Visible {
-        alias: source.alias.text.as_str(),
-        columns: source.columns.as_slice(),
+    Label {
+        text: source.alias.text.as_str(),
+        at: source.alias.at,
     }
-}
-
-/// The sources as expressions see them.
-fn visible_in<'a>(
-    alloc: Global,
-    sources: &'a [CheckedSource<'_>],
-) -> Result<Vec<Visible<'a>>, OutOfMemory>
-    ensures { IfOk result (λ all. map visible_of all.items ≡ spec.visible_in (map source_seen sources.now)) }
-{
-    let mut all = Vec::new(alloc);
-    for source in sources {
-        all.push(visible(source))?;
-    }
-    Ok(all)
-}
-
-/// What the sources are.
-fn bodies(alloc: Global, sources: Vec<CheckedSource<'_>>) -> Result<Vec<TypedSource>, OutOfMemory>
-    ensures { IfOk result (λ bodies. map typed.source_of bodies.items ≡ spec.bodies_of (map source_seen sources.entry.items)) }
-{
-    let mut bodies = Vec::new(alloc);
-    for source in sources {
-        bodies.push(source.body)?;
-    }
-    Ok(bodies)
 }
 
 /// The rows of a selection over its sources.
@@ -118,6 +101,40 @@ fn rows_of(
     rows_over(alloc, known, &visible, query)
 }
 
+/// The sources as expressions see them.
+fn visible_in<'a>(
+    alloc: Global,
+    sources: &'a [CheckedSource<'_>],
+) -> Result<Vec<Visible<'a>>, OutOfMemory>
+    ensures { IfOk result (λ all. map visible_of all.items ≡ spec.visible_in (map source_seen sources.now)) }
+{
+    let mut all = Vec::new(alloc);
+    for source in sources {
+        all.push(visible(source))?;
+    }
+    Ok(all)
+}
+
+fn visible<'a>(source: &'a CheckedSource<'_>) -> Visible<'a>
+    ensures { visible_of result ≡ spec.visible_source (source_seen source.now) }
+{
+    Visible {
+        alias: source.alias.text.as_str(),
+        columns: source.columns.as_slice(),
+    }
+}
+
+/// What the sources are.
+fn bodies(alloc: Global, sources: Vec<CheckedSource<'_>>) -> Result<Vec<TypedSource>, OutOfMemory>
+    ensures { IfOk result (λ bodies. map typed.source_of bodies.items ≡ spec.bodies_of (map source_seen sources.entry.items)) }
+{
+    let mut bodies = Vec::new(alloc);
+    for source in sources {
+        bodies.push(source.body)?;
+    }
+    Ok(bodies)
+}
+
 /// A selection of what its rows and sources are.
 fn selected(at: u32, sources: Vec<TypedSource>, rows: CheckedRows) -> CheckedQuery
     ensures at { result.at ≡ at }
@@ -130,38 +147,6 @@ fn selected(at: u32, sources: Vec<TypedSource>, rows: CheckedRows) -> CheckedQue
         columns,
         body: TypedQuery::Select(TypedSelect { sources, clauses }),
     }
-}
-
-/// A selection over sources without a fault.
-#[tactic(auto, using(clause_types::specs::FaultLaws::first_here, clause_types::specs::FaultLaws::first_later, clause_types::specs::FaultLaws::all_faultless, crate::proofs::SourceFaults::sources_faultless))]
-pub(crate) fn select(
-    alloc: Global,
-    known: &Known<'_>,
-    sources: Vec<CheckedSource<'_>>,
-    query: &Select,
-) -> Result<CheckedQuery, Failure<Breach>>
-    ensures ok { IfOk result (λ q. spec.selection (known_of known.now) (map source_seen sources.entry.items) (map item_of query.now.items.items) (clauses_of query.now) query.now.at ≡ query_seen q) }
-    ensures fault { IfErr result (IsFirst (spec.selection (known_of known.now) (map source_seen sources.entry.items) (map item_of query.now.items.items) (clauses_of query.now) query.now.at).faults) }
-{
-    refuse_same(alloc, &sources)?;
-    let rows = rows_of(alloc, known, &sources, query)?;
-    let sources = bodies(alloc, sources)?;
-    Ok(selected(query.at, sources, rows))
-}
-
-/// What an extraction finds over its source.
-fn found_of(
-    alloc: Global,
-    known: &Known<'_>,
-    source: &CheckedSource<'_>,
-    query: &Extract,
-) -> Result<CheckedFound, Failure<Breach>>
-    ensures ok { IfOk result (λ found. typed.extract_clauses_of found.clauses ≡ extractions.extract_clauses (known_of known.now) (spec.row_of_one (source_seen source.now)) (map item_of query.now.items.items) (spec_of query.now.spec) (tail_of query.now)) }
-    ensures columns { IfOk result (λ found. found.columns.items ≡ extractions.columns_given (known_of known.now) (spec.row_of_one (source_seen source.now)) (map item_of query.now.items.items) (spec_of query.now.spec) (tail_of query.now)) }
-    ensures none { OnOk result (extractions.found_faults (known_of known.now) (spec.row_of_one (source_seen source.now)) (map item_of query.now.items.items) (spec_of query.now.spec) (tail_of query.now) ≡ []) }
-    ensures fault { IfErr result (IsFirst (extractions.found_faults (known_of known.now) (spec.row_of_one (source_seen source.now)) (map item_of query.now.items.items) (spec_of query.now.spec) (tail_of query.now))) }
-{
-    found_over(alloc, known, &[visible(source)], query)
 }
 
 /// An extraction from a source without a fault.
@@ -185,4 +170,19 @@ pub(crate) fn extract(
             clauses,
         }),
     })
+}
+
+/// What an extraction finds over its source.
+fn found_of(
+    alloc: Global,
+    known: &Known<'_>,
+    source: &CheckedSource<'_>,
+    query: &Extract,
+) -> Result<CheckedFound, Failure<Breach>>
+    ensures ok { IfOk result (λ found. typed.extract_clauses_of found.clauses ≡ extractions.extract_clauses (known_of known.now) (spec.row_of_one (source_seen source.now)) (map item_of query.now.items.items) (spec_of query.now.spec) (tail_of query.now)) }
+    ensures columns { IfOk result (λ found. found.columns.items ≡ extractions.columns_given (known_of known.now) (spec.row_of_one (source_seen source.now)) (map item_of query.now.items.items) (spec_of query.now.spec) (tail_of query.now)) }
+    ensures none { OnOk result (extractions.found_faults (known_of known.now) (spec.row_of_one (source_seen source.now)) (map item_of query.now.items.items) (spec_of query.now.spec) (tail_of query.now) ≡ []) }
+    ensures fault { IfErr result (IsFirst (extractions.found_faults (known_of known.now) (spec.row_of_one (source_seen source.now)) (map item_of query.now.items.items) (spec_of query.now.spec) (tail_of query.now))) }
+{
+    found_over(alloc, known, &[visible(source)], query)
 }

@@ -20,12 +20,6 @@ use scalar_ops::{Expr, Kind, Op};
 use span_token::{Failure, OutOfMemory};
 use std::alloc::Global;
 
-fn is_flag(text: &str) -> bool
-    ensures { result ≡ spec.is_flag text.now }
-{
-    text == "Exact" || text == "IgnoreCase"
-}
-
 /// Whether the bounds of a gap are in order.
 pub(crate) fn are_gap_bounds(low: i64, high: i64) -> bool
     ensures { result ≡ spec.are_gap_bounds low high }
@@ -68,6 +62,12 @@ pub(crate) fn fits(known: &Known<'_>, wanted: Wanted, kind: Kind, meant: &Meant)
             _ => false,
         },
     }
+}
+
+fn is_flag(text: &str) -> bool
+    ensures { result ≡ spec.is_flag text.now }
+{
+    text == "Exact" || text == "IgnoreCase"
 }
 
 /// Refuses what isn't wanted.
@@ -128,6 +128,47 @@ pub(crate) fn refuse_unfit(
     }
 }
 
+/// A call whose arguments have no fault.
+#[tactic(auto, using(crate::specs::FaultLaws::first_here, crate::specs::FaultLaws::first_later, crate::proofs::Operands::faultless, crate::specs::FaultLaws::all_faultless))]
+pub(crate) fn call(
+    alloc: Global,
+    known: &Known<'_>,
+    at: u32,
+    name: &str,
+    args: Vec<Given>,
+) -> Result<Given, Failure<Breach>>
+    ensures ok { IfOk result (λ given. spec.typing_of_call (known_of known.now) at name.now (map seen args.items) ≡ seen given) }
+    ensures fault { IfErr result (IsFirst (spec.typing_of_call (known_of known.now) at name.now (map seen args.items)).faults) }
+{
+    match function_named(name) {
+        None => Err(unknown_function(alloc, at, name)),
+        Some(function) => call_of(alloc, known, at, name, function, args),
+    }
+}
+
+/// A call of a function.
+#[tactic(auto, using(crate::specs::FaultLaws::first_here, crate::specs::FaultLaws::first_later, crate::proofs::Operands::faultless, crate::specs::FaultLaws::all_faultless))]
+fn call_of(
+    alloc: Global,
+    known: &Known<'_>,
+    at: u32,
+    name: &str,
+    function: Function,
+    args: Vec<Given>,
+) -> Result<Given, Failure<Breach>>
+    ensures ok { IfOk result (λ given. spec.typing_with (known_of known.now) at name.now (map seen args.items) (Some function) ≡ seen given) }
+    ensures fault { IfErr result (IsFirst (spec.typing_with (known_of known.now) at name.now (map seen args.items) (Some function)).faults) }
+{
+    refuse_unfit(known, Callee::Function(function), at, &args)?;
+    refuse_bounds(function, &args)?;
+    let expr = applied(alloc, known, function, args)?;
+    Ok(Given {
+        at,
+        kind: function.kind_given(),
+        meant: Meant::Value(expr),
+    })
+}
+
 /// Refuses bounds that aren't in order.
 fn refuse_bounds(function: Function, args: &[Given]) -> Result<(), Failure<Breach>>
     ensures ok { OnOk result (spec.bad_bounds_of function (map seen args.now) ≡ []) }
@@ -154,40 +195,19 @@ fn in_bounds(at: u32, low: i64, high: i64) -> Result<(), Failure<Breach>>
     }
 }
 
-fn is_exact(args: &[Given]) -> bool
-    ensures { result ≡ spec.is_exact (map seen args.now) }
+/// What a call without a fault stands for.
+fn applied(
+    alloc: Global,
+    known: &Known<'_>,
+    function: Function,
+    args: Vec<Given>,
+) -> Result<Expr, OutOfMemory>
+    ensures { IfOk result (λ expr. term_of expr ≡ spec.applied_to (known_of known.now) function (map seen args.items)) }
 {
-    match args {
-        [_, flag, _, ..] => flag.meant.text() == "Exact",
-        _ => false,
-    }
-}
-
-fn least_gap(args: &[Given]) -> i64
-    ensures { result ≡ spec.least_gap (map seen args.now) }
-{
-    match args {
-        [_, _, low, ..] => low.meant.integer(),
-        _ => 0,
-    }
-}
-
-fn greatest_gap(args: &[Given]) -> i64
-    ensures { result ≡ spec.greatest_gap (map seen args.now) }
-{
-    match args {
-        [_, _, _, high, ..] => high.meant.integer(),
-        _ => 0,
-    }
-}
-
-fn first_text(args: &[Given]) -> &str
-    ensures { result.now ≡ typing.text_meant (spec.first_meant (map seen args.now)) }
-{
-    match args {
-        [] => "",
-        [arg, ..] => arg.meant.text(),
-    }
+    let op = operator(known, function, &args);
+    let operands = operands(function, args)?;
+    let args = values(alloc, operands)?;
+    Ok(Expr::Call { op, args })
 }
 
 /// The operator of a function with its arguments.
@@ -232,6 +252,42 @@ fn operator(known: &Known<'_>, function: Function, args: &[Given]) -> Op
     }
 }
 
+fn least_gap(args: &[Given]) -> i64
+    ensures { result ≡ spec.least_gap (map seen args.now) }
+{
+    match args {
+        [_, _, low, ..] => low.meant.integer(),
+        _ => 0,
+    }
+}
+
+fn greatest_gap(args: &[Given]) -> i64
+    ensures { result ≡ spec.greatest_gap (map seen args.now) }
+{
+    match args {
+        [_, _, _, high, ..] => high.meant.integer(),
+        _ => 0,
+    }
+}
+
+fn first_text(args: &[Given]) -> &str
+    ensures { result.now ≡ typing.text_meant (spec.first_meant (map seen args.now)) }
+{
+    match args {
+        [] => "",
+        [arg, ..] => arg.meant.text(),
+    }
+}
+
+fn is_exact(args: &[Given]) -> bool
+    ensures { result ≡ spec.is_exact (map seen args.now) }
+{
+    match args {
+        [_, flag, _, ..] => flag.meant.text() == "Exact",
+        _ => false,
+    }
+}
+
 /// The arguments that the operator is applied to.
 #[tactic(auto, using(crate::proofs::Operands::last_seen))]
 fn operands(function: Function, args: Vec<Given>) -> Result<Vec<Given>, OutOfMemory>
@@ -266,60 +322,4 @@ fn values(alloc: Global, args: Vec<Given>) -> Result<Vec<Expr>, OutOfMemory>
         values.push(arg.meant.into_expr())?;
     }
     Ok(values)
-}
-
-/// What a call without a fault stands for.
-fn applied(
-    alloc: Global,
-    known: &Known<'_>,
-    function: Function,
-    args: Vec<Given>,
-) -> Result<Expr, OutOfMemory>
-    ensures { IfOk result (λ expr. term_of expr ≡ spec.applied_to (known_of known.now) function (map seen args.items)) }
-{
-    let op = operator(known, function, &args);
-    let operands = operands(function, args)?;
-    let args = values(alloc, operands)?;
-    Ok(Expr::Call { op, args })
-}
-
-/// A call whose arguments have no fault.
-#[tactic(auto, using(crate::specs::FaultLaws::first_here, crate::specs::FaultLaws::first_later, crate::proofs::Operands::faultless, crate::specs::FaultLaws::all_faultless))]
-pub(crate) fn call(
-    alloc: Global,
-    known: &Known<'_>,
-    at: u32,
-    name: &str,
-    args: Vec<Given>,
-) -> Result<Given, Failure<Breach>>
-    ensures ok { IfOk result (λ given. spec.typing_of_call (known_of known.now) at name.now (map seen args.items) ≡ seen given) }
-    ensures fault { IfErr result (IsFirst (spec.typing_of_call (known_of known.now) at name.now (map seen args.items)).faults) }
-{
-    match function_named(name) {
-        None => Err(unknown_function(alloc, at, name)),
-        Some(function) => call_of(alloc, known, at, name, function, args),
-    }
-}
-
-/// A call of a function.
-#[tactic(auto, using(crate::specs::FaultLaws::first_here, crate::specs::FaultLaws::first_later, crate::proofs::Operands::faultless, crate::specs::FaultLaws::all_faultless))]
-fn call_of(
-    alloc: Global,
-    known: &Known<'_>,
-    at: u32,
-    name: &str,
-    function: Function,
-    args: Vec<Given>,
-) -> Result<Given, Failure<Breach>>
-    ensures ok { IfOk result (λ given. spec.typing_with (known_of known.now) at name.now (map seen args.items) (Some function) ≡ seen given) }
-    ensures fault { IfErr result (IsFirst (spec.typing_with (known_of known.now) at name.now (map seen args.items) (Some function)).faults) }
-{
-    refuse_unfit(known, Callee::Function(function), at, &args)?;
-    refuse_bounds(function, &args)?;
-    let expr = applied(alloc, known, function, args)?;
-    Ok(Given {
-        at,
-        kind: function.kind_given(),
-        meant: Meant::Value(expr),
-    })
 }

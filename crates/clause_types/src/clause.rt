@@ -28,24 +28,6 @@ use span_sets::Policy;
 use span_token::Failure;
 use std::alloc::Global;
 
-/// An expression that is wanted to be of a kind.
-#[tactic(auto, using(crate::specs::FaultLaws::first_here, crate::specs::FaultLaws::first_later, crate::specs::FaultLaws::all_faultless))]
-fn wanted_term(
-    alloc: Global,
-    known: &Known<'_>,
-    scope: &Scope<'_>,
-    wanted: Kind,
-    ast: &Ast,
-) -> Result<Given, Failure<Breach>>
-    ensures ok { IfOk result (λ given. typing (known_of known.now) (scope_of scope.now) (term_of ast.now) ≡ seen given) }
-    ensures none { OnOk result (spec.kind_faults (known_of known.now) wanted (typing (known_of known.now) (scope_of scope.now) (term_of ast.now)) ≡ []) }
-    ensures fault { IfErr result (IsFirst (spec.kind_faults (known_of known.now) wanted (typing (known_of known.now) (scope_of scope.now) (term_of ast.now)))) }
-{
-    let given = term(alloc, known, scope, ast)?;
-    refuse_wrong(known, Wanted::OfKind(wanted), &given)?;
-    Ok(given)
-}
-
 /// Expressions that are wanted to be of a kind, from the left.
 #[tactic(auto, using(crate::specs::FaultLaws::first_here, crate::specs::FaultLaws::first_later))]
 pub(crate) fn wanted_terms(
@@ -67,32 +49,41 @@ pub(crate) fn wanted_terms(
     Ok(exprs)
 }
 
-/// The policy with this name, if there is one.
-fn policy_named(name: &str) -> Option<Policy>
-    ensures { result ≡ entry_named name.now spec.policies }
+/// An expression that is wanted to be of a kind.
+#[tactic(auto, using(crate::specs::FaultLaws::first_here, crate::specs::FaultLaws::first_later, crate::specs::FaultLaws::all_faultless))]
+fn wanted_term(
+    alloc: Global,
+    known: &Known<'_>,
+    scope: &Scope<'_>,
+    wanted: Kind,
+    ast: &Ast,
+) -> Result<Given, Failure<Breach>>
+    ensures ok { IfOk result (λ given. typing (known_of known.now) (scope_of scope.now) (term_of ast.now) ≡ seen given) }
+    ensures none { OnOk result (spec.kind_faults (known_of known.now) wanted (typing (known_of known.now) (scope_of scope.now) (term_of ast.now)) ≡ []) }
+    ensures fault { IfErr result (IsFirst (spec.kind_faults (known_of known.now) wanted (typing (known_of known.now) (scope_of scope.now) (term_of ast.now)))) }
 {
-    match name {
-        "ContainedWithin" => Some(Policy::ContainedWithin),
-        "NotContainedWithin" => Some(Policy::NotContainedWithin),
-        "ContainsButNotEqual" => Some(Policy::ContainsButNotEqual),
-        "ExactMatch" => Some(Policy::ExactMatch),
-        "LeftToRight" => Some(Policy::LeftToRight),
-        _ => None,
-    }
+    let given = term(alloc, known, scope, ast)?;
+    refuse_wrong(known, Wanted::OfKind(wanted), &given)?;
+    Ok(given)
 }
 
-/// The policy that is written, and `ContainedWithin` where none is.
-fn policy(alloc: Global, policy: &Option<Ident>) -> Result<Policy, Failure<Breach>>
-    ensures ok { IfOk result (λ found. found ≡ spec.policy_of (option_map name_of policy.now)) }
-    ensures none { OnOk result (spec.unknown_policy (option_map name_of policy.now) ≡ []) }
-    ensures fault { IfErr result (IsFirst (spec.unknown_policy (option_map name_of policy.now))) }
+/// A consolidation, where one is written: its target, and then its policy.
+pub(crate) fn consolidation(
+    alloc: Global,
+    known: &Known<'_>,
+    scope: &Scope<'_>,
+    cons: &Option<Cons>,
+) -> Result<Option<Consolidate>, Failure<Breach>>
+    ensures ok { IfOk result (λ c. spec.consolidation_of (known_of known.now) (scope_of scope.now) (option_map cons_of cons.now) ≡ option_map typed.consolidation_of c) }
+    ensures none { OnOk result (spec.consolidation_faults (known_of known.now) (scope_of scope.now) (option_map cons_of cons.now) ≡ []) }
+    ensures fault { IfErr result (IsFirst (spec.consolidation_faults (known_of known.now) (scope_of scope.now) (option_map cons_of cons.now))) }
 {
-    match policy {
-        None => Ok(Policy::ContainedWithin),
-        Some(name) => match policy_named(name.text.as_str()) {
-            Some(policy) => Ok(policy),
-            None => Err(unknown_policy(alloc, name.at, name.text.as_str())),
-        },
+    match cons {
+        None => Ok(None),
+        Some(cons) => {
+            let consolidate = consolidate(alloc, known, scope, cons)?;
+            Ok(Some(consolidate))
+        }
     }
 }
 
@@ -115,23 +106,32 @@ fn consolidate(
     })
 }
 
-/// A consolidation, where one is written: its target, and then its policy.
-pub(crate) fn consolidation(
-    alloc: Global,
-    known: &Known<'_>,
-    scope: &Scope<'_>,
-    cons: &Option<Cons>,
-) -> Result<Option<Consolidate>, Failure<Breach>>
-    ensures ok { IfOk result (λ c. spec.consolidation_of (known_of known.now) (scope_of scope.now) (option_map cons_of cons.now) ≡ option_map typed.consolidation_of c) }
-    ensures none { OnOk result (spec.consolidation_faults (known_of known.now) (scope_of scope.now) (option_map cons_of cons.now) ≡ []) }
-    ensures fault { IfErr result (IsFirst (spec.consolidation_faults (known_of known.now) (scope_of scope.now) (option_map cons_of cons.now))) }
+/// The policy that is written, and `ContainedWithin` where none is.
+fn policy(alloc: Global, policy: &Option<Ident>) -> Result<Policy, Failure<Breach>>
+    ensures ok { IfOk result (λ found. found ≡ spec.policy_of (option_map name_of policy.now)) }
+    ensures none { OnOk result (spec.unknown_policy (option_map name_of policy.now) ≡ []) }
+    ensures fault { IfErr result (IsFirst (spec.unknown_policy (option_map name_of policy.now))) }
 {
-    match cons {
-        None => Ok(None),
-        Some(cons) => {
-            let consolidate = consolidate(alloc, known, scope, cons)?;
-            Ok(Some(consolidate))
-        }
+    match policy {
+        None => Ok(Policy::ContainedWithin),
+        Some(name) => match policy_named(name.text.as_str()) {
+            Some(policy) => Ok(policy),
+            None => Err(unknown_policy(alloc, name.at, name.text.as_str())),
+        },
+    }
+}
+
+/// The policy with this name, if there is one.
+fn policy_named(name: &str) -> Option<Policy>
+    ensures { result ≡ entry_named name.now spec.policies }
+{
+    match name {
+        "ContainedWithin" => Some(Policy::ContainedWithin),
+        "NotContainedWithin" => Some(Policy::NotContainedWithin),
+        "ContainsButNotEqual" => Some(Policy::ContainsButNotEqual),
+        "ExactMatch" => Some(Policy::ExactMatch),
+        "LeftToRight" => Some(Policy::LeftToRight),
+        _ => None,
     }
 }
 
@@ -158,31 +158,59 @@ pub(crate) fn limit(limit: &Option<Number>) -> Result<Option<u64>, Failure<Breac
     }
 }
 
-/// The text that the refusal of an `order by` key keeps.
-fn name_kept(key: &Ast) -> &str
-    ensures { result.now ≡ spec.name_kept (term_of key.now) }
+/// The `order by` keys, from the left.
+#[tactic(auto, using(crate::specs::FaultLaws::first_here, crate::specs::FaultLaws::first_later))]
+pub(crate) fn order(
+    alloc: Global,
+    known: &Known<'_>,
+    scope: &Scope<'_>,
+    items: &[Item],
+    keys: &[Ast],
+) -> Result<Vec<u32>, Failure<Breach>>
+    ensures ok { IfOk result (λ numbers. map (item_number_of (map item_of items.now)) (map term_of keys.now) ≡ numbers.items) }
+    ensures none { OnOk result (spec.orders_faults (known_of known.now) (scope_of scope.now) (map item_of items.now) (map term_of keys.now) ≡ []) }
+    ensures fault { IfErr result (IsFirst (spec.orders_faults (known_of known.now) (scope_of scope.now) (map item_of items.now) (map term_of keys.now))) }
 {
-    match &key.form {
-        Form::Column(_, name) => name.text.as_str(),
-        Form::Bare(name) => name.text.as_str(),
-        _ => "order by",
+    let mut numbers = Vec::new(alloc);
+    for key in keys {
+        let number = order_key(alloc, known, scope, items, key)?;
+        numbers.push(number)?;
     }
+    Ok(numbers)
 }
 
-/// The number of the item that a key is.
-#[tactic(auto, using(crate::proofs::Labels::same_at))]
-fn item_of_key(alloc: Global, items: &[Item], key: &Ast) -> Result<u32, Failure<Breach>>
+/// An `order by` key: the number of an item.
+#[tactic(auto, using(crate::specs::FaultLaws::first_here, crate::specs::FaultLaws::first_later, crate::specs::FaultLaws::all_faultless))]
+fn order_key(
+    alloc: Global,
+    known: &Known<'_>,
+    scope: &Scope<'_>,
+    items: &[Item],
+    key: &Ast,
+) -> Result<u32, Failure<Breach>>
     ensures ok { IfOk result (λ n. n ≡ item_number_of (map item_of items.now) (term_of key.now)) }
-    ensures none { OnOk result (spec.no_item (map item_of items.now) (term_of key.now) ≡ []) }
-    ensures fault { IfErr result (IsFirst (spec.no_item (map item_of items.now) (term_of key.now))) }
+    ensures none { OnOk result (spec.order_faults (known_of known.now) (scope_of scope.now) (map item_of items.now) (term_of key.now) ≡ []) }
+    ensures fault { IfErr result (IsFirst (spec.order_faults (known_of known.now) (scope_of scope.now) (map item_of items.now) (term_of key.now))) }
 {
-    let found = item_number(items, key);
-    if found >= items.len() {
-        return Err(unknown_column(alloc, key.at, name_kept(key)));
-    }
-    match u32::try_from(found) {
-        Ok(number) => Ok(number),
-        Err(_) => Err(Failure::OutOfMemory),
+    refuse_key(alloc, known, scope, key)?;
+    let number = item_of_key(alloc, items, key)?;
+    Ok(number)
+}
+
+/// Refuses an `order by` key that has a fault by itself; a bare name has none.
+fn refuse_key(
+    alloc: Global,
+    known: &Known<'_>,
+    scope: &Scope<'_>,
+    key: &Ast,
+) -> Result<(), Failure<Breach>>
+    ensures ok { OnOk result (spec.key_faults (known_of known.now) (scope_of scope.now) (term_of key.now) ≡ []) }
+    ensures fault { IfErr result (IsFirst (spec.key_faults (known_of known.now) (scope_of scope.now) (term_of key.now))) }
+{
+    if is_bare(key) {
+        Ok(())
+    } else {
+        refuse_faulty(alloc, known, scope, key)
     }
 }
 
@@ -211,58 +239,30 @@ fn refuse_faulty(
     }
 }
 
-/// Refuses an `order by` key that has a fault by itself; a bare name has none.
-fn refuse_key(
-    alloc: Global,
-    known: &Known<'_>,
-    scope: &Scope<'_>,
-    key: &Ast,
-) -> Result<(), Failure<Breach>>
-    ensures ok { OnOk result (spec.key_faults (known_of known.now) (scope_of scope.now) (term_of key.now) ≡ []) }
-    ensures fault { IfErr result (IsFirst (spec.key_faults (known_of known.now) (scope_of scope.now) (term_of key.now))) }
-{
-    if is_bare(key) {
-        Ok(())
-    } else {
-        refuse_faulty(alloc, known, scope, key)
-    }
-}
-
-/// An `order by` key: the number of an item.
-#[tactic(auto, using(crate::specs::FaultLaws::first_here, crate::specs::FaultLaws::first_later, crate::specs::FaultLaws::all_faultless))]
-fn order_key(
-    alloc: Global,
-    known: &Known<'_>,
-    scope: &Scope<'_>,
-    items: &[Item],
-    key: &Ast,
-) -> Result<u32, Failure<Breach>>
+/// The number of the item that a key is.
+#[tactic(auto, using(crate::proofs::Labels::same_at))]
+fn item_of_key(alloc: Global, items: &[Item], key: &Ast) -> Result<u32, Failure<Breach>>
     ensures ok { IfOk result (λ n. n ≡ item_number_of (map item_of items.now) (term_of key.now)) }
-    ensures none { OnOk result (spec.order_faults (known_of known.now) (scope_of scope.now) (map item_of items.now) (term_of key.now) ≡ []) }
-    ensures fault { IfErr result (IsFirst (spec.order_faults (known_of known.now) (scope_of scope.now) (map item_of items.now) (term_of key.now))) }
+    ensures none { OnOk result (spec.no_item (map item_of items.now) (term_of key.now) ≡ []) }
+    ensures fault { IfErr result (IsFirst (spec.no_item (map item_of items.now) (term_of key.now))) }
 {
-    refuse_key(alloc, known, scope, key)?;
-    let number = item_of_key(alloc, items, key)?;
-    Ok(number)
+    let found = item_number(items, key);
+    if found >= items.len() {
+        return Err(unknown_column(alloc, key.at, name_kept(key)));
+    }
+    match u32::try_from(found) {
+        Ok(number) => Ok(number),
+        Err(_) => Err(Failure::OutOfMemory),
+    }
 }
 
-/// The `order by` keys, from the left.
-#[tactic(auto, using(crate::specs::FaultLaws::first_here, crate::specs::FaultLaws::first_later))]
-pub(crate) fn order(
-    alloc: Global,
-    known: &Known<'_>,
-    scope: &Scope<'_>,
-    items: &[Item],
-    keys: &[Ast],
-) -> Result<Vec<u32>, Failure<Breach>>
-    ensures ok { IfOk result (λ numbers. map (item_number_of (map item_of items.now)) (map term_of keys.now) ≡ numbers.items) }
-    ensures none { OnOk result (spec.orders_faults (known_of known.now) (scope_of scope.now) (map item_of items.now) (map term_of keys.now) ≡ []) }
-    ensures fault { IfErr result (IsFirst (spec.orders_faults (known_of known.now) (scope_of scope.now) (map item_of items.now) (map term_of keys.now))) }
+/// The text that the refusal of an `order by` key keeps.
+fn name_kept(key: &Ast) -> &str
+    ensures { result.now ≡ spec.name_kept (term_of key.now) }
 {
-    let mut numbers = Vec::new(alloc);
-    for key in keys {
-        let number = order_key(alloc, known, scope, items, key)?;
-        numbers.push(number)?;
+    match &key.form {
+        Form::Column(_, name) => name.text.as_str(),
+        Form::Bare(name) => name.text.as_str(),
+        _ => "order by",
     }
-    Ok(numbers)
 }

@@ -61,16 +61,6 @@ pub(crate) fn extract_items(
     Ok(checked)
 }
 
-/// The output name of an item, with its token.
-fn label(item: &CheckedItem) -> Label<'_>
-    ensures { label_of result ≡ (item_seen item.now).name }
-{
-    Label {
-        text: item.name.text.as_str(),
-        at: item.name.at,
-    }
-}
-
 /// The output names of items, with their tokens.
 pub(crate) fn labels<'a>(
     alloc: Global,
@@ -83,6 +73,16 @@ pub(crate) fn labels<'a>(
         labels.push(label(item))?;
     }
     Ok(labels)
+}
+
+/// The output name of an item, with its token.
+fn label(item: &CheckedItem) -> Label<'_>
+    ensures { label_of result ≡ (item_seen item.now).name }
+{
+    Label {
+        text: item.name.text.as_str(),
+        at: item.name.at,
+    }
 }
 
 /// Refuses an output name that two items have.
@@ -109,14 +109,11 @@ pub(crate) fn columns(alloc: Global, items: &[CheckedItem]) -> Result<Vec<Column
     Ok(columns)
 }
 
-fn is_aggregate(content: &Content) -> bool
-    ensures { result ≡ clauses.is_aggregate (content_of content.now) }
+/// Whether a selection with these keys and items groups.
+pub(crate) fn groups(keys: &[Ast], items: &[CheckedItem]) -> bool
+    ensures { result ≡ selections.groups (map term_of keys.now) (map item_seen items.now) }
 {
-    match content {
-        Content::Expression(_) => false,
-        Content::RowCount => true,
-        Content::Aggregated(_, _) => true,
-    }
+    !keys.is_empty() || has_aggregate(items)
 }
 
 fn has_aggregate(items: &[CheckedItem]) -> bool
@@ -130,27 +127,13 @@ fn has_aggregate(items: &[CheckedItem]) -> bool
     false
 }
 
-/// Whether a selection with these keys and items groups.
-pub(crate) fn groups(keys: &[Ast], items: &[CheckedItem]) -> bool
-    ensures { result ≡ selections.groups (map term_of keys.now) (map item_seen items.now) }
+fn is_aggregate(content: &Content) -> bool
+    ensures { result ≡ clauses.is_aggregate (content_of content.now) }
 {
-    !keys.is_empty() || has_aggregate(items)
-}
-
-/// Refuses an item that is neither an aggregate nor a key.
-fn refuse_ungrouped(
-    items: &[Item],
-    keys: &[Ast],
-    item: &Item,
-    checked: &CheckedItem,
-) -> Result<(), Failure<Breach>>
-    ensures ok { OnOk result (clauses.ungrouped (map item_of items.now) (map term_of keys.now) (item_of item.now) (item_seen checked.now) ≡ []) }
-    ensures fault { IfErr result (IsFirst (clauses.ungrouped (map item_of items.now) (map term_of keys.now) (item_of item.now) (item_seen checked.now))) }
-{
-    if is_aggregate(&checked.content) || key_number(items, keys, item) < keys.len() {
-        Ok(())
-    } else {
-        Err(refusal(checked.at, TypeRule::NotGrouped))
+    match content {
+        Content::Expression(_) => false,
+        Content::RowCount => true,
+        Content::Aggregated(_, _) => true,
     }
 }
 
@@ -170,45 +153,20 @@ pub(crate) fn refuse_not_grouped(
     Ok(())
 }
 
-/// An aggregate of a column.
-fn agg_of(aggregate: Aggregate, column: u32) -> Agg
-    ensures { result ≡ selections.agg_of aggregate column }
+/// Refuses an item that is neither an aggregate nor a key.
+fn refuse_ungrouped(
+    items: &[Item],
+    keys: &[Ast],
+    item: &Item,
+    checked: &CheckedItem,
+) -> Result<(), Failure<Breach>>
+    ensures ok { OnOk result (clauses.ungrouped (map item_of items.now) (map term_of keys.now) (item_of item.now) (item_seen checked.now) ≡ []) }
+    ensures fault { IfErr result (IsFirst (clauses.ungrouped (map item_of items.now) (map term_of keys.now) (item_of item.now) (item_seen checked.now))) }
 {
-    match aggregate {
-        Aggregate::Count => Agg::CountOf(column),
-        Aggregate::Sum => Agg::Sum(column),
-        Aggregate::Min => Agg::Min(column),
-        Aggregate::Max => Agg::Max(column),
-    }
-}
-
-/// An item of a selection that groups.
-fn agg_in(key: u32, column: u32, content: &Content) -> Agg
-    ensures { result ≡ selections.agg_in key column (content_of content.now) }
-{
-    match content {
-        Content::Expression(_) => Agg::Key(key),
-        Content::RowCount => Agg::Count,
-        Content::Aggregated(aggregate, _) => agg_of(*aggregate, column),
-    }
-}
-
-fn argument_count(content: &Content) -> usize
-    ensures { result ≡ length (selections.arguments_in (content_of content.now)) }
-{
-    match content {
-        Content::Aggregated(_, _) => 1,
-        _ => 0,
-    }
-}
-
-/// A number that fits; a greater one is want of memory.
-fn narrow(number: usize) -> Result<u32, OutOfMemory>
-    ensures { IfOk result (λ n. n ≡ number) }
-{
-    match u32::try_from(number) {
-        Ok(number) => Ok(number),
-        Err(_) => Err(OutOfMemory),
+    if is_aggregate(&checked.content) || key_number(items, keys, item) < keys.len() {
+        Ok(())
+    } else {
+        Err(refusal(checked.at, TypeRule::NotGrouped))
     }
 }
 
@@ -233,13 +191,45 @@ pub(crate) fn aggregates(
     Ok(aggs)
 }
 
-/// The argument of an aggregate.
-fn argument(content: Content) -> Option<Expr>
-    ensures { option_to_list (option_map expr_term result) ≡ selections.arguments_in (content_of content) }
+/// A number that fits; a greater one is want of memory.
+fn narrow(number: usize) -> Result<u32, OutOfMemory>
+    ensures { IfOk result (λ n. n ≡ number) }
+{
+    match u32::try_from(number) {
+        Ok(number) => Ok(number),
+        Err(_) => Err(OutOfMemory),
+    }
+}
+
+/// An item of a selection that groups.
+fn agg_in(key: u32, column: u32, content: &Content) -> Agg
+    ensures { result ≡ selections.agg_in key column (content_of content.now) }
 {
     match content {
-        Content::Aggregated(_, meant) => Some(meant.into_expr()),
-        _ => None,
+        Content::Expression(_) => Agg::Key(key),
+        Content::RowCount => Agg::Count,
+        Content::Aggregated(aggregate, _) => agg_of(*aggregate, column),
+    }
+}
+
+/// An aggregate of a column.
+fn agg_of(aggregate: Aggregate, column: u32) -> Agg
+    ensures { result ≡ selections.agg_of aggregate column }
+{
+    match aggregate {
+        Aggregate::Count => Agg::CountOf(column),
+        Aggregate::Sum => Agg::Sum(column),
+        Aggregate::Min => Agg::Min(column),
+        Aggregate::Max => Agg::Max(column),
+    }
+}
+
+fn argument_count(content: &Content) -> usize
+    ensures { result ≡ length (selections.arguments_in (content_of content.now)) }
+{
+    match content {
+        Content::Aggregated(_, _) => 1,
+        _ => 0,
     }
 }
 
@@ -256,16 +246,13 @@ pub(crate) fn arguments(alloc: Global, items: Vec<CheckedItem>) -> Result<Vec<Ex
     Ok(exprs)
 }
 
-/// The value of an item.
-fn plain_expr(alloc: Global, content: Content) -> Result<Expr, OutOfMemory>
-    ensures { IfOk result (λ expr. expr_term expr ≡ selections.plain_term (content_of content)) }
+/// The argument of an aggregate.
+fn argument(content: Content) -> Option<Expr>
+    ensures { option_to_list (option_map expr_term result) ≡ selections.arguments_in (content_of content) }
 {
     match content {
-        Content::Expression(meant) => Ok(meant.into_expr()),
-        _ => {
-            let text = OwnedText::copied(alloc, "")?;
-            Ok(Expr::Str(text))
-        }
+        Content::Aggregated(_, meant) => Some(meant.into_expr()),
+        _ => None,
     }
 }
 
@@ -278,4 +265,17 @@ pub(crate) fn plain_exprs(alloc: Global, items: Vec<CheckedItem>) -> Result<Vec<
         exprs.push(plain_expr(alloc, item.content)?)?;
     }
     Ok(exprs)
+}
+
+/// The value of an item.
+fn plain_expr(alloc: Global, content: Content) -> Result<Expr, OutOfMemory>
+    ensures { IfOk result (λ expr. expr_term expr ≡ selections.plain_term (content_of content)) }
+{
+    match content {
+        Content::Expression(meant) => Ok(meant.into_expr()),
+        _ => {
+            let text = OwnedText::copied(alloc, "")?;
+            Ok(Expr::Str(text))
+        }
+    }
 }

@@ -49,6 +49,56 @@ pub(crate) fn term(
     }
 }
 
+fn integer(at: u32, value: i64) -> Given
+    ensures { seen result ≡ spec.typing_of_int at value }
+{
+    Given {
+        at,
+        kind: Kind::Integer,
+        meant: Meant::Value(Expr::Int(value)),
+    }
+}
+
+fn string(alloc: Global, at: u32, text: &str) -> Result<Given, Failure<Breach>>
+    ensures ok { IfOk result (λ given. spec.typing_of_str at text.now ≡ seen given) }
+    ensures fault { IfErr result (IsFirst (spec.typing_of_str at text.now).faults) }
+{
+    let text = OwnedText::copied(alloc, text)?;
+    Ok(Given {
+        at,
+        kind: Kind::Text,
+        meant: Meant::Value(Expr::Str(text)),
+    })
+}
+
+fn regex(alloc: Global, known: &Known<'_>, at: u32, text: &str) -> Result<Given, Failure<Breach>>
+    ensures ok { IfOk result (λ given. spec.typing_of_regex (known_of known.now) at text.now ≡ seen given) }
+    ensures fault { IfErr result (IsFirst (spec.typing_of_regex (known_of known.now) at text.now).faults) }
+{
+    let fault = known.pattern_fault(alloc, text)?;
+    refuse_pattern(at, fault)?;
+    let text = OwnedText::copied(alloc, text)?;
+    Ok(Given {
+        at,
+        kind: Kind::Pattern,
+        meant: Meant::Pattern(text),
+    })
+}
+
+/// Refuses what is no pattern, at its token.
+pub(crate) fn refuse_pattern(at: u32, fault: Option<PatternFault>) -> Result<(), Failure<Breach>>
+    ensures ok { OnOk result (spec.wrong_pattern at fault ≡ []) }
+    ensures fault { IfErr result (IsFirst (spec.wrong_pattern at fault)) }
+{
+    match fault {
+        None => Ok(()),
+        Some(PatternFault::Bad) => Err(refusal(at, TypeRule::BadPattern)),
+        Some(PatternFault::Large { bytes, weight }) => {
+            Err(refusal(at, TypeRule::PatternLarge { bytes, weight }))
+        }
+    }
+}
+
 /// A call: its arguments, from the left, and then the call itself.
 #[cycle(term)]
 #[tactic(auto, using(crate::specs::FaultLaws::first_here, crate::proofs::Terms::call_typing))]
@@ -85,54 +135,4 @@ pub(crate) fn terms(
         all.push(given)?;
     }
     Ok(all)
-}
-
-fn integer(at: u32, value: i64) -> Given
-    ensures { seen result ≡ spec.typing_of_int at value }
-{
-    Given {
-        at,
-        kind: Kind::Integer,
-        meant: Meant::Value(Expr::Int(value)),
-    }
-}
-
-fn string(alloc: Global, at: u32, text: &str) -> Result<Given, Failure<Breach>>
-    ensures ok { IfOk result (λ given. spec.typing_of_str at text.now ≡ seen given) }
-    ensures fault { IfErr result (IsFirst (spec.typing_of_str at text.now).faults) }
-{
-    let text = OwnedText::copied(alloc, text)?;
-    Ok(Given {
-        at,
-        kind: Kind::Text,
-        meant: Meant::Value(Expr::Str(text)),
-    })
-}
-
-/// Refuses what is no pattern, at its token.
-pub(crate) fn refuse_pattern(at: u32, fault: Option<PatternFault>) -> Result<(), Failure<Breach>>
-    ensures ok { OnOk result (spec.wrong_pattern at fault ≡ []) }
-    ensures fault { IfErr result (IsFirst (spec.wrong_pattern at fault)) }
-{
-    match fault {
-        None => Ok(()),
-        Some(PatternFault::Bad) => Err(refusal(at, TypeRule::BadPattern)),
-        Some(PatternFault::Large { bytes, weight }) => {
-            Err(refusal(at, TypeRule::PatternLarge { bytes, weight }))
-        }
-    }
-}
-
-fn regex(alloc: Global, known: &Known<'_>, at: u32, text: &str) -> Result<Given, Failure<Breach>>
-    ensures ok { IfOk result (λ given. spec.typing_of_regex (known_of known.now) at text.now ≡ seen given) }
-    ensures fault { IfErr result (IsFirst (spec.typing_of_regex (known_of known.now) at text.now).faults) }
-{
-    let fault = known.pattern_fault(alloc, text)?;
-    refuse_pattern(at, fault)?;
-    let text = OwnedText::copied(alloc, text)?;
-    Ok(Given {
-        at,
-        kind: Kind::Pattern,
-        meant: Meant::Pattern(text),
-    })
 }

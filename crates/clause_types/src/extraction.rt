@@ -70,179 +70,6 @@ pub fn found_over(
     found(alloc, known, &row, query)
 }
 
-/// The items; blocks stand without.
-fn items_beside<'a>(sought: &Spec, items: &'a [Item]) -> &'a [Item]
-    ensures { map item_of result.now ≡ spec.items_beside (spec_of sought.now) (map item_of items.now) }
-{
-    match sought {
-        Spec::Blocks { .. } => &[],
-        Spec::Regex { .. } => items,
-        Spec::Dict { .. } => items,
-    }
-}
-
-fn alias_on(sought: &Spec) -> &Ident
-    ensures { name_of result.now ≡ spec.alias_on (spec_of sought.now) }
-{
-    match sought {
-        Spec::Regex { on, .. } => &on.0,
-        Spec::Dict { on, .. } => &on.0,
-        Spec::Blocks { on, .. } => &on.0,
-    }
-}
-
-fn name_on(sought: &Spec) -> &Ident
-    ensures { name_of result.now ≡ spec.name_on (spec_of sought.now) }
-{
-    match sought {
-        Spec::Regex { on, .. } => &on.1,
-        Spec::Dict { on, .. } => &on.1,
-        Spec::Blocks { on, .. } => &on.1,
-    }
-}
-
-/// The number of the column in which is looked.
-#[tactic(auto, using(crate::specs::FaultLaws::first_here, crate::specs::FaultLaws::first_later, crate::specs::FaultLaws::all_faultless))]
-fn column_on(
-    alloc: Global,
-    known: &Known<'_>,
-    row: &Scope<'_>,
-    sought: &Spec,
-) -> Result<u32, Failure<Breach>>
-    ensures ok { IfOk result (λ n. n ≡ column_meant (spec.typing_on (scope_of row.now).sources (spec_of sought.now)).meant) }
-    ensures none { OnOk result (kind_faults (known_of known.now) kind.Span (spec.typing_on (scope_of row.now).sources (spec_of sought.now)) ≡ []) }
-    ensures fault { IfErr result (IsFirst (kind_faults (known_of known.now) kind.Span (spec.typing_on (scope_of row.now).sources (spec_of sought.now)))) }
-{
-    let alias = alias_on(sought);
-    let given = column(alloc, row.sources, alias.at, alias, name_on(sought))?;
-    refuse_wrong(known, Wanted::OfKind(Kind::Span), &given)?;
-    Ok(given.meant.column())
-}
-
-fn label(name: &Ident) -> Label<'_>
-    ensures { label_of result ≡ name_of name.now }
-{
-    Label {
-        text: name.text.as_str(),
-        at: name.at,
-    }
-}
-
-fn append_groups<'a>(
-    labels: &mut Vec<Label<'a>>,
-    groups: &'a [(Option<Number>, Ident)],
-) -> Result<(), OutOfMemory>
-    ensures { OnOk result (map label_of labels.new.items ≡ map label_of labels.old.items ++ spec.names_of_groups (map group_of groups.now)) }
-{
-    for group in groups {
-        labels.push(label(&group.1))?;
-    }
-    Ok(())
-}
-
-/// Appends the names of the columns that are found.
-fn append_found<'a>(labels: &mut Vec<Label<'a>>, sought: &'a Spec) -> Result<(), OutOfMemory>
-    ensures { OnOk result (map label_of labels.new.items ≡ map label_of labels.old.items ++ spec.names_found (spec_of sought.now)) }
-{
-    match sought {
-        Spec::Regex { groups, .. } => append_groups(labels, groups),
-        Spec::Dict { name, .. } => {
-            labels.push(label(name))?;
-            Ok(())
-        }
-        Spec::Blocks { name, .. } => {
-            labels.push(label(name))?;
-            Ok(())
-        }
-    }
-}
-
-/// Refuses an output name that is given twice.
-fn refuse_names(
-    alloc: Global,
-    checked: &[CheckedItem],
-    sought: &Spec,
-) -> Result<(), Failure<Breach>>
-    ensures ok { OnOk result (items.duplicate_columns (items.names_of_items (map item_seen checked.now) ++ spec.names_found (spec_of sought.now)) ≡ []) }
-    ensures fault { IfErr result (IsFirst (items.duplicate_columns (items.names_of_items (map item_seen checked.now) ++ spec.names_found (spec_of sought.now)))) }
-{
-    let mut labels = labels(alloc, checked)?;
-    append_found(&mut labels, sought)?;
-    refuse_columns(alloc, &labels)
-}
-
-fn append_spans(
-    alloc: Global,
-    columns: &mut Vec<Column>,
-    labels: &[Label<'_>],
-) -> Result<(), OutOfMemory>
-    ensures { OnOk result (columns.new.items ≡ columns.old.items ++ spec.span_columns (map label_of labels.now)) }
-{
-    for label in labels {
-        let name = OwnedText::copied(alloc, label.text)?;
-        columns.push(Column {
-            name,
-            kind: Kind::Span,
-        })?;
-    }
-    Ok(())
-}
-
-/// The columns of the items, and then of what is found.
-fn columns_given(
-    alloc: Global,
-    checked: &[CheckedItem],
-    sought: &Spec,
-) -> Result<Vec<Column>, OutOfMemory>
-    ensures { IfOk result (λ columns. columns.items ≡ items.columns_of_items (map item_seen checked.now) ++ spec.columns_found (spec_of sought.now)) }
-{
-    let mut labels = Vec::new(alloc);
-    append_found(&mut labels, sought)?;
-    let mut columns = columns(alloc, checked)?;
-    append_spans(alloc, &mut columns, &labels)?;
-    Ok(columns)
-}
-
-/// The clauses, in the order of checking.
-#[tactic(auto, using(crate::specs::FaultLaws::first_here, crate::specs::FaultLaws::first_later, crate::specs::FaultLaws::all_faultless))]
-fn tail(
-    alloc: Global,
-    known: &Known<'_>,
-    scope: &Scope<'_>,
-    query: &Extract,
-) -> Result<TailParts, Failure<Breach>>
-    ensures ok { IfOk result (SameTail (known_of known.now) (scope_of scope.now) (tail_of query.now)) }
-    ensures none { OnOk result (spec.tail_faults (known_of known.now) (scope_of scope.now) (tail_of query.now) ≡ []) }
-    ensures fault { IfErr result (IsFirst (spec.tail_faults (known_of known.now) (scope_of scope.now) (tail_of query.now))) }
-{
-    let conds = wanted_terms(alloc, known, scope, Kind::Boolean, &query.conds)?;
-    let consolidate = consolidation(alloc, known, scope, &query.cons)?;
-    let limit = limit(&query.limit)?;
-    Ok(TailParts {
-        conds,
-        consolidate,
-        limit,
-    })
-}
-
-/// The clauses, where bare names are these columns.
-fn tail_over(
-    alloc: Global,
-    known: &Known<'_>,
-    columns: &[Column],
-    query: &Extract,
-) -> Result<TailParts, Failure<Breach>>
-    ensures ok { IfOk result (SameTail (known_of known.now) (spec.column_scope columns.now) (tail_of query.now)) }
-    ensures none { OnOk result (spec.tail_faults (known_of known.now) (spec.column_scope columns.now) (tail_of query.now) ≡ []) }
-    ensures fault { IfErr result (IsFirst (spec.tail_faults (known_of known.now) (spec.column_scope columns.now) (tail_of query.now))) }
-{
-    let scope = Scope {
-        sources: &[],
-        names: Names::OfColumns(columns),
-    };
-    tail(alloc, known, &scope, query)
-}
-
 /// What an extraction finds in the rows of its source.
 fn found(
     alloc: Global,
@@ -265,6 +92,179 @@ fn found(
     Ok(CheckedFound {
         columns,
         clauses: extract_clauses(items, extraction, tail),
+    })
+}
+
+/// The items; blocks stand without.
+fn items_beside<'a>(sought: &Spec, items: &'a [Item]) -> &'a [Item]
+    ensures { map item_of result.now ≡ spec.items_beside (spec_of sought.now) (map item_of items.now) }
+{
+    match sought {
+        Spec::Blocks { .. } => &[],
+        Spec::Regex { .. } => items,
+        Spec::Dict { .. } => items,
+    }
+}
+
+/// The number of the column in which is looked.
+#[tactic(auto, using(crate::specs::FaultLaws::first_here, crate::specs::FaultLaws::first_later, crate::specs::FaultLaws::all_faultless))]
+fn column_on(
+    alloc: Global,
+    known: &Known<'_>,
+    row: &Scope<'_>,
+    sought: &Spec,
+) -> Result<u32, Failure<Breach>>
+    ensures ok { IfOk result (λ n. n ≡ column_meant (spec.typing_on (scope_of row.now).sources (spec_of sought.now)).meant) }
+    ensures none { OnOk result (kind_faults (known_of known.now) kind.Span (spec.typing_on (scope_of row.now).sources (spec_of sought.now)) ≡ []) }
+    ensures fault { IfErr result (IsFirst (kind_faults (known_of known.now) kind.Span (spec.typing_on (scope_of row.now).sources (spec_of sought.now)))) }
+{
+    let alias = alias_on(sought);
+    let given = column(alloc, row.sources, alias.at, alias, name_on(sought))?;
+    refuse_wrong(known, Wanted::OfKind(Kind::Span), &given)?;
+    Ok(given.meant.column())
+}
+
+fn alias_on(sought: &Spec) -> &Ident
+    ensures { name_of result.now ≡ spec.alias_on (spec_of sought.now) }
+{
+    match sought {
+        Spec::Regex { on, .. } => &on.0,
+        Spec::Dict { on, .. } => &on.0,
+        Spec::Blocks { on, .. } => &on.0,
+    }
+}
+
+fn name_on(sought: &Spec) -> &Ident
+    ensures { name_of result.now ≡ spec.name_on (spec_of sought.now) }
+{
+    match sought {
+        Spec::Regex { on, .. } => &on.1,
+        Spec::Dict { on, .. } => &on.1,
+        Spec::Blocks { on, .. } => &on.1,
+    }
+}
+
+/// Refuses an output name that is given twice.
+fn refuse_names(
+    alloc: Global,
+    checked: &[CheckedItem],
+    sought: &Spec,
+) -> Result<(), Failure<Breach>>
+    ensures ok { OnOk result (items.duplicate_columns (items.names_of_items (map item_seen checked.now) ++ spec.names_found (spec_of sought.now)) ≡ []) }
+    ensures fault { IfErr result (IsFirst (items.duplicate_columns (items.names_of_items (map item_seen checked.now) ++ spec.names_found (spec_of sought.now)))) }
+{
+    let mut labels = labels(alloc, checked)?;
+    append_found(&mut labels, sought)?;
+    refuse_columns(alloc, &labels)
+}
+
+/// Appends the names of the columns that are found.
+fn append_found<'a>(labels: &mut Vec<Label<'a>>, sought: &'a Spec) -> Result<(), OutOfMemory>
+    ensures { OnOk result (map label_of labels.new.items ≡ map label_of labels.old.items ++ spec.names_found (spec_of sought.now)) }
+{
+    match sought {
+        Spec::Regex { groups, .. } => append_groups(labels, groups),
+        Spec::Dict { name, .. } => {
+            labels.push(label(name))?;
+            Ok(())
+        }
+        Spec::Blocks { name, .. } => {
+            labels.push(label(name))?;
+            Ok(())
+        }
+    }
+}
+
+fn append_groups<'a>(
+    labels: &mut Vec<Label<'a>>,
+    groups: &'a [(Option<Number>, Ident)],
+) -> Result<(), OutOfMemory>
+    ensures { OnOk result (map label_of labels.new.items ≡ map label_of labels.old.items ++ spec.names_of_groups (map group_of groups.now)) }
+{
+    for group in groups {
+        labels.push(label(&group.1))?;
+    }
+    Ok(())
+}
+
+fn label(name: &Ident) -> Label<'_>
+    ensures { label_of result ≡ name_of name.now }
+{
+    Label {
+        text: name.text.as_str(),
+        at: name.at,
+    }
+}
+
+/// The columns of the items, and then of what is found.
+fn columns_given(
+    alloc: Global,
+    checked: &[CheckedItem],
+    sought: &Spec,
+) -> Result<Vec<Column>, OutOfMemory>
+    ensures { IfOk result (λ columns. columns.items ≡ items.columns_of_items (map item_seen checked.now) ++ spec.columns_found (spec_of sought.now)) }
+{
+    let mut labels = Vec::new(alloc);
+    append_found(&mut labels, sought)?;
+    let mut columns = columns(alloc, checked)?;
+    append_spans(alloc, &mut columns, &labels)?;
+    Ok(columns)
+}
+
+fn append_spans(
+    alloc: Global,
+    columns: &mut Vec<Column>,
+    labels: &[Label<'_>],
+) -> Result<(), OutOfMemory>
+    ensures { OnOk result (columns.new.items ≡ columns.old.items ++ spec.span_columns (map label_of labels.now)) }
+{
+    for label in labels {
+        let name = OwnedText::copied(alloc, label.text)?;
+        columns.push(Column {
+            name,
+            kind: Kind::Span,
+        })?;
+    }
+    Ok(())
+}
+
+/// The clauses, where bare names are these columns.
+fn tail_over(
+    alloc: Global,
+    known: &Known<'_>,
+    columns: &[Column],
+    query: &Extract,
+) -> Result<TailParts, Failure<Breach>>
+    ensures ok { IfOk result (SameTail (known_of known.now) (spec.column_scope columns.now) (tail_of query.now)) }
+    ensures none { OnOk result (spec.tail_faults (known_of known.now) (spec.column_scope columns.now) (tail_of query.now) ≡ []) }
+    ensures fault { IfErr result (IsFirst (spec.tail_faults (known_of known.now) (spec.column_scope columns.now) (tail_of query.now))) }
+{
+    let scope = Scope {
+        sources: &[],
+        names: Names::OfColumns(columns),
+    };
+    tail(alloc, known, &scope, query)
+}
+
+/// The clauses, in the order of checking.
+#[tactic(auto, using(crate::specs::FaultLaws::first_here, crate::specs::FaultLaws::first_later, crate::specs::FaultLaws::all_faultless))]
+fn tail(
+    alloc: Global,
+    known: &Known<'_>,
+    scope: &Scope<'_>,
+    query: &Extract,
+) -> Result<TailParts, Failure<Breach>>
+    ensures ok { IfOk result (SameTail (known_of known.now) (scope_of scope.now) (tail_of query.now)) }
+    ensures none { OnOk result (spec.tail_faults (known_of known.now) (scope_of scope.now) (tail_of query.now) ≡ []) }
+    ensures fault { IfErr result (IsFirst (spec.tail_faults (known_of known.now) (scope_of scope.now) (tail_of query.now))) }
+{
+    let conds = wanted_terms(alloc, known, scope, Kind::Boolean, &query.conds)?;
+    let consolidate = consolidation(alloc, known, scope, &query.cons)?;
+    let limit = limit(&query.limit)?;
+    Ok(TailParts {
+        conds,
+        consolidate,
+        limit,
     })
 }
 

@@ -41,17 +41,6 @@ pub(crate) struct CheckedItem {
     pub(crate) content: Content,
 }
 
-/// The token of an item's output name.
-#[tactic(auto, using(crate::proofs::Labels::same_at))]
-fn label_at(item: &Item) -> u32
-    ensures { result ≡ (spec.output_name (item_of item.now)).at }
-{
-    match &item.name {
-        Some(name) => name.at,
-        None => item.expr.at,
-    }
-}
-
 /// The text of an item's output name.
 pub(crate) fn label_text(item: &Item) -> &str
     ensures { result.now ≡ (spec.output_name (item_of item.now)).text }
@@ -73,19 +62,15 @@ pub(crate) fn label(alloc: Global, item: &Item) -> Result<Ident, OutOfMemory>
     })
 }
 
-/// An expression as a whole item.
-#[tactic(auto, using(crate::specs::FaultLaws::first_here, crate::specs::FaultLaws::first_later))]
-fn plain_item(known: &Known<'_>, name: Ident, given: Given) -> Result<CheckedItem, Failure<Breach>>
-    ensures ok { IfOk result (λ item. spec.plain_item (known_of known.now) (name_of name) (seen given) ≡ item_seen item) }
-    ensures fault { IfErr result (IsFirst (spec.plain_item (known_of known.now) (name_of name) (seen given)).faults) }
+/// The token of an item's output name.
+#[tactic(auto, using(crate::proofs::Labels::same_at))]
+fn label_at(item: &Item) -> u32
+    ensures { result ≡ (spec.output_name (item_of item.now)).at }
 {
-    refuse_wrong(known, Wanted::OfKind(Kind::Any), &given)?;
-    Ok(CheckedItem {
-        at: given.at,
-        name,
-        kind: given.kind,
-        content: Content::Expression(given.meant),
-    })
+    match &item.name {
+        Some(name) => name.at,
+        None => item.expr.at,
+    }
 }
 
 /// An item of an extraction.
@@ -102,6 +87,67 @@ pub(crate) fn extract_item(
     let given = term(alloc, known, scope, &item.expr)?;
     let name = label(alloc, item)?;
     plain_item(known, name, given)
+}
+
+/// An expression as a whole item.
+#[tactic(auto, using(crate::specs::FaultLaws::first_here, crate::specs::FaultLaws::first_later))]
+fn plain_item(known: &Known<'_>, name: Ident, given: Given) -> Result<CheckedItem, Failure<Breach>>
+    ensures ok { IfOk result (λ item. spec.plain_item (known_of known.now) (name_of name) (seen given) ≡ item_seen item) }
+    ensures fault { IfErr result (IsFirst (spec.plain_item (known_of known.now) (name_of name) (seen given)).faults) }
+{
+    refuse_wrong(known, Wanted::OfKind(Kind::Any), &given)?;
+    Ok(CheckedItem {
+        at: given.at,
+        name,
+        kind: given.kind,
+        content: Content::Expression(given.meant),
+    })
+}
+
+/// An item of a selection.
+#[tactic(auto, using(crate::specs::FaultLaws::first_here, crate::specs::FaultLaws::first_later))]
+pub(crate) fn select_item(
+    alloc: Global,
+    known: &Known<'_>,
+    scope: &Scope<'_>,
+    item: &Item,
+) -> Result<CheckedItem, Failure<Breach>>
+    ensures ok { IfOk result (λ checked. spec.select_item (known_of known.now) (scope_of scope.now) (item_of item.now) ≡ item_seen checked) }
+    ensures fault { IfErr result (IsFirst (spec.select_item (known_of known.now) (scope_of scope.now) (item_of item.now)).faults) }
+{
+    let at = item.expr.at;
+    match &item.expr.form {
+        Form::Call { name, args } => match aggregate_named(name.as_str()) {
+            None => extract_item(alloc, known, scope, item),
+            Some(aggregate) => {
+                let label = label(alloc, item)?;
+                aggregated(alloc, known, scope, label, at, aggregate, args)
+            }
+        },
+        Form::Star { name } => {
+            let label = label(alloc, item)?;
+            star_item(alloc, label, at, name.as_str())
+        }
+        _ => extract_item(alloc, known, scope, item),
+    }
+}
+
+/// An aggregate as a whole item.
+#[tactic(auto, using(crate::specs::FaultLaws::first_here, crate::specs::FaultLaws::first_later))]
+fn aggregated(
+    alloc: Global,
+    known: &Known<'_>,
+    scope: &Scope<'_>,
+    name: Ident,
+    at: u32,
+    aggregate: Aggregate,
+    args: &[Ast],
+) -> Result<CheckedItem, Failure<Breach>>
+    ensures ok { IfOk result (λ item. spec.aggregate_item (known_of known.now) (name_of name) at aggregate (map (typing (known_of known.now) (scope_of scope.now)) (map term_of args.now)) ≡ item_seen item) }
+    ensures fault { IfErr result (IsFirst (spec.aggregate_item (known_of known.now) (name_of name) at aggregate (map (typing (known_of known.now) (scope_of scope.now)) (map term_of args.now))).faults) }
+{
+    let args = terms(alloc, known, scope, args)?;
+    aggregate_item(known, name, at, aggregate, args)
 }
 
 /// An aggregate whose arguments have no fault.
@@ -173,50 +219,4 @@ fn star_item(
         kind: Kind::Integer,
         content: Content::RowCount,
     })
-}
-
-/// An aggregate as a whole item.
-#[tactic(auto, using(crate::specs::FaultLaws::first_here, crate::specs::FaultLaws::first_later))]
-fn aggregated(
-    alloc: Global,
-    known: &Known<'_>,
-    scope: &Scope<'_>,
-    name: Ident,
-    at: u32,
-    aggregate: Aggregate,
-    args: &[Ast],
-) -> Result<CheckedItem, Failure<Breach>>
-    ensures ok { IfOk result (λ item. spec.aggregate_item (known_of known.now) (name_of name) at aggregate (map (typing (known_of known.now) (scope_of scope.now)) (map term_of args.now)) ≡ item_seen item) }
-    ensures fault { IfErr result (IsFirst (spec.aggregate_item (known_of known.now) (name_of name) at aggregate (map (typing (known_of known.now) (scope_of scope.now)) (map term_of args.now))).faults) }
-{
-    let args = terms(alloc, known, scope, args)?;
-    aggregate_item(known, name, at, aggregate, args)
-}
-
-/// An item of a selection.
-#[tactic(auto, using(crate::specs::FaultLaws::first_here, crate::specs::FaultLaws::first_later))]
-pub(crate) fn select_item(
-    alloc: Global,
-    known: &Known<'_>,
-    scope: &Scope<'_>,
-    item: &Item,
-) -> Result<CheckedItem, Failure<Breach>>
-    ensures ok { IfOk result (λ checked. spec.select_item (known_of known.now) (scope_of scope.now) (item_of item.now) ≡ item_seen checked) }
-    ensures fault { IfErr result (IsFirst (spec.select_item (known_of known.now) (scope_of scope.now) (item_of item.now)).faults) }
-{
-    let at = item.expr.at;
-    match &item.expr.form {
-        Form::Call { name, args } => match aggregate_named(name.as_str()) {
-            None => extract_item(alloc, known, scope, item),
-            Some(aggregate) => {
-                let label = label(alloc, item)?;
-                aggregated(alloc, known, scope, label, at, aggregate, args)
-            }
-        },
-        Form::Star { name } => {
-            let label = label(alloc, item)?;
-            star_item(alloc, label, at, name.as_str())
-        }
-        _ => extract_item(alloc, known, scope, item),
-    }
 }

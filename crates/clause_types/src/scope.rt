@@ -52,19 +52,6 @@ pub(crate) struct Numbered {
     kind: Kind,
 }
 
-/// The number after some others. More than a `u32` counts are want of memory.
-fn sum(start: u32, count: usize) -> Result<u32, OutOfMemory>
-    ensures { IfOk result (λ n. n ≡ start + count) }
-{
-    let Ok(count) = u32::try_from(count) else {
-        return Err(OutOfMemory);
-    };
-    match start.checked_add(count) {
-        Some(n) => Ok(n),
-        None => Err(OutOfMemory),
-    }
-}
-
 /// The first column with a name, where the columns count from `start`.
 pub(crate) fn column_named(
     name: &str,
@@ -83,52 +70,6 @@ pub(crate) fn column_named(
         }
     }
     Ok(None)
-}
-
-/// The first source with an alias; columns count from 0 through all sources.
-fn source_named<'a>(
-    alias: &str,
-    sources: &[Visible<'a>],
-) -> Result<Option<SourceColumns<'a>>, OutOfMemory>
-    ensures { IfOk result (λ found. option_map source_columns_of found ≡ spec.source_named alias.now 0 (map visible_of sources.now)) }
-{
-    let mut start = 0;
-    for source in sources {
-        if source.alias == alias {
-            return Ok(Some(SourceColumns {
-                start,
-                columns: source.columns,
-            }));
-        }
-        start = sum(start, source.columns.len())?;
-    }
-    Ok(None)
-}
-
-fn given_column(at: u32, found: Numbered) -> Given
-    ensures { seen result ≡ spec.typing_of_numbered at (numbered_of found) }
-{
-    Given {
-        at,
-        kind: found.kind,
-        meant: Meant::Value(Expr::Column(found.number)),
-    }
-}
-
-/// The column with a name, at a token; the name is unknown where there is none.
-pub(crate) fn found_or_unknown(
-    alloc: Global,
-    at: u32,
-    name: &str,
-    found: Option<Numbered>,
-) -> Result<Given, Failure<Breach>>
-    ensures ok { IfOk result (λ given. spec.found_or_unknown at name.now (option_map numbered_of found) ≡ seen given) }
-    ensures fault { IfErr result (IsFirst (spec.found_or_unknown at name.now (option_map numbered_of found)).faults) }
-{
-    match found {
-        Some(found) => Ok(given_column(at, found)),
-        None => Err(unknown_column(alloc, at, name)),
-    }
 }
 
 /// A column of a source.
@@ -152,24 +93,62 @@ pub(crate) fn column(
     }
 }
 
-/// The expression of an item, at the bare name that stands for it.
-fn given_item(alloc: Global, at: u32, item: &CheckedItem) -> Result<Given, Failure<Breach>>
-    ensures ok { IfOk result (λ given. spec.typing_of_content at (item_seen item.now) (item_seen item.now).content ≡ seen given) }
-    ensures fault { IfErr result (IsFirst (spec.typing_of_content at (item_seen item.now) (item_seen item.now).content).faults) }
+/// The first source with an alias; columns count from 0 through all sources.
+fn source_named<'a>(
+    alias: &str,
+    sources: &[Visible<'a>],
+) -> Result<Option<SourceColumns<'a>>, OutOfMemory>
+    ensures { IfOk result (λ found. option_map source_columns_of found ≡ spec.source_named alias.now 0 (map visible_of sources.now)) }
 {
-    match &item.content {
-        Content::Expression(meant) => {
-            let meant = meant.copied(alloc)?;
-            Ok(Given {
-                at,
-                kind: item.kind,
-                meant,
-            })
+    let mut start = 0;
+    for source in sources {
+        if source.alias == alias {
+            return Ok(Some(SourceColumns {
+                start,
+                columns: source.columns,
+            }));
         }
-        Content::RowCount => Err(unknown_function(alloc, item.at, "Count")),
-        Content::Aggregated(aggregate, _) => {
-            Err(unknown_function(alloc, item.at, aggregate.name()))
-        }
+        start = sum(start, source.columns.len())?;
+    }
+    Ok(None)
+}
+
+/// The number after some others. More than a `u32` counts are want of memory.
+fn sum(start: u32, count: usize) -> Result<u32, OutOfMemory>
+    ensures { IfOk result (λ n. n ≡ start + count) }
+{
+    let Ok(count) = u32::try_from(count) else {
+        return Err(OutOfMemory);
+    };
+    match start.checked_add(count) {
+        Some(n) => Ok(n),
+        None => Err(OutOfMemory),
+    }
+}
+
+/// The column with a name, at a token; the name is unknown where there is none.
+pub(crate) fn found_or_unknown(
+    alloc: Global,
+    at: u32,
+    name: &str,
+    found: Option<Numbered>,
+) -> Result<Given, Failure<Breach>>
+    ensures ok { IfOk result (λ given. spec.found_or_unknown at name.now (option_map numbered_of found) ≡ seen given) }
+    ensures fault { IfErr result (IsFirst (spec.found_or_unknown at name.now (option_map numbered_of found)).faults) }
+{
+    match found {
+        Some(found) => Ok(given_column(at, found)),
+        None => Err(unknown_column(alloc, at, name)),
+    }
+}
+
+fn given_column(at: u32, found: Numbered) -> Given
+    ensures { seen result ≡ spec.typing_of_numbered at (numbered_of found) }
+{
+    Given {
+        at,
+        kind: found.kind,
+        meant: Meant::Value(Expr::Column(found.number)),
     }
 }
 
@@ -183,22 +162,6 @@ pub(crate) fn item_named<'a>(name: &str, items: &'a [CheckedItem]) -> Option<&'a
         }
     }
     None
-}
-
-/// The expression of the first item with an output name.
-fn item_or_unknown(
-    alloc: Global,
-    at: u32,
-    name: &str,
-    items: &[CheckedItem],
-) -> Result<Given, Failure<Breach>>
-    ensures ok { IfOk result (λ given. spec.item_or_unknown at name.now (spec.item_named name.now (map item_seen items.now)) ≡ seen given) }
-    ensures fault { IfErr result (IsFirst (spec.item_or_unknown at name.now (spec.item_named name.now (map item_seen items.now))).faults) }
-{
-    match item_named(name, items) {
-        Some(item) => given_item(alloc, at, item),
-        None => Err(unknown_column(alloc, at, name)),
-    }
 }
 
 /// What a bare name stands for.
@@ -217,6 +180,43 @@ pub(crate) fn bare(
         Names::OfColumns(columns) => {
             let found = column_named(name, 0, columns)?;
             found_or_unknown(alloc, at, name, found)
+        }
+    }
+}
+
+/// The expression of the first item with an output name.
+fn item_or_unknown(
+    alloc: Global,
+    at: u32,
+    name: &str,
+    items: &[CheckedItem],
+) -> Result<Given, Failure<Breach>>
+    ensures ok { IfOk result (λ given. spec.item_or_unknown at name.now (spec.item_named name.now (map item_seen items.now)) ≡ seen given) }
+    ensures fault { IfErr result (IsFirst (spec.item_or_unknown at name.now (spec.item_named name.now (map item_seen items.now))).faults) }
+{
+    match item_named(name, items) {
+        Some(item) => given_item(alloc, at, item),
+        None => Err(unknown_column(alloc, at, name)),
+    }
+}
+
+/// The expression of an item, at the bare name that stands for it.
+fn given_item(alloc: Global, at: u32, item: &CheckedItem) -> Result<Given, Failure<Breach>>
+    ensures ok { IfOk result (λ given. spec.typing_of_content at (item_seen item.now) (item_seen item.now).content ≡ seen given) }
+    ensures fault { IfErr result (IsFirst (spec.typing_of_content at (item_seen item.now) (item_seen item.now).content).faults) }
+{
+    match &item.content {
+        Content::Expression(meant) => {
+            let meant = meant.copied(alloc)?;
+            Ok(Given {
+                at,
+                kind: item.kind,
+                meant,
+            })
+        }
+        Content::RowCount => Err(unknown_function(alloc, item.at, "Count")),
+        Content::Aggregated(aggregate, _) => {
+            Err(unknown_function(alloc, item.at, aggregate.name()))
         }
     }
 }

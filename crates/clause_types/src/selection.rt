@@ -68,21 +68,45 @@ pub fn rows_over(
     rows(alloc, known, &row, query)
 }
 
-/// Refuses an item that is no key, where the selection groups.
-fn refuse_grouping(
-    items: &[Item],
-    keys: &[Ast],
-    checked: &[CheckedItem],
-) -> Result<(), Failure<Breach>>
-    requires { length items.now ≡ length checked.now }
-    ensures ok { OnOk result (spec.grouped_faults (map item_of items.now) (map item_seen checked.now) (map term_of keys.now) ≡ []) }
-    ensures fault { IfErr result (IsFirst (spec.grouped_faults (map item_of items.now) (map item_seen checked.now) (map term_of keys.now))) }
+/// The rows of a selection: its items, their names, and its clauses.
+#[tactic(auto, using(crate::specs::FaultLaws::first_here, crate::specs::FaultLaws::first_later, crate::specs::FaultLaws::all_faultless))]
+fn rows(
+    alloc: Global,
+    known: &Known<'_>,
+    row: &Scope<'_>,
+    query: &Select,
+) -> Result<CheckedRows, Failure<Breach>>
+    ensures ok { IfOk result (λ rows. typed.select_clauses_of rows.clauses ≡ spec.rows_clauses (known_of known.now) (scope_of row.now) (map item_of query.now.items.items) (clauses_of query.now)) }
+    ensures columns { IfOk result (λ rows. rows.columns.items ≡ items.columns_of_items (spec.items_typed (known_of known.now) (scope_of row.now) (map item_of query.now.items.items) (clauses_of query.now))) }
+    ensures none { OnOk result (spec.rows_faults (known_of known.now) (scope_of row.now) (map item_of query.now.items.items) (clauses_of query.now) ≡ []) }
+    ensures fault { IfErr result (IsFirst (spec.rows_faults (known_of known.now) (scope_of row.now) (map item_of query.now.items.items) (clauses_of query.now))) }
 {
-    if groups(keys, checked) {
-        refuse_not_grouped(items, keys, checked)
-    } else {
-        Ok(())
-    }
+    let checked = select_items(alloc, known, row, &query.items)?;
+    refuse_repeated(alloc, &checked)?;
+    let columns = columns(alloc, &checked)?;
+    let parts = item_parts(alloc, known, row, &checked, query)?;
+    let clauses = clauses(alloc, query, checked, parts)?;
+    Ok(CheckedRows { columns, clauses })
+}
+
+/// The clauses, with the items that bare names stand for.
+fn item_parts(
+    alloc: Global,
+    known: &Known<'_>,
+    row: &Scope<'_>,
+    checked: &[CheckedItem],
+    query: &Select,
+) -> Result<Parts, Failure<Breach>>
+    requires { length query.now.items.items ≡ length checked.now }
+    ensures ok { IfOk result (SameParts (known_of known.now) (scope_of row.now) (spec.scope_with (scope_of row.now) (map item_seen checked.now)) (map item_of query.now.items.items) (clauses_of query.now)) }
+    ensures none { OnOk result (spec.clause_faults (known_of known.now) (scope_of row.now) (spec.scope_with (scope_of row.now) (map item_seen checked.now)) (map item_of query.now.items.items) (map item_seen checked.now) (clauses_of query.now) ≡ []) }
+    ensures fault { IfErr result (IsFirst (spec.clause_faults (known_of known.now) (scope_of row.now) (spec.scope_with (scope_of row.now) (map item_seen checked.now)) (map item_of query.now.items.items) (map item_seen checked.now) (clauses_of query.now))) }
+{
+    let scope = Scope {
+        sources: row.sources,
+        names: Names::OfItems(checked),
+    };
+    clause_parts(alloc, known, row, &scope, checked, query)
 }
 
 /// The clauses, in the order of checking.
@@ -115,48 +139,20 @@ fn clause_parts(
     })
 }
 
-/// The clauses, with the items that bare names stand for.
-fn item_parts(
-    alloc: Global,
-    known: &Known<'_>,
-    row: &Scope<'_>,
-    checked: &[CheckedItem],
-    query: &Select,
-) -> Result<Parts, Failure<Breach>>
-    requires { length query.now.items.items ≡ length checked.now }
-    ensures ok { IfOk result (SameParts (known_of known.now) (scope_of row.now) (spec.scope_with (scope_of row.now) (map item_seen checked.now)) (map item_of query.now.items.items) (clauses_of query.now)) }
-    ensures none { OnOk result (spec.clause_faults (known_of known.now) (scope_of row.now) (spec.scope_with (scope_of row.now) (map item_seen checked.now)) (map item_of query.now.items.items) (map item_seen checked.now) (clauses_of query.now) ≡ []) }
-    ensures fault { IfErr result (IsFirst (spec.clause_faults (known_of known.now) (scope_of row.now) (spec.scope_with (scope_of row.now) (map item_seen checked.now)) (map item_of query.now.items.items) (map item_seen checked.now) (clauses_of query.now))) }
-{
-    let scope = Scope {
-        sources: row.sources,
-        names: Names::OfItems(checked),
-    };
-    clause_parts(alloc, known, row, &scope, checked, query)
-}
-
-/// The columns of a selection.
-fn projection(
-    alloc: Global,
+/// Refuses an item that is no key, where the selection groups.
+fn refuse_grouping(
     items: &[Item],
-    group: &[Ast],
-    checked: Vec<CheckedItem>,
-    keys: Vec<Expr>,
-) -> Result<Projection, OutOfMemory>
-    requires { length items.now ≡ length checked.items }
-    ensures { IfOk result (λ p. typed.projection_of p ≡ spec.projection_by (map expr_term keys.items) (map item_of items.now) (map item_seen checked.items) (map term_of group.now)) }
+    keys: &[Ast],
+    checked: &[CheckedItem],
+) -> Result<(), Failure<Breach>>
+    requires { length items.now ≡ length checked.now }
+    ensures ok { OnOk result (spec.grouped_faults (map item_of items.now) (map item_seen checked.now) (map term_of keys.now) ≡ []) }
+    ensures fault { IfErr result (IsFirst (spec.grouped_faults (map item_of items.now) (map item_seen checked.now) (map term_of keys.now))) }
 {
-    if groups(group, &checked) {
-        let aggregates = aggregates(alloc, items, group, &checked)?;
-        let arguments = arguments(alloc, checked)?;
-        Ok(Projection::Grouped {
-            keys: Exprs::from(keys),
-            arguments: Exprs::from(arguments),
-            aggregates,
-        })
+    if groups(keys, checked) {
+        refuse_not_grouped(items, keys, checked)
     } else {
-        let exprs = plain_exprs(alloc, checked)?;
-        Ok(Projection::Plain(Exprs::from(exprs)))
+        Ok(())
     }
 }
 
@@ -187,23 +183,27 @@ fn clauses(
     })
 }
 
-/// The rows of a selection: its items, their names, and its clauses.
-#[tactic(auto, using(crate::specs::FaultLaws::first_here, crate::specs::FaultLaws::first_later, crate::specs::FaultLaws::all_faultless))]
-fn rows(
+/// The columns of a selection.
+fn projection(
     alloc: Global,
-    known: &Known<'_>,
-    row: &Scope<'_>,
-    query: &Select,
-) -> Result<CheckedRows, Failure<Breach>>
-    ensures ok { IfOk result (λ rows. typed.select_clauses_of rows.clauses ≡ spec.rows_clauses (known_of known.now) (scope_of row.now) (map item_of query.now.items.items) (clauses_of query.now)) }
-    ensures columns { IfOk result (λ rows. rows.columns.items ≡ items.columns_of_items (spec.items_typed (known_of known.now) (scope_of row.now) (map item_of query.now.items.items) (clauses_of query.now))) }
-    ensures none { OnOk result (spec.rows_faults (known_of known.now) (scope_of row.now) (map item_of query.now.items.items) (clauses_of query.now) ≡ []) }
-    ensures fault { IfErr result (IsFirst (spec.rows_faults (known_of known.now) (scope_of row.now) (map item_of query.now.items.items) (clauses_of query.now))) }
+    items: &[Item],
+    group: &[Ast],
+    checked: Vec<CheckedItem>,
+    keys: Vec<Expr>,
+) -> Result<Projection, OutOfMemory>
+    requires { length items.now ≡ length checked.items }
+    ensures { IfOk result (λ p. typed.projection_of p ≡ spec.projection_by (map expr_term keys.items) (map item_of items.now) (map item_seen checked.items) (map term_of group.now)) }
 {
-    let checked = select_items(alloc, known, row, &query.items)?;
-    refuse_repeated(alloc, &checked)?;
-    let columns = columns(alloc, &checked)?;
-    let parts = item_parts(alloc, known, row, &checked, query)?;
-    let clauses = clauses(alloc, query, checked, parts)?;
-    Ok(CheckedRows { columns, clauses })
+    if groups(group, &checked) {
+        let aggregates = aggregates(alloc, items, group, &checked)?;
+        let arguments = arguments(alloc, checked)?;
+        Ok(Projection::Grouped {
+            keys: Exprs::from(keys),
+            arguments: Exprs::from(arguments),
+            aggregates,
+        })
+    } else {
+        let exprs = plain_exprs(alloc, checked)?;
+        Ok(Projection::Plain(Exprs::from(exprs)))
+    }
 }

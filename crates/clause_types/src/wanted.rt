@@ -38,52 +38,6 @@ pub(crate) enum Callee {
     Aggregate(Aggregate),
 }
 
-fn at(kinds: &[Kind], number: usize) -> Option<Wanted>
-    ensures { result ≡ slice_get (map Wanted.OfKind kinds.now) number }
-{
-    match kinds.get(number) {
-        Some(kind) => Some(Wanted::OfKind(*kind)),
-        None => None,
-    }
-}
-
-/// What the second argument of `Equals` is wanted to be.
-fn compared(found: &[Given]) -> Kind
-    ensures { result ≡ spec.compared (kinds_of (map seen found.now)) }
-{
-    match found {
-        [] => Kind::Any,
-        [first] => first.kind,
-        [first, second, ..] => match second.kind {
-            Kind::Pattern => Kind::Any,
-            _ => first.kind,
-        },
-    }
-}
-
-fn dictionary_wanted(found: &[Given], number: usize) -> Option<Wanted>
-    ensures { result ≡ slice_get (spec.dictionary_wanted (kinds_of (map seen found.now))) number }
-{
-    let flag = found.len() >= 3;
-    match number {
-        0 => Some(Wanted::OfKind(Kind::Dictionary)),
-        1 if flag => Some(Wanted::Flag),
-        1 => Some(Wanted::OfKind(Kind::Span)),
-        2 if flag => Some(Wanted::OfKind(Kind::Span)),
-        _ => None,
-    }
-}
-
-fn conditions_wanted(found: &[Given], number: usize) -> Option<Wanted>
-    ensures { result ≡ slice_get (spec.conditions_wanted (kinds_of (map seen found.now))) number }
-{
-    if number < found.len().max(1) {
-        Some(Wanted::OfKind(Kind::Boolean))
-    } else {
-        None
-    }
-}
-
 impl Function {
     /// What the argument with a number, from 0, is wanted to be, where these arguments stand; None past the last.
     fn wanted(self, found: &[Given], number: usize) -> Option<Wanted>
@@ -138,5 +92,51 @@ impl Callee {
             Callee::Function(function) => function.wanted(found, number),
             Callee::Aggregate(aggregate) => aggregate.wanted(number),
         }
+    }
+}
+
+fn at(kinds: &[Kind], number: usize) -> Option<Wanted>
+    ensures { result ≡ slice_get (map Wanted.OfKind kinds.now) number }
+{
+    match kinds.get(number) {
+        Some(kind) => Some(Wanted::OfKind(*kind)),
+        None => None,
+    }
+}
+
+/// What the second argument of `Equals` is wanted to be.
+fn compared(found: &[Given]) -> Kind
+    ensures { result ≡ spec.compared (kinds_of (map seen found.now)) }
+{
+    match found {
+        [] => Kind::Any,
+        [first] => first.kind,
+        [first, second, ..] => match second.kind {
+            Kind::Pattern => Kind::Any,
+            _ => first.kind,
+        },
+    }
+}
+
+fn dictionary_wanted(found: &[Given], number: usize) -> Option<Wanted>
+    ensures { result ≡ slice_get (spec.dictionary_wanted (kinds_of (map seen found.now))) number }
+{
+    let flag = found.len() >= 3;
+    match number {
+        0 => Some(Wanted::OfKind(Kind::Dictionary)),
+        1 if flag => Some(Wanted::Flag),
+        1 => Some(Wanted::OfKind(Kind::Span)),
+        2 if flag => Some(Wanted::OfKind(Kind::Span)),
+        _ => None,
+    }
+}
+
+fn conditions_wanted(found: &[Given], number: usize) -> Option<Wanted>
+    ensures { result ≡ slice_get (spec.conditions_wanted (kinds_of (map seen found.now))) number }
+{
+    if number < found.len().max(1) {
+        Some(Wanted::OfKind(Kind::Boolean))
+    } else {
+        None
     }
 }

@@ -9,19 +9,6 @@ use crate::Tools;
 use row_values::Value;
 use span_token::{Document, OutOfMemory};
 
-/// The text of a value: its own, or the characters of a span.
-#[inline(always)]
-fn text_of<'d>(doc: &Document<'d>, value: Value<'d>) -> Option<&'d str>
-    requires in_document { IsOfDocument doc.now (datum_of value) }
-    ensures { (f : List ℕ → Bool) → MatchOption result (holds_of_text doc.now f (datum_of value.entry ∷ []) ≡ false) (λ text. holds_of_text doc.now f (datum_of value.entry ∷ []) ≡ f text.now) }
-{
-    match value {
-        Value::Text(text) => Some(text),
-        Value::Span(span) => Some(doc.text_of(span)),
-        _ => None,
-    }
-}
-
 /// `ContainsRegex`
 #[inline(always)]
 pub(crate) fn has_match<'d>(
@@ -37,6 +24,19 @@ pub(crate) fn has_match<'d>(
     match text_of(doc, value) {
         Some(text) => tools.has_match(pattern, text),
         None => Ok(false),
+    }
+}
+
+/// The text of a value: its own, or the characters of a span.
+#[inline(always)]
+fn text_of<'d>(doc: &Document<'d>, value: Value<'d>) -> Option<&'d str>
+    requires in_document { IsOfDocument doc.now (datum_of value) }
+    ensures { (f : List ℕ → Bool) → MatchOption result (holds_of_text doc.now f (datum_of value.entry ∷ []) ≡ false) (λ text. holds_of_text doc.now f (datum_of value.entry ∷ []) ≡ f text.now) }
+{
+    match value {
+        Value::Text(text) => Some(text),
+        Value::Span(span) => Some(doc.text_of(span)),
+        _ => None,
     }
 }
 

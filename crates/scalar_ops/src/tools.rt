@@ -41,17 +41,6 @@ impl<'t> Model for Tools<'t> {
     ghost invariant = { λ tools. ArePrepared tools.tables.now.patterns tools.plain.items × ArePrepared tools.tables.now.patterns tools.whole.items };
 }
 
-/// So many patterns of which no searcher was made.
-fn unprepared<T: Drop>(alloc: Global, number: usize) -> Result<Vec<Option<T>>, OutOfMemory>
-    ensures { IfOk result (λ all. all.items ≡ replicate number None) }
-{
-    let mut all = Vec::new(alloc);
-    for _n in 0..number {
-        all.push(None)?;
-    }
-    Ok(all)
-}
-
 impl<'t> Tools<'t> {
     /// The tools of a worker over `tables`; no searcher is made yet.
     pub fn new(alloc: Global, tables: &'t Tables) -> Result<Tools<'t>, OutOfMemory>
@@ -140,6 +129,17 @@ impl<'t> Tools<'t> {
             .pass
             .matches_whole(dict as usize, doc, span, &mut self.scratch)
     }
+}
+
+/// So many patterns of which no searcher was made.
+fn unprepared<T: Drop>(alloc: Global, number: usize) -> Result<Vec<Option<T>>, OutOfMemory>
+    ensures { IfOk result (λ all. all.items ≡ replicate number None) }
+{
+    let mut all = Vec::new(alloc);
+    for _n in 0..number {
+        all.push(None)?;
+    }
+    Ok(all)
 }
 
 /// Whether the pattern matches somewhere in `text`, by the searcher that is kept or is made now.

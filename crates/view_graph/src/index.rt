@@ -23,66 +23,6 @@ pub(crate) struct Names {
     pub(crate) dictionaries: IndexMap<String, u32>,
 }
 
-/// A map with `Document` alone.
-fn views_at_first(alloc: Global) -> Result<IndexMap<String, Option<u32>>, OutOfMemory>
-    ensures { IfOk result (λ views. (q : _) → entry_of views q ≡ update bytes_eq (λ _. None) (codes "Document") (Some None) q) }
-{
-    let mut views = IndexMap::new(alloc);
-    let document = String::from_str(alloc, "Document")?;
-    views.insert(document, None)?;
-    Ok(views)
-}
-
-/// Adds a view; false where the name is there.
-fn add_view(
-    alloc: Global,
-    views: &mut IndexMap<String, Option<u32>>,
-    name: &str,
-    index: u32,
-) -> Result<bool, OutOfMemory>
-    ensures { IfOk result (Adds (entry_of views.old) (entry_of views.new) name.now (Some index)) }
-{
-    let key = String::from_str(alloc, name)?;
-    match views.insert(key, Some(index))? {
-        None => Ok(true),
-        Some(_) => Ok(false),
-    }
-}
-
-/// Adds a dictionary; false where the name is there.
-fn add_dictionary(
-    alloc: Global,
-    dictionaries: &mut IndexMap<String, u32>,
-    name: &str,
-    index: u32,
-) -> Result<bool, OutOfMemory>
-    ensures { IfOk result (Adds (entry_of dictionaries.old) (entry_of dictionaries.new) name.now index) }
-{
-    let key = String::from_str(alloc, name)?;
-    match dictionaries.insert(key, index)? {
-        None => Ok(true),
-        Some(_) => Ok(false),
-    }
-}
-
-/// Adds a name; false where it is there.
-pub(crate) fn add_name<'a>(
-    names: &mut IndexSet<&'a str>,
-    name: &'a str,
-) -> Result<bool, OutOfMemory>
-    ensures { IfOk result (AddsText (has names.old) (has names.new) name.now) }
-{
-    Ok(names.insert(name)?)
-}
-
-/// The fault of the statement with this number, which defines the name again.
-fn defined_again(alloc: Global, statement: u32, name: &str) -> Result<NameFault, OutOfMemory>
-    ensures { IfOk result (λ fault. fault ≡ NameFault.DuplicateName statement name.now) }
-{
-    let name = OwnedText::copied(alloc, name)?;
-    Ok(NameFault::DuplicateName { statement, name })
-}
-
 impl Names {
     /// The names before the first statement: `Document` alone.
     fn at_first(alloc: Global) -> Result<Names, OutOfMemory>
@@ -129,6 +69,16 @@ impl Names {
     }
 }
 
+/// Adds a name; false where it is there.
+pub(crate) fn add_name<'a>(
+    names: &mut IndexSet<&'a str>,
+    name: &'a str,
+) -> Result<bool, OutOfMemory>
+    ensures { IfOk result (AddsText (has names.old) (has names.new) name.now) }
+{
+    Ok(names.insert(name)?)
+}
+
 /// The names that the statements define, or the first that is defined again.
 pub(crate) fn define(alloc: Global, statements: &[Statement]) -> Result<Names, Failure<NameFault>>
     requires { length statements.now < 2 ^ 32 }
@@ -140,4 +90,54 @@ pub(crate) fn define(alloc: Global, statements: &[Statement]) -> Result<Names, F
         names.define(alloc, index as u32, statement)?;
     }
     Ok(names)
+}
+
+/// A map with `Document` alone.
+fn views_at_first(alloc: Global) -> Result<IndexMap<String, Option<u32>>, OutOfMemory>
+    ensures { IfOk result (λ views. (q : _) → entry_of views q ≡ update bytes_eq (λ _. None) (codes "Document") (Some None) q) }
+{
+    let mut views = IndexMap::new(alloc);
+    let document = String::from_str(alloc, "Document")?;
+    views.insert(document, None)?;
+    Ok(views)
+}
+
+/// Adds a view; false where the name is there.
+fn add_view(
+    alloc: Global,
+    views: &mut IndexMap<String, Option<u32>>,
+    name: &str,
+    index: u32,
+) -> Result<bool, OutOfMemory>
+    ensures { IfOk result (Adds (entry_of views.old) (entry_of views.new) name.now (Some index)) }
+{
+    let key = String::from_str(alloc, name)?;
+    match views.insert(key, Some(index))? {
+        None => Ok(true),
+        Some(_) => Ok(false),
+    }
+}
+
+/// The fault of the statement with this number, which defines the name again.
+fn defined_again(alloc: Global, statement: u32, name: &str) -> Result<NameFault, OutOfMemory>
+    ensures { IfOk result (λ fault. fault ≡ NameFault.DuplicateName statement name.now) }
+{
+    let name = OwnedText::copied(alloc, name)?;
+    Ok(NameFault::DuplicateName { statement, name })
+}
+
+/// Adds a dictionary; false where the name is there.
+fn add_dictionary(
+    alloc: Global,
+    dictionaries: &mut IndexMap<String, u32>,
+    name: &str,
+    index: u32,
+) -> Result<bool, OutOfMemory>
+    ensures { IfOk result (Adds (entry_of dictionaries.old) (entry_of dictionaries.new) name.now index) }
+{
+    let key = String::from_str(alloc, name)?;
+    match dictionaries.insert(key, index)? {
+        None => Ok(true),
+        Some(_) => Ok(false),
+    }
 }

@@ -11,14 +11,23 @@ use aql_syntax::Statement;
 use span_token::OutOfMemory;
 use std::alloc::Global;
 
-/// The rank that the walk marked.
-fn rank_of(mark: Mark) -> u32
-    ensures { (rank : ℕ) → mark ≡ Mark.Ranked rank → result ≡ rank }
+/// The numbers of the views, from 1, by rank and then by number.
+pub(crate) fn in_order(
+    alloc: Global,
+    statements: &[Statement],
+    marks: &[Mark],
+) -> Result<Vec<u32>, OutOfMemory>
+    requires short { length statements.now < 2 ^ 32 }
+    requires marked { length marks.now ≡ length statements.now }
+    ensures { IfOk result (λ order. IsNumbering (map statement_of statements.now) marks.now order.items) }
 {
-    match mark {
-        Mark::Ranked(rank) => rank,
-        _ => 0,
+    let mut views = with_ranks(alloc, statements, marks)?;
+    views.sort()?;
+    let mut order = Vec::new(alloc);
+    for (_, view) in &views {
+        order.push(*view + 1)?;
     }
+    Ok(order)
 }
 
 /// The views with their ranks: rank and index, by index.
@@ -40,23 +49,14 @@ fn with_ranks(
     Ok(views)
 }
 
-/// The numbers of the views, from 1, by rank and then by number.
-pub(crate) fn in_order(
-    alloc: Global,
-    statements: &[Statement],
-    marks: &[Mark],
-) -> Result<Vec<u32>, OutOfMemory>
-    requires short { length statements.now < 2 ^ 32 }
-    requires marked { length marks.now ≡ length statements.now }
-    ensures { IfOk result (λ order. IsNumbering (map statement_of statements.now) marks.now order.items) }
+/// The rank that the walk marked.
+fn rank_of(mark: Mark) -> u32
+    ensures { (rank : ℕ) → mark ≡ Mark.Ranked rank → result ≡ rank }
 {
-    let mut views = with_ranks(alloc, statements, marks)?;
-    views.sort()?;
-    let mut order = Vec::new(alloc);
-    for (_, view) in &views {
-        order.push(*view + 1)?;
+    match mark {
+        Mark::Ranked(rank) => rank,
+        _ => 0,
     }
-    Ok(order)
 }
 
 /// For each statement the index of its view in the order; 0 where it creates no view.

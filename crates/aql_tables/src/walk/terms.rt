@@ -24,15 +24,14 @@ pub(crate) fn term<'a>(out: &mut Mentions<'a>, ast: &'a Ast) -> Result<(), OutOf
     }
 }
 
-/// What expressions mention, one after another.
-#[cycle(term)]
-pub(crate) fn terms<'a>(out: &mut Mentions<'a>, asts: &'a [Ast]) -> Result<(), OutOfMemory>
-    ensures { OnOk result (out.new ≡ out.old ++ flat_map spec.mentions_in_term (map see.term_of asts.now)) }
+/// The dictionary that an item's name may stand for elsewhere.
+fn text<'a>(out: &mut Mentions<'a>, ast: &'a Ast) -> Result<(), OutOfMemory>
+    ensures { OnOk result (out.new ≡ out.old ++ spec.mentions_in_text (see.term_of ast.now)) }
 {
-    for ast in asts {
-        term(out, ast)?;
+    match &ast.form {
+        Form::Str(text) => out.dictionary_either_way(text.as_str()),
+        _ => Ok(()),
     }
-    Ok(())
 }
 
 /// The dictionary that the call of the function `name` mentions by its first argument.
@@ -74,21 +73,15 @@ fn flagged<'a>(out: &mut Mentions<'a>, name: &'a str, flag: &'a Ast) -> Result<(
     }
 }
 
-/// The dictionary that an item's name may stand for elsewhere.
-fn text<'a>(out: &mut Mentions<'a>, ast: &'a Ast) -> Result<(), OutOfMemory>
-    ensures { OnOk result (out.new ≡ out.old ++ spec.mentions_in_text (see.term_of ast.now)) }
+/// What expressions mention, one after another.
+#[cycle(term)]
+pub(crate) fn terms<'a>(out: &mut Mentions<'a>, asts: &'a [Ast]) -> Result<(), OutOfMemory>
+    ensures { OnOk result (out.new ≡ out.old ++ flat_map spec.mentions_in_term (map see.term_of asts.now)) }
 {
-    match &ast.form {
-        Form::Str(text) => out.dictionary_either_way(text.as_str()),
-        _ => Ok(()),
+    for ast in asts {
+        term(out, ast)?;
     }
-}
-
-fn item<'a>(out: &mut Mentions<'a>, item: &'a Item) -> Result<(), OutOfMemory>
-    ensures { OnOk result (out.new ≡ out.old ++ spec.mentions_in_item (see.item_of item.now)) }
-{
-    text(out, &item.expr)?;
-    term(out, &item.expr)
+    Ok(())
 }
 
 /// What a selection's items mention.
@@ -99,6 +92,13 @@ pub(crate) fn items<'a>(out: &mut Mentions<'a>, items: &'a [Item]) -> Result<(),
         item(out, one)?;
     }
     Ok(())
+}
+
+fn item<'a>(out: &mut Mentions<'a>, item: &'a Item) -> Result<(), OutOfMemory>
+    ensures { OnOk result (out.new ≡ out.old ++ spec.mentions_in_item (see.item_of item.now)) }
+{
+    text(out, &item.expr)?;
+    term(out, &item.expr)
 }
 
 /// What an extraction's items mention.

@@ -9,6 +9,20 @@ use crate::names::mentions::Mentions;
 use aql_syntax::{Ast, Form, Item, is_dictionary_predicate};
 use span_token::OutOfMemory;
 
+/// The names in an expression.
+#[cycle(term)]
+pub(crate) fn term<'a>(out: &mut Mentions<'a>, ast: &'a Ast) -> Result<(), OutOfMemory>
+    ensures { OnOk result (out.new ≡ out.old ++ spec.names_in_term (see.term_of ast.now)) }
+{
+    match &ast.form {
+        Form::Call { name, args } => {
+            dictionary_argument(out, name.as_str(), args)?;
+            terms(out, args)
+        }
+        _ => Ok(()),
+    }
+}
+
 /// The dictionary that the call of the function `name` names by its first argument.
 fn dictionary_argument<'a>(
     out: &mut Mentions<'a>,
@@ -29,20 +43,6 @@ fn dictionary_argument<'a>(
             }
             _ => Ok(()),
         },
-    }
-}
-
-/// The names in an expression.
-#[cycle(term)]
-pub(crate) fn term<'a>(out: &mut Mentions<'a>, ast: &'a Ast) -> Result<(), OutOfMemory>
-    ensures { OnOk result (out.new ≡ out.old ++ spec.names_in_term (see.term_of ast.now)) }
-{
-    match &ast.form {
-        Form::Call { name, args } => {
-            dictionary_argument(out, name.as_str(), args)?;
-            terms(out, args)
-        }
-        _ => Ok(()),
     }
 }
 
