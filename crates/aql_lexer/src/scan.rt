@@ -7,6 +7,8 @@ ghost use Rattle.std.specs.Str.{IsCharBoundary};
 ghost use Rattle.aql_lexer.specs.Scanning as spec;
 ghost use Rattle.aql_lexer.specs.Tokens as bytes;
 
+use crate::alphabet::{begins_word, goes_on_word, is_in_name};
+
 /// What a part of a text is.
 #[derive(Clone, Copy, Debug)]
 pub enum Form {
@@ -268,9 +270,9 @@ fn goes_on(run: Run, b: u8) -> bool
     ensures { result ≡ spec.goes_on run b }
 {
     match run {
-        Run::Word => b.is_ascii_alphanumeric() || b == b'_',
+        Run::Word => goes_on_word(b),
         Run::Digits => b.is_ascii_digit(),
-        Run::Name => !(b == b'"' || b == b'\n'),
+        Run::Name => is_in_name(b),
         Run::Line => b != b'\n',
     }
 }
@@ -288,10 +290,4 @@ fn is_white(b: u8) -> bool
     ensures { result ≡ bytes.is_white b }
 {
     b == b' ' || b == b'\t' || b == b'\r' || b == b'\n' || b == 0x0c
-}
-
-fn begins_word(b: u8) -> bool
-    ensures { result ≡ bytes.begins_word b }
-{
-    b.is_ascii_alphabetic() || b == b'_'
 }

@@ -5,6 +5,8 @@ ghost use Rattle.std.specs.List.{list_all};
 ghost use Rattle.aql_lexer.specs.Tokens as lexed;
 ghost use Rattle.aql_syntax.specs.Spellings as spec;
 
+use aql_lexer::{begins_word, goes_on_word, is_in_name};
+
 /// The words that are no names, in any case.
 static RESERVED: [&str; 24] = [
     "select",
@@ -48,22 +50,12 @@ pub fn is_reserved(word: &str) -> bool
     RESERVED.iter().any(|reserved| same_word(word, reserved))
 }
 
-fn begins_word(byte: u8) -> bool
-    ensures { result ≡ lexed.begins_word byte }
+/// Whether a name with this text can stand without quotes.
+#[tactic(auto, unfolding(crate::specs::Spellings::can_be_word))]
+pub(crate) fn can_be_word(text: &str) -> bool
+    ensures { result ≡ spec.can_be_word text.now }
 {
-    byte.is_ascii_alphabetic() || byte == b'_'
-}
-
-fn goes_on_word(byte: u8) -> bool
-    ensures { result ≡ lexed.goes_on_word byte }
-{
-    byte.is_ascii_alphanumeric() || byte == b'_'
-}
-
-fn all_go_on_word(bytes: &[u8]) -> bool
-    ensures { result ≡ list_all lexed.goes_on_word bytes.now }
-{
-    bytes.iter().all(|byte| goes_on_word(*byte))
+    is_word(text) && !is_reserved(text)
 }
 
 #[tactic(auto, unfolding(crate::specs::Spellings::is_word))]
@@ -76,24 +68,10 @@ fn is_word(text: &str) -> bool
     }
 }
 
-/// Whether a name with this text can stand without quotes.
-#[tactic(auto, unfolding(crate::specs::Spellings::can_be_word))]
-pub(crate) fn can_be_word(text: &str) -> bool
-    ensures { result ≡ spec.can_be_word text.now }
+fn all_go_on_word(bytes: &[u8]) -> bool
+    ensures { result ≡ list_all lexed.goes_on_word bytes.now }
 {
-    is_word(text) && !is_reserved(text)
-}
-
-fn stands_in_quotes(byte: u8) -> bool
-    ensures { result ≡ lexed.is_in_name byte }
-{
-    !(byte == b'"' || byte == b'\n')
-}
-
-fn all_stand_in_quotes(bytes: &[u8]) -> bool
-    ensures { result ≡ list_all lexed.is_in_name bytes.now }
-{
-    bytes.iter().all(|byte| stands_in_quotes(*byte))
+    bytes.iter().all(|byte| goes_on_word(*byte))
 }
 
 /// Whether a name with this text can stand in quotes.
@@ -105,4 +83,10 @@ pub(crate) fn can_be_name(text: &str) -> bool
         [] => false,
         bytes => all_stand_in_quotes(bytes),
     }
+}
+
+fn all_stand_in_quotes(bytes: &[u8]) -> bool
+    ensures { result ≡ list_all lexed.is_in_name bytes.now }
+{
+    bytes.iter().all(|byte| is_in_name(*byte))
 }

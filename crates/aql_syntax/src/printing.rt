@@ -49,33 +49,38 @@ fn statement(out: &mut Writer, statement: &Statement) -> Result<(), OutOfMemory>
     }
 }
 
-fn output(out: &mut Writer, name: &Ident, other: &Option<OwnedText>) -> Result<(), OutOfMemory>
-    ensures { OnOk result (out.new ≡ out.old ++ spec.printed_statement (tree.output (see.name_of name.now) other.now)) }
+fn module(out: &mut Writer, name: &Ident) -> Result<(), OutOfMemory>
+    ensures { OnOk result (out.new ≡ out.old ++ spec.printed_statement (tree.module_ (see.name_of name.now))) }
 {
-    out.word("output")?;
-    out.word("view")?;
+    out.word("module")?;
     out.name(name)?;
-    alias(out, other)?;
     out.symbol(b';')
 }
 
-fn alias(out: &mut Writer, alias: &Option<OwnedText>) -> Result<(), OutOfMemory>
-    ensures { OnOk result (out.new ≡ out.old ++ spec.printed_optional spec.printed_alias alias.now) }
+fn require(out: &mut Writer) -> Result<(), OutOfMemory>
+    ensures { OnOk result (out.new ≡ out.old ++ spec.printed_statement tree.require) }
 {
-    match alias {
-        None => Ok(()),
-        Some(alias) => {
-            out.word("as")?;
-            out.string(alias.as_str())
-        }
-    }
+    out.word("require")?;
+    out.word("document")?;
+    out.word("with")?;
+    columns(out)
 }
 
-fn view(out: &mut Writer, name: &Ident, meaning: &Query) -> Result<(), OutOfMemory>
-    ensures { OnOk result (out.new ≡ out.old ++ spec.printed_statement (tree.create (see.name_of name.now) (see.query_of meaning.now))) }
+fn columns(out: &mut Writer) -> Result<(), OutOfMemory>
+    ensures { OnOk result (out.new ≡ out.old ++ spec.printed_columns) }
 {
-    created(out, "view", name)?;
-    query(out, meaning)?;
+    out.word("columns")?;
+    out.word("text")?;
+    out.word("Text")?;
+    out.symbol(b';')
+}
+
+fn export(out: &mut Writer, name: &Ident) -> Result<(), OutOfMemory>
+    ensures { OnOk result (out.new ≡ out.old ++ spec.printed_statement (tree.export (see.name_of name.now))) }
+{
+    out.word("export")?;
+    out.word("view")?;
+    out.name(name)?;
     out.symbol(b';')
 }
 
@@ -108,37 +113,32 @@ fn entries(out: &mut Writer, entries: &[OwnedText]) -> Result<(), OutOfMemory>
     Ok(())
 }
 
-fn export(out: &mut Writer, name: &Ident) -> Result<(), OutOfMemory>
-    ensures { OnOk result (out.new ≡ out.old ++ spec.printed_statement (tree.export (see.name_of name.now))) }
+fn view(out: &mut Writer, name: &Ident, meaning: &Query) -> Result<(), OutOfMemory>
+    ensures { OnOk result (out.new ≡ out.old ++ spec.printed_statement (tree.create (see.name_of name.now) (see.query_of meaning.now))) }
 {
-    out.word("export")?;
+    created(out, "view", name)?;
+    query(out, meaning)?;
+    out.symbol(b';')
+}
+
+fn output(out: &mut Writer, name: &Ident, other: &Option<OwnedText>) -> Result<(), OutOfMemory>
+    ensures { OnOk result (out.new ≡ out.old ++ spec.printed_statement (tree.output (see.name_of name.now) other.now)) }
+{
+    out.word("output")?;
     out.word("view")?;
     out.name(name)?;
+    alias(out, other)?;
     out.symbol(b';')
 }
 
-fn columns(out: &mut Writer) -> Result<(), OutOfMemory>
-    ensures { OnOk result (out.new ≡ out.old ++ spec.printed_columns) }
+fn alias(out: &mut Writer, alias: &Option<OwnedText>) -> Result<(), OutOfMemory>
+    ensures { OnOk result (out.new ≡ out.old ++ spec.printed_optional spec.printed_alias alias.now) }
 {
-    out.word("columns")?;
-    out.word("text")?;
-    out.word("Text")?;
-    out.symbol(b';')
-}
-
-fn require(out: &mut Writer) -> Result<(), OutOfMemory>
-    ensures { OnOk result (out.new ≡ out.old ++ spec.printed_statement tree.require) }
-{
-    out.word("require")?;
-    out.word("document")?;
-    out.word("with")?;
-    columns(out)
-}
-
-fn module(out: &mut Writer, name: &Ident) -> Result<(), OutOfMemory>
-    ensures { OnOk result (out.new ≡ out.old ++ spec.printed_statement (tree.module_ (see.name_of name.now))) }
-{
-    out.word("module")?;
-    out.name(name)?;
-    out.symbol(b';')
+    match alias {
+        None => Ok(()),
+        Some(alias) => {
+            out.word("as")?;
+            out.string(alias.as_str())
+        }
+    }
 }

@@ -34,37 +34,6 @@ fn term(a: &Ast, b: &Ast) -> bool
     }
 }
 
-#[cycle(term)]
-fn is_call(word: &str, args: &[Ast], ast: &Ast) -> bool
-    ensures { result ≡ spec.is_same (call 0 word.now (as_terms (map term_of args.now))) (term_of ast.now) }
-{
-    match &ast.form {
-        Form::Call { name, args: others } => word == name.as_str() && terms(args, others),
-        _ => false,
-    }
-}
-
-#[cycle(term)]
-fn terms(args: &[Ast], others: &[Ast]) -> bool
-    ensures { result ≡ spec.are_same (as_terms (map term_of args.now)) (as_terms (map term_of others.now)) }
-{
-    if args.len() != others.len() {
-        return false;
-    }
-    for (i, arg) in args.iter().enumerate() {
-        if !term(arg, &others[i]) {
-            return false;
-        }
-    }
-    true
-}
-
-fn same_name(a: &Ident, b: &Ident) -> bool
-    ensures { result ≡ spec.is_same_name (name_of a.now) (name_of b.now) }
-{
-    a.text.as_str() == b.text.as_str()
-}
-
 fn is_int(value: i64, ast: &Ast) -> bool
     ensures { result ≡ spec.is_same (int 0 value) (term_of ast.now) }
 {
@@ -103,6 +72,12 @@ fn is_column(alias: &Ident, name: &Ident, ast: &Ast) -> bool
     }
 }
 
+fn same_name(a: &Ident, b: &Ident) -> bool
+    ensures { result ≡ spec.is_same_name (name_of a.now) (name_of b.now) }
+{
+    a.text.as_str() == b.text.as_str()
+}
+
 fn is_bare(name: &Ident, ast: &Ast) -> bool
     ensures { result ≡ spec.is_same (bare 0 (name_of name.now)) (term_of ast.now) }
 {
@@ -110,6 +85,31 @@ fn is_bare(name: &Ident, ast: &Ast) -> bool
         Form::Bare(other) => same_name(name, other),
         _ => false,
     }
+}
+
+#[cycle(term)]
+fn is_call(word: &str, args: &[Ast], ast: &Ast) -> bool
+    ensures { result ≡ spec.is_same (call 0 word.now (as_terms (map term_of args.now))) (term_of ast.now) }
+{
+    match &ast.form {
+        Form::Call { name, args: others } => word == name.as_str() && terms(args, others),
+        _ => false,
+    }
+}
+
+#[cycle(term)]
+fn terms(args: &[Ast], others: &[Ast]) -> bool
+    ensures { result ≡ spec.are_same (as_terms (map term_of args.now)) (as_terms (map term_of others.now)) }
+{
+    if args.len() != others.len() {
+        return false;
+    }
+    for (i, arg) in args.iter().enumerate() {
+        if !term(arg, &others[i]) {
+            return false;
+        }
+    }
+    true
 }
 
 fn is_star(word: &str, ast: &Ast) -> bool

@@ -33,15 +33,6 @@ pub fn term(out: &mut Writer, ast: &Ast) -> Result<(), OutOfMemory>
     }
 }
 
-fn star(out: &mut Writer, name: &str) -> Result<(), OutOfMemory>
-    ensures { OnOk result (out.new ≡ out.old ++ spec.printed_term (star 0 name.now)) }
-{
-    out.word(name)?;
-    out.symbol(b'(')?;
-    out.symbol(b'*')?;
-    out.symbol(b')')
-}
-
 #[cycle(expression)]
 fn call(out: &mut Writer, name: &str, args: &[Ast]) -> Result<(), OutOfMemory>
     ensures { OnOk result (out.new ≡ out.old ++ spec.printed_call name.now (map view.term_of args.now)) }
@@ -55,27 +46,20 @@ fn call(out: &mut Writer, name: &str, args: &[Ast]) -> Result<(), OutOfMemory>
     out.symbol(b')')
 }
 
+fn star(out: &mut Writer, name: &str) -> Result<(), OutOfMemory>
+    ensures { OnOk result (out.new ≡ out.old ++ spec.printed_term (star 0 name.now)) }
+{
+    out.word(name)?;
+    out.symbol(b'(')?;
+    out.symbol(b'*')?;
+    out.symbol(b')')
+}
+
 pub fn output(out: &mut Writer, name: &Ident) -> Result<(), OutOfMemory>
     ensures { OnOk result (out.new ≡ out.old ++ spec.printed_output (view.name_of name.now)) }
 {
     out.word("as")?;
     out.name(name)
-}
-
-fn optional_output(out: &mut Writer, name: &Option<Ident>) -> Result<(), OutOfMemory>
-    ensures { OnOk result (out.new ≡ out.old ++ spec.printed_optional spec.printed_output (option_map view.name_of name.now)) }
-{
-    match name {
-        None => Ok(()),
-        Some(name) => output(out, name),
-    }
-}
-
-fn item(out: &mut Writer, item: &Item) -> Result<(), OutOfMemory>
-    ensures { OnOk result (out.new ≡ out.old ++ spec.printed_item (view.item_of item.now)) }
-{
-    term(out, &item.expr)?;
-    optional_output(out, &item.name)
 }
 
 /// Items with commas between them.
@@ -87,6 +71,22 @@ pub fn items(out: &mut Writer, items: &[Item]) -> Result<(), OutOfMemory>
         item(out, one)?;
     }
     Ok(())
+}
+
+fn item(out: &mut Writer, item: &Item) -> Result<(), OutOfMemory>
+    ensures { OnOk result (out.new ≡ out.old ++ spec.printed_item (view.item_of item.now)) }
+{
+    term(out, &item.expr)?;
+    optional_output(out, &item.name)
+}
+
+fn optional_output(out: &mut Writer, name: &Option<Ident>) -> Result<(), OutOfMemory>
+    ensures { OnOk result (out.new ≡ out.old ++ spec.printed_optional spec.printed_output (option_map view.name_of name.now)) }
+{
+    match name {
+        None => Ok(()),
+        Some(name) => output(out, name),
+    }
 }
 
 /// Items with a comma after each.

@@ -37,102 +37,47 @@ pub fn extraction(out: &mut Writer, wanted: &Spec) -> Result<(), OutOfMemory>
     }
 }
 
-fn on_column(out: &mut Writer, on: &(Ident, Ident), name: &Ident) -> Result<(), OutOfMemory>
-    ensures { OnOk result (out.new ≡ out.old ++ spec.printed_on (view.name_of on.now.0) (view.name_of on.now.1) (view.name_of name.now)) }
+fn bound(out: &mut Writer, bound: &Option<Range>) -> Result<(), OutOfMemory>
+    ensures { OnOk result (out.new ≡ out.old ++ spec.printed_optional spec.printed_bound (option_map view.range_of bound.now)) }
 {
-    out.word("on")?;
-    column(out, &on.0, &on.1)?;
-    output(out, name)
-}
-
-fn separation(out: &mut Writer, gap: &Range, tokens: bool) -> Result<(), OutOfMemory>
-    ensures { OnOk result (out.new ≡ out.old ++ spec.printed_separation (view.range_of gap.now) tokens) }
-{
-    out.word("and")?;
-    out.word("separation")?;
-    range(out, gap)?;
-    out.word(unit(tokens))
-}
-
-fn block(
-    out: &mut Writer,
-    count: &Range,
-    gap: &Range,
-    tokens: bool,
-    on: &(Ident, Ident),
-    name: &Ident,
-) -> Result<(), OutOfMemory>
-    ensures { OnOk result (out.new ≡ out.old ++ spec.printed_spec (blocks (view.range_of count.now) (view.range_of gap.now) tokens (view.name_of on.now.0) (view.name_of on.now.1) (view.name_of name.now))) }
-{
-    out.word("blocks")?;
-    out.word("with")?;
-    out.word("count")?;
-    range(out, count)?;
-    separation(out, gap, tokens)?;
-    on_column(out, on, name)
-}
-
-fn dictionary(
-    out: &mut Writer,
-    name: &Ident,
-    how: &Option<Flag>,
-    on: &(Ident, Ident),
-    column_name: &Ident,
-) -> Result<(), OutOfMemory>
-    ensures { OnOk result (out.new ≡ out.old ++ spec.printed_spec (dict (view.name_of name.now) (option_map view.flag_of how.now) (view.name_of on.now.0) (view.name_of on.now.1) (view.name_of column_name.now))) }
-{
-    out.word("dictionary")?;
-    out.dictionary(name)?;
-    flag(out, how)?;
-    on_column(out, on, column_name)
-}
-
-fn regex(
-    out: &mut Writer,
-    text: &Ident,
-    limits: &Option<Range>,
-    on: &(Ident, Ident),
-    all: &[(Option<Number>, Ident)],
-) -> Result<(), OutOfMemory>
-    ensures { OnOk result (out.new ≡ out.old ++ spec.printed_spec (pattern (view.name_of text.now) (option_map view.range_of limits.now) (view.name_of on.now.0) (view.name_of on.now.1) (map view.group_of all.now))) }
-{
-    out.word("regex")?;
-    out.regex(text.text.as_str())?;
-    out.word("on")?;
-    bound(out, limits)?;
-    column(out, &on.0, &on.1)?;
-    groups(out, all)
-}
-
-fn unit(tokens: bool) -> &'static str
-    ensures { result.now ≡ codes (unit_of tokens) }
-{
-    match tokens {
-        true => "tokens",
-        false => "characters",
-    }
-}
-
-fn flag_name(flag: Flag) -> &'static str
-    ensures { result.now ≡ flag_text (view.flag_of flag) }
-{
-    match flag {
-        Flag::Exact => "Exact",
-        Flag::IgnoreCase => "IgnoreCase",
-    }
-}
-
-fn flag(out: &mut Writer, flag: &Option<Flag>) -> Result<(), OutOfMemory>
-    ensures { OnOk result (out.new ≡ out.old ++ spec.printed_optional spec.printed_flag (option_map view.flag_of flag.now)) }
-{
-    match flag {
+    match bound {
         None => Ok(()),
-        Some(flag) => {
-            out.word("with")?;
-            out.word("flags")?;
-            out.string(flag_name(*flag))
+        Some(bound) => {
+            range(out, bound)?;
+            out.word("tokens")?;
+            out.word("in")
         }
     }
+}
+
+fn range(out: &mut Writer, range: &Range) -> Result<(), OutOfMemory>
+    ensures { OnOk result (out.new ≡ out.old ++ spec.printed_range (view.range_of range.now)) }
+{
+    match range {
+        Range::One(number) => out.int(number.value),
+        Range::Two(low, high) => between(out, low, high),
+    }
+}
+
+fn number(out: &mut Writer, number: &Option<Number>) -> Result<(), OutOfMemory>
+    ensures { OnOk result (out.new ≡ out.old ++ spec.printed_optional spec.printed_number (option_map view.number_of number.now)) }
+{
+    match number {
+        None => Ok(()),
+        Some(number) => {
+            out.word("group")?;
+            out.int(number.value)
+        }
+    }
+}
+
+fn between(out: &mut Writer, low: &Number, high: &Number) -> Result<(), OutOfMemory>
+    ensures { OnOk result (out.new ≡ out.old ++ spec.printed_range (two (view.number_of low.now) (view.number_of high.now))) }
+{
+    out.word("between")?;
+    out.int(low.value)?;
+    out.word("and")?;
+    out.int(high.value)
 }
 
 fn groups(out: &mut Writer, groups: &[(Option<Number>, Ident)]) -> Result<(), OutOfMemory>
@@ -163,45 +108,100 @@ fn group(out: &mut Writer, group: &(Option<Number>, Ident)) -> Result<(), OutOfM
     output(out, &group.1)
 }
 
-fn number(out: &mut Writer, number: &Option<Number>) -> Result<(), OutOfMemory>
-    ensures { OnOk result (out.new ≡ out.old ++ spec.printed_optional spec.printed_number (option_map view.number_of number.now)) }
+fn regex(
+    out: &mut Writer,
+    text: &Ident,
+    limits: &Option<Range>,
+    on: &(Ident, Ident),
+    all: &[(Option<Number>, Ident)],
+) -> Result<(), OutOfMemory>
+    ensures { OnOk result (out.new ≡ out.old ++ spec.printed_spec (pattern (view.name_of text.now) (option_map view.range_of limits.now) (view.name_of on.now.0) (view.name_of on.now.1) (map view.group_of all.now))) }
 {
-    match number {
+    out.word("regex")?;
+    out.regex(text.text.as_str())?;
+    out.word("on")?;
+    bound(out, limits)?;
+    column(out, &on.0, &on.1)?;
+    groups(out, all)
+}
+
+fn flag(out: &mut Writer, flag: &Option<Flag>) -> Result<(), OutOfMemory>
+    ensures { OnOk result (out.new ≡ out.old ++ spec.printed_optional spec.printed_flag (option_map view.flag_of flag.now)) }
+{
+    match flag {
         None => Ok(()),
-        Some(number) => {
-            out.word("group")?;
-            out.int(number.value)
+        Some(flag) => {
+            out.word("with")?;
+            out.word("flags")?;
+            out.string(flag_name(*flag))
         }
     }
 }
 
-fn bound(out: &mut Writer, bound: &Option<Range>) -> Result<(), OutOfMemory>
-    ensures { OnOk result (out.new ≡ out.old ++ spec.printed_optional spec.printed_bound (option_map view.range_of bound.now)) }
+fn flag_name(flag: Flag) -> &'static str
+    ensures { result.now ≡ flag_text (view.flag_of flag) }
 {
-    match bound {
-        None => Ok(()),
-        Some(bound) => {
-            range(out, bound)?;
-            out.word("tokens")?;
-            out.word("in")
-        }
+    match flag {
+        Flag::Exact => "Exact",
+        Flag::IgnoreCase => "IgnoreCase",
     }
 }
 
-fn between(out: &mut Writer, low: &Number, high: &Number) -> Result<(), OutOfMemory>
-    ensures { OnOk result (out.new ≡ out.old ++ spec.printed_range (two (view.number_of low.now) (view.number_of high.now))) }
+fn dictionary(
+    out: &mut Writer,
+    name: &Ident,
+    how: &Option<Flag>,
+    on: &(Ident, Ident),
+    column_name: &Ident,
+) -> Result<(), OutOfMemory>
+    ensures { OnOk result (out.new ≡ out.old ++ spec.printed_spec (dict (view.name_of name.now) (option_map view.flag_of how.now) (view.name_of on.now.0) (view.name_of on.now.1) (view.name_of column_name.now))) }
 {
-    out.word("between")?;
-    out.int(low.value)?;
+    out.word("dictionary")?;
+    out.dictionary(name)?;
+    flag(out, how)?;
+    on_column(out, on, column_name)
+}
+
+fn on_column(out: &mut Writer, on: &(Ident, Ident), name: &Ident) -> Result<(), OutOfMemory>
+    ensures { OnOk result (out.new ≡ out.old ++ spec.printed_on (view.name_of on.now.0) (view.name_of on.now.1) (view.name_of name.now)) }
+{
+    out.word("on")?;
+    column(out, &on.0, &on.1)?;
+    output(out, name)
+}
+
+fn block(
+    out: &mut Writer,
+    count: &Range,
+    gap: &Range,
+    tokens: bool,
+    on: &(Ident, Ident),
+    name: &Ident,
+) -> Result<(), OutOfMemory>
+    ensures { OnOk result (out.new ≡ out.old ++ spec.printed_spec (blocks (view.range_of count.now) (view.range_of gap.now) tokens (view.name_of on.now.0) (view.name_of on.now.1) (view.name_of name.now))) }
+{
+    out.word("blocks")?;
+    out.word("with")?;
+    out.word("count")?;
+    range(out, count)?;
+    separation(out, gap, tokens)?;
+    on_column(out, on, name)
+}
+
+fn separation(out: &mut Writer, gap: &Range, tokens: bool) -> Result<(), OutOfMemory>
+    ensures { OnOk result (out.new ≡ out.old ++ spec.printed_separation (view.range_of gap.now) tokens) }
+{
     out.word("and")?;
-    out.int(high.value)
+    out.word("separation")?;
+    range(out, gap)?;
+    out.word(unit(tokens))
 }
 
-fn range(out: &mut Writer, range: &Range) -> Result<(), OutOfMemory>
-    ensures { OnOk result (out.new ≡ out.old ++ spec.printed_range (view.range_of range.now)) }
+fn unit(tokens: bool) -> &'static str
+    ensures { result.now ≡ codes (unit_of tokens) }
 {
-    match range {
-        Range::One(number) => out.int(number.value),
-        Range::Two(low, high) => between(out, low, high),
+    match tokens {
+        true => "tokens",
+        false => "characters",
     }
 }

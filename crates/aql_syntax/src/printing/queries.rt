@@ -11,66 +11,6 @@ use crate::printing::writer::Writer;
 use crate::tree::{Cons, Extract, FromPart, Ident, Number, Query, Select};
 use span_token::OutOfMemory;
 
-fn policy(out: &mut Writer, policy: &Option<Ident>) -> Result<(), OutOfMemory>
-    ensures { OnOk result (out.new ≡ out.old ++ spec.printed_optional spec.printed_policy (option_map see.name_of policy.now)) }
-{
-    match policy {
-        None => Ok(()),
-        Some(policy) => {
-            out.word("using")?;
-            out.string(policy.text.as_str())
-        }
-    }
-}
-
-fn consolidate(out: &mut Writer, cons: &Cons) -> Result<(), OutOfMemory>
-    ensures { OnOk result (out.new ≡ out.old ++ spec.printed_cons (see.cons_of cons.now)) }
-{
-    out.word("consolidate")?;
-    out.word("on")?;
-    term(out, &cons.target)?;
-    policy(out, &cons.policy)
-}
-
-fn cons(out: &mut Writer, cons: &Option<Cons>) -> Result<(), OutOfMemory>
-    ensures { OnOk result (out.new ≡ out.old ++ spec.printed_optional spec.printed_cons (option_map see.cons_of cons.now)) }
-{
-    match cons {
-        None => Ok(()),
-        Some(cons) => consolidate(out, cons),
-    }
-}
-
-fn limit(out: &mut Writer, limit: &Option<Number>) -> Result<(), OutOfMemory>
-    ensures { OnOk result (out.new ≡ out.old ++ spec.printed_optional spec.printed_limit (option_map see.number_of limit.now)) }
-{
-    match limit {
-        None => Ok(()),
-        Some(limit) => {
-            out.word("limit")?;
-            out.int(limit.value)
-        }
-    }
-}
-
-fn clauses(out: &mut Writer, query: &Select) -> Result<(), OutOfMemory>
-    ensures { OnOk result (out.new ≡ out.old ++ spec.printed_clauses (see.clauses_of query.now)) }
-{
-    conds(out, "where", &query.conds)?;
-    cons(out, &query.cons)?;
-    keys(out, "group", &query.group)?;
-    keys(out, "order", &query.order)?;
-    limit(out, &query.limit)
-}
-
-fn tail(out: &mut Writer, query: &Extract) -> Result<(), OutOfMemory>
-    ensures { OnOk result (out.new ≡ out.old ++ spec.printed_tail (see.tail_of query.now)) }
-{
-    conds(out, "having", &query.conds)?;
-    cons(out, &query.cons)?;
-    limit(out, &query.limit)
-}
-
 #[cycle(query)]
 pub fn query(out: &mut Writer, query: &Query) -> Result<(), OutOfMemory>
     ensures { OnOk result (out.new ≡ out.old ++ spec.printed_query (see.query_of query.now)) }
@@ -99,33 +39,12 @@ fn select(out: &mut Writer, query: &Select) -> Result<(), OutOfMemory>
 }
 
 #[cycle(query)]
-fn extract(out: &mut Writer, query: &Extract) -> Result<(), OutOfMemory>
-    ensures { OnOk result (out.new ≡ out.old ++ spec.printed_extract (map see.item_of query.now.items.items) (see.spec_of query.now.spec) (see.source_of query.now.source) (see.tail_of query.now)) }
+fn sources(out: &mut Writer, sources: &[FromPart]) -> Result<(), OutOfMemory>
+    ensures { OnOk result (out.new ≡ out.old ++ spec.printed_separated spec.comma spec.printed_source (map see.source_of sources.now)) }
 {
-    out.word("extract")?;
-    items_before(out, &query.items)?;
-    extraction(out, &query.spec)?;
-    out.word("from")?;
-    source(out, &query.source)?;
-    tail(out, query)
-}
-
-#[cycle(query)]
-fn nested(out: &mut Writer, inner: &Query) -> Result<(), OutOfMemory>
-    ensures { OnOk result (out.new ≡ out.old ++ spec.printed_nested (see.query_of inner.now)) }
-{
-    out.symbol(b'(')?;
-    query(out, inner)?;
-    out.symbol(b')')
-}
-
-#[cycle(query)]
-fn union(out: &mut Writer, sides: &[Query]) -> Result<(), OutOfMemory>
-    ensures { OnOk result (out.new ≡ out.old ++ spec.printed_union (map see.query_of sides.now)) }
-{
-    for (i, side) in sides.iter().enumerate() {
-        out.union_all(i)?;
-        nested(out, side)?;
+    for (i, one) in sources.iter().enumerate() {
+        out.comma(i)?;
+        source(out, one)?;
     }
     Ok(())
 }
@@ -154,12 +73,93 @@ fn view(out: &mut Writer, name: &Ident, alias: &Option<Ident>) -> Result<(), Out
 }
 
 #[cycle(query)]
-fn sources(out: &mut Writer, sources: &[FromPart]) -> Result<(), OutOfMemory>
-    ensures { OnOk result (out.new ≡ out.old ++ spec.printed_separated spec.comma spec.printed_source (map see.source_of sources.now)) }
+fn nested(out: &mut Writer, inner: &Query) -> Result<(), OutOfMemory>
+    ensures { OnOk result (out.new ≡ out.old ++ spec.printed_nested (see.query_of inner.now)) }
 {
-    for (i, one) in sources.iter().enumerate() {
-        out.comma(i)?;
-        source(out, one)?;
+    out.symbol(b'(')?;
+    query(out, inner)?;
+    out.symbol(b')')
+}
+
+fn clauses(out: &mut Writer, query: &Select) -> Result<(), OutOfMemory>
+    ensures { OnOk result (out.new ≡ out.old ++ spec.printed_clauses (see.clauses_of query.now)) }
+{
+    conds(out, "where", &query.conds)?;
+    cons(out, &query.cons)?;
+    keys(out, "group", &query.group)?;
+    keys(out, "order", &query.order)?;
+    limit(out, &query.limit)
+}
+
+fn cons(out: &mut Writer, cons: &Option<Cons>) -> Result<(), OutOfMemory>
+    ensures { OnOk result (out.new ≡ out.old ++ spec.printed_optional spec.printed_cons (option_map see.cons_of cons.now)) }
+{
+    match cons {
+        None => Ok(()),
+        Some(cons) => consolidate(out, cons),
+    }
+}
+
+fn consolidate(out: &mut Writer, cons: &Cons) -> Result<(), OutOfMemory>
+    ensures { OnOk result (out.new ≡ out.old ++ spec.printed_cons (see.cons_of cons.now)) }
+{
+    out.word("consolidate")?;
+    out.word("on")?;
+    term(out, &cons.target)?;
+    policy(out, &cons.policy)
+}
+
+fn policy(out: &mut Writer, policy: &Option<Ident>) -> Result<(), OutOfMemory>
+    ensures { OnOk result (out.new ≡ out.old ++ spec.printed_optional spec.printed_policy (option_map see.name_of policy.now)) }
+{
+    match policy {
+        None => Ok(()),
+        Some(policy) => {
+            out.word("using")?;
+            out.string(policy.text.as_str())
+        }
+    }
+}
+
+fn limit(out: &mut Writer, limit: &Option<Number>) -> Result<(), OutOfMemory>
+    ensures { OnOk result (out.new ≡ out.old ++ spec.printed_optional spec.printed_limit (option_map see.number_of limit.now)) }
+{
+    match limit {
+        None => Ok(()),
+        Some(limit) => {
+            out.word("limit")?;
+            out.int(limit.value)
+        }
+    }
+}
+
+#[cycle(query)]
+fn extract(out: &mut Writer, query: &Extract) -> Result<(), OutOfMemory>
+    ensures { OnOk result (out.new ≡ out.old ++ spec.printed_extract (map see.item_of query.now.items.items) (see.spec_of query.now.spec) (see.source_of query.now.source) (see.tail_of query.now)) }
+{
+    out.word("extract")?;
+    items_before(out, &query.items)?;
+    extraction(out, &query.spec)?;
+    out.word("from")?;
+    source(out, &query.source)?;
+    tail(out, query)
+}
+
+fn tail(out: &mut Writer, query: &Extract) -> Result<(), OutOfMemory>
+    ensures { OnOk result (out.new ≡ out.old ++ spec.printed_tail (see.tail_of query.now)) }
+{
+    conds(out, "having", &query.conds)?;
+    cons(out, &query.cons)?;
+    limit(out, &query.limit)
+}
+
+#[cycle(query)]
+fn union(out: &mut Writer, sides: &[Query]) -> Result<(), OutOfMemory>
+    ensures { OnOk result (out.new ≡ out.old ++ spec.printed_union (map see.query_of sides.now)) }
+{
+    for (i, side) in sides.iter().enumerate() {
+        out.union_all(i)?;
+        nested(out, side)?;
     }
     Ok(())
 }
