@@ -138,13 +138,6 @@ fewer_tokens tokens from to from' to' h k =
     (le-leb t.end to (omega (arith, leb-true t.end to' parts.1))))
     tokens
 
--- how many tokens lie in a span, by their numbers
-pub tokens_counted : (tokens : List Extent) (s : Extent) (first past : ℕ) → AreWithin tokens s first past → past - first ≡ tokens_between tokens s.begin s.end
-tokens_counted tokens s first past w =
-    let rest = length-drop first tokens in
-    let within : past - first ≤ length (drop first tokens) = omega (arith, rest, w.in_list) in
-    sym (length-take-le (past - first) (drop first tokens) within) ∙ ap length w.tokens_are ∙ length-filter (does_contain s) tokens
-
 -- what the answers by a begin give
 module _ (before beyond pair : Bool) where
   begin_before : by_begin before beyond pair ≡ Before → before ≡ true

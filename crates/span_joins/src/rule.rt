@@ -1,14 +1,11 @@
 ghost use Rattle.std.specs.Prelude.{◌≡◌, ◌+◌, ◌≤◌, None};
 ghost use Rattle.span_token.specs.Extents.{extent_of};
-ghost use Rattle.span_token.specs.Documents.{LiesIn, characters};
-ghost use Rattle.span_token.specs.Tokens.{tokens_of};
-ghost use Rattle.span_token.specs.Relations.{tokens_between};
 ghost use Rattle.std.specs.Option.{option_map, IsSome};
 ghost use Rattle.span_joins.specs.Sweeps.{IsWithinAny, answer_at};
-ghost use Rattle.span_joins.specs.Answers.{answer_of, by_gap as gap_answer, by_begin as begin_answer, order_of, other_order_of, begin_empty_first, is_other, is_turned, IsWithin};
+ghost use Rattle.span_joins.specs.Answers.{answer_of, by_gap, by_begin, order_of, other_order_of, begin_empty_first, is_other, is_turned, IsWithin};
 
 use aql_base::Steps;
-use span_token::{Document, Span, between, contains, overlaps};
+use span_token::{Document, Span, between, contains, overlaps, tokens_between};
 use std::sync::ledger::Ledger;
 
 /// What a test of a first span against another span asks.
@@ -147,7 +144,7 @@ fn answered(rule: Rule<'_, '_>, first: Span, other: Span) -> Answer
         }
         Rule::Tokens(doc, min, max, _) => {
             if in_order {
-                by_gap(min, max, tokens_within(doc, gap))
+                by_gap(min, max, tokens_between(doc, gap.begin, gap.end))
             } else {
                 Answer::Before
             }
@@ -181,7 +178,7 @@ pub(crate) fn begin_empty_first(span: Span) -> u64
 /// The answer by how much lies between.
 #[inline(always)]
 fn by_gap(min: i64, max: i64, gap: u32) -> Answer
-    ensures { result ≡ gap_answer min max gap }
+    ensures { result ≡ by_gap min max gap }
 {
     let gap = i64::from(gap);
     if min <= gap {
@@ -198,7 +195,7 @@ fn by_gap(min: i64, max: i64, gap: u32) -> Answer
 /// The answer by where the other span begins, and then by a test.
 #[inline(always)]
 fn by_begin(before: bool, beyond: bool, pair: bool) -> Answer
-    ensures { result ≡ begin_answer before beyond pair }
+    ensures { result ≡ by_begin before beyond pair }
 {
     if before {
         Answer::Before
@@ -209,14 +206,4 @@ fn by_begin(before: bool, beyond: bool, pair: bool) -> Answer
     } else {
         Answer::Neither
     }
-}
-
-/// How many tokens lie wholly in a span.
-#[inline(always)]
-fn tokens_within(doc: &Document<'_>, span: Span) -> u32
-    requires { LiesIn (extent_of span) doc.now }
-    ensures { result ≡ tokens_between (tokens_of (characters doc.now)) span.begin span.end }
-{
-    let (first, past) = doc.tokens_in(span);
-    past - first
 }

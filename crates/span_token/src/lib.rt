@@ -33,7 +33,7 @@ pub use document::Document;
 pub use limits::TEXT_LIMIT;
 pub use owned::{OwnedList, OwnedText};
 pub use refusal::{Failure, OutOfMemory};
-pub use relations::{between, combine, contains, follows, follows_tok, overlaps};
+pub use relations::{between, combine, contains, follows, follows_tok, overlaps, tokens_between};
 pub use source_tokens::SourceTokens;
 pub use span::Span;
 pub use tokens::tokens_of_text;

@@ -2,7 +2,7 @@ ghost use Rattle.std.specs.Prelude.{◌≡◌, ◌↔◌, IsTrue};
 ghost use Rattle.span_token.specs.Extents.{extent_of};
 ghost use Rattle.span_token.specs.Documents.{LiesIn, characters};
 ghost use Rattle.span_token.specs.Tokens.{tokens_of};
-ghost use Rattle.span_token.specs.Relations.{Follows, FollowsTok, Overlaps, ContainsExtent, combined, gap_of, tokens_between as number_between, does_follow, does_follow_tok, do_overlap, does_contain};
+ghost use Rattle.span_token.specs.Relations.{Follows, FollowsTok, Overlaps, ContainsExtent, combined, gap_of, tokens_between, does_follow, does_follow_tok, do_overlap, does_contain};
 
 use crate::{Document, Span};
 
@@ -40,9 +40,11 @@ pub fn follows_tok(doc: &Document<'_>, a: Span, b: Span, min: i64, max: i64) -> 
     min <= between && between <= max
 }
 
-/// How many tokens begin at or after a place and end at or before another.
-fn tokens_between(doc: &Document<'_>, from: u32, to: u32) -> u32
-    ensures { result ≡ number_between (tokens_of (characters doc.now)) from to }
+/// How many tokens of `doc` begin at or after the place `from` and end at or before the place `to`, in characters from 0.
+///
+/// Meaning: `tokens_between`, `specs/Relations.antt`.
+pub fn tokens_between(doc: &Document<'_>, from: u32, to: u32) -> u32
+    ensures { result ≡ tokens_between (tokens_of (characters doc.now)) from to }
 {
     doc.ended_by(to).saturating_sub(doc.begun_before(from))
 }
