@@ -85,9 +85,9 @@ pub(crate) fn with_inputs(node: Node, to: &[u32]) -> Node
             column,
             dicts,
         },
-        Node::DictPart { input, place } => Node::DictPart {
+        Node::DictPart { input, number } => Node::DictPart {
             input: to[input as usize],
-            place,
+            number,
         },
         Node::Blocks {
             input,

@@ -42,11 +42,11 @@ pub enum Node {
         column: u32,
         dicts: OwnedList<u32>,
     },
-    /// The rows of a `Dict` node that have a number, without it: `place` is the number of a dictionary
+    /// The rows of a `Dict` node that have a number, without it: `number` is the number of a dictionary
     /// among those of that node, from 0.
     DictPart {
         input: u32,
-        place: u32,
+        number: u32,
     },
     /// One span for each run of `low` to `high` neighbours among the spans of the column in all rows, with
     /// `gap_low` to `gap_high` characters, or tokens, between two of them.

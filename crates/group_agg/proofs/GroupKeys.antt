@@ -20,9 +20,9 @@ use Rattle.group_agg.specs.Tallies.{Sofar, total, best, start, added, tallied, t
 use Rattle.group_agg.specs.declared.agg.Agg.{Agg}
 use Rattle.group_agg.specs.declared.agg.Agg.TheVariants.{Key, Count, CountOf, Sum, Min, Max}
 
--- a value of distinct ones has one place
-pub same_place : {X : Type 0} (xs : List X) → AllPairs (λ a b. a ≢ b) xs → (i j : ℕ) (d : X) → i < length xs → j < length xs → get_or xs i d ≡ get_or xs j d → i ≡ j
-same_place xs h i j d below high e = by (cases_lt i j) (cases_lt j i)
+-- a value of distinct ones has one index
+pub same_index : {X : Type 0} (xs : List X) → AllPairs (λ a b. a ≢ b) xs → (i j : ℕ) (d : X) → i < length xs → j < length xs → get_or xs i d ≡ get_or xs j d → i ≡ j
+same_index xs h i j d below high e = by (cases_lt i j) (cases_lt j i)
   where
     by : (i < j) ⊎ (j ≤ i) → (j < i) ⊎ (i ≤ j) → i ≡ j
     by (inl lt) q = absurd (h i j d lt high e)
@@ -109,14 +109,14 @@ pub absent : (groups groups' : List (List Datum)) (key : List Datum) → AllPair
 absent groups groups' key distinct e c =
     let all : AllPairs (λ a b. a ≢ b) (groups ++ key ∷ []) = subst (AllPairs (λ a b. a ≢ b)) e distinct in
     let at : get_or (groups ++ key ∷ []) c.0 [] ≡ key = get_or-append groups (key ∷ []) [] c.0 c.1 ∙ get_or_default groups c.0 [] key c.1 ∙ c.2 in
-    let same = same_place (groups ++ key ∷ []) all c.0 (length groups) [] (omega (arith, c.1, length-append groups (key ∷ []))) (omega (arith, length-append groups (key ∷ []))) (at ∙ sym (get_or-append_seam groups key [] [])) in
+    let same = same_index (groups ++ key ∷ []) all c.0 (length groups) [] (omega (arith, c.1, length-append groups (key ∷ []))) (omega (arith, length-append groups (key ∷ []))) (at ∙ sym (get_or-append_seam groups key [] [])) in
     omega (arith, c.1, same)
 
 -- the key with the number n is there
 pub contains_at : (groups : List (List Datum)) (n : ℕ) (key : List Datum) → n < length groups → get_or groups n [] ≡ key → Contains groups key
 contains_at groups n key below e = (n, below, sym (get_or_default groups n [] key below) ∙ e)
 
--- a column at its places
+-- a column at its indices
 abbrev HasTallies : Agg → List ℕ → List (List Datum) → List (List Datum) → List Sofar → Type 0
 HasTallies agg keys rows groups sofars = (k : ℕ) → k < length groups → get_or sofars k (best null) ≡ tallied agg (get_or groups k []) (group_of keys rows (get_or groups k []))
 
@@ -143,7 +143,7 @@ tallies-more agg keys rows groups row n sofars distinct same there is h k below 
     outside : k ≢ n → get_or (set sofars n (added agg (get_or sofars n (best null)) row)) k (best null) ≡ tallied agg (get_or groups k []) (group_of keys (rows ++ row ∷ []) (get_or groups k []))
     outside differs =
         get_or-set_other sofars n k (added agg (get_or sofars n (best null)) row) (best null) differs ∙ h k below
-        ∙ sym (tallied-out agg keys rows row (get_or groups k []) (λ e. differs (same_place groups distinct k n [] below there (sym (is ∙ e)))))
+        ∙ sym (tallied-out agg keys rows row (get_or groups k []) (λ e. differs (same_index groups distinct k n [] below there (sym (is ∙ e)))))
 
     by : (k < n) ⊎ (n ≤ k) → (n < k) ⊎ (k ≤ n) → get_or (set sofars n (added agg (get_or sofars n (best null)) row)) k (best null) ≡ tallied agg (get_or groups k []) (group_of keys (rows ++ row ∷ []) (get_or groups k []))
     by (inl lt) q = outside (λ e. absurd (omega arith))

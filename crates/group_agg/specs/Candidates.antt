@@ -23,7 +23,7 @@ first_of n pairs = take n (sorted_by pair_cmp pairs)
 abbrev pub AreLong : List ℕ → List (List Datum × List Datum) → Type 0
 AreLong keys pairs = All (λ p. length p.0 ≡ length keys) pairs
 
--- among the held are the first n of the seen; once they are settled, what stands at place n - 1 isn't among the first n - 1
+-- among the held are the first n of the seen; once they are settled, what stands at index n - 1 isn't among the first n - 1
 pub record IsHeld (keys : List ℕ) (n : ℕ) (seen held : List (List Datum × List Datum)) (settled : Bool) : Type 0 where
   pub firsts : first_of n held ≡ first_of n seen
   pub long : AreLong keys held

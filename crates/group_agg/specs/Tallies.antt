@@ -76,7 +76,7 @@ abbrev pub finished : Sofar → Datum
 finished (total n) = int (saturate_to_bits 63 n)
 finished (best value) = value
 
--- the value that the tally at a place gives
+-- the value that the tally of a number gives
 abbrev pub finished_at : ℕ → List Sofar → Datum
 finished_at number tallies = finished (slice_index_or tallies number (best null))
 

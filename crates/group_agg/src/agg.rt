@@ -1,9 +1,9 @@
 /// What is told of each group, one value.
 ///
-/// `Key` gives the group's value of a key, by the key's place; the other numbers are columns.
+/// `Key` gives the group's value of a key, by the key's number; the other numbers are columns.
 #[derive(Clone, Copy, Debug, PartialEq, Eq)]
 pub enum Agg {
-    /// The value of the key at this place, from 0.
+    /// The value of the key of this number, from 0.
     Key(u32),
     /// The number of rows.
     Count,

@@ -195,6 +195,6 @@ fn entries(
         column,
         dicts,
     })?;
-    let n = nodes.add(Node::DictPart { input, place: 0 })?;
+    let n = nodes.add(Node::DictPart { input, number: 0 })?;
     Ok(n)
 }

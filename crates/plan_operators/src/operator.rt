@@ -82,7 +82,7 @@ pub fn apply<'d>(
         Node::Dict { column, dicts, .. } => {
             with_numbers(alloc, tools, doc, left.rows(), *column, dicts.as_slice())
         }
-        Node::DictPart { place, .. } => part_of(alloc, left.rows(), *place),
+        Node::DictPart { number, .. } => part_of(alloc, left.rows(), *number),
         Node::Blocks {
             column,
             low,

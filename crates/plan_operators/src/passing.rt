@@ -93,12 +93,12 @@ pub(crate) fn apply_to_passed<'d>(
             };
             found_values(alloc, tools, doc, left, search, items_of(next))
         }
-        Node::DictPart { place, .. } => part_values(
+        Node::DictPart { number, .. } => part_values(
             alloc,
             tools,
             doc,
             left,
-            *place,
+            *number,
             items_of(next),
         ),
         _ => unreachable!(),

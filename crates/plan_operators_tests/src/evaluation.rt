@@ -281,13 +281,7 @@ fn dictionaries(alloc: Global) -> Result<Plan, Fail> {
         },
     )?;
     for number in 0..4 {
-        put(
-            &mut nodes,
-            Node::DictPart {
-                input: 1,
-                place: number,
-            },
-        )?;
+        put(&mut nodes, Node::DictPart { input: 1, number })?;
     }
     showing(alloc, nodes, tables_of(alloc)?, &[2, 3, 4, 5])
 }

@@ -61,7 +61,7 @@ fn may_read(node: &Node, left: Shape, right: Shape) -> bool
         Node::Doc => true,
         Node::Regex { column, .. } => is_open(left) && *column < left.width,
         Node::Dict { column, .. } => is_open(left) && *column < left.width,
-        Node::DictPart { place, .. } => has_number(left, *place),
+        Node::DictPart { number, .. } => has_number(left, *number),
         Node::Select { conds, .. } => is_open(left) && read_below(conds, left.width),
         Node::Project { items, .. } => is_open(left) && read_below(items, left.width),
         Node::Cross { .. } => is_open(left) && is_open(right),

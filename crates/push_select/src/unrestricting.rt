@@ -75,7 +75,7 @@ fn searched(
             })?;
             let n = nodes.add(Node::DictPart {
                 input: both,
-                place: 0,
+                number: 0,
             })?;
             Ok(n)
         }

@@ -159,7 +159,7 @@ pub(crate) fn sought_by(nodes: &Nodes, base: u32, columns: Option<OwnedList<u32>
                 None
             }
         }
-        Node::DictPart { input, place } => entries_of(nodes, base, *input, *place, columns),
+        Node::DictPart { input, number } => entries_of(nodes, base, *input, *number, columns),
         _ => None,
     }
 }

@@ -48,7 +48,7 @@ IsOfDocument document (truth b) = ⊤
 IsOfDocument document (text t) = ⊤
 IsOfDocument document (span extent) = LiesIn extent document
 
--- the place of a value's kind: Null, then integers, truth values, texts and spans
+-- the number of a value's kind: Null, then integers, truth values, texts and spans
 abbrev pub kind_of : Datum → ℕ
 kind_of null = 0
 kind_of (int n) = 1

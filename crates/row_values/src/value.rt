@@ -59,7 +59,7 @@ impl<'d> Value<'d> {
         }
     }
 
-    /// The place of the value's kind in the order of values, from 0.
+    /// The number of the value's kind in the order of values, from 0.
     fn kind(&self) -> u8
         ensures { result ≡ kind_of (datum_of self.now) }
     {

@@ -257,10 +257,10 @@ fn has_size(rt: &impl Abort, rows: &Rows<'_>, size: (u32, u32)) {
     assert_eq!(rt; (rows.len(), rows.width()), size);
 }
 
-/// The row at a place of a list has these values.
-fn has_values_at(rt: &impl Abort, rows: &Rows<'_>, place: u32, want: &[Value<'_>]) {
-    assert!(rt; place < rows.len());
-    has_values(rt, rows.get(place), want);
+/// The row of this number in a list, from 0, has these values.
+fn has_values_at(rt: &impl Abort, rows: &Rows<'_>, number: u32, want: &[Value<'_>]) {
+    assert!(rt; number < rows.len());
+    has_values(rt, rows.get(number), want);
 }
 
 #[test]

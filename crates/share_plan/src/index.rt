@@ -153,7 +153,7 @@ impl Shared {
         let part_number = push_dictionary(&mut self.nodes, input, dict)?;
         self.nodes.push(Node::DictPart {
             input,
-            place: part_number,
+            number: part_number,
         })?;
         Ok(number)
     }

@@ -20,9 +20,9 @@ pub(crate) fn kind_of(node: &Node) -> Kind
 {
     match node {
         Node::Dict { .. } => Kind::Source,
-        Node::DictPart { input, place } => Kind::Part {
+        Node::DictPart { input, number } => Kind::Part {
             input: *input,
-            number: *place,
+            number: *number,
         },
         _ => Kind::Plain,
     }

@@ -86,7 +86,7 @@ fn head_of(alloc: Global, node: &Node) -> Result<Vec<i128>, OutOfMemory>
             word(*pattern),
         ]?),
         Node::Dict { input, column, .. } => Ok(vec![in alloc; 3, word(*input), word(*column)]?),
-        Node::DictPart { input, place } => Ok(vec![in alloc; 4, word(*input), word(*place)]?),
+        Node::DictPart { input, number } => Ok(vec![in alloc; 4, word(*input), word(*number)]?),
         Node::Blocks {
             input,
             column,

@@ -83,7 +83,7 @@ module _ {X : Type 0} {cmp : X → X → Ordering} (order : IsTotalOrder cmp) wh
     unfolding put_in_order
     put_in_front x y ys e = ap (λ b. cond b (y ∷ put_in_order cmp x ys) (x ∷ y ∷ ys)) e
 
-    -- an element that doesn't come before place i changes none up to there
+    -- an element that doesn't come before index i changes none up to there
     put_past : (x : X) (xs : List X) (i : ℕ) (d : X) → IsSorted cmp xs → i < length xs → is_lt (cmp x (get_or xs i d)) ≡ false → take (suc i) (put_in_order cmp x xs) ≡ take (suc i) xs
     unfolding put_in_order
     put_past x [] i d h below past = absurd (omega arith)
@@ -134,7 +134,7 @@ module _ {X : Type 0} {cmp : X → X → Ordering} (order : IsTotalOrder cmp) wh
     pub firsts-firsts : (n : ℕ) (xs : List X) → firsts n (firsts n xs) ≡ firsts n xs
     firsts-firsts n xs = ap (take n) (sorted_by-firsts n xs) ∙ take_within n n (sorted_by cmp xs) (omega arith)
 
-    -- the place of the worst of the first n gets no worse
+    -- the index of the worst of the first n gets no worse
     pub worst-push : (i : ℕ) (held : List X) (x d : X) → i < length held → is_lt (cmp (get_or held i d) (get_or (sorted_by cmp held) i d)) ≡ false
         → is_lt (cmp (get_or (held ++ x ∷ []) i d) (get_or (sorted_by cmp (held ++ x ∷ [])) i d)) ≡ false
     worst-push i held x d below h =

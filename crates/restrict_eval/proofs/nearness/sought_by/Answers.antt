@@ -53,7 +53,7 @@ pub entries_of-requires : goal.entries_of-requires
 entries_of-requires c =
     let nodes = c.args.nodes.now in
     let t = c.in-DictPart in
-    let is : slice_get nodes c.args.base ≡ Some (DictPart t.input t.place) =
+    let is : slice_get nodes c.args.base ≡ Some (DictPart t.input t.number) =
     slice_get_read nodes (length nodes) c.args.base c.get.result.now refl c.requires.there c.get.ensures.node ∙ ap (λ (x : Node). Some x) t.is in
     let lower : t.input < c.args.base = subst (λ (x : Node). IsAmong c.args.base (left_input x)) t.is c.get.ensures.at.left_lower in
     record { there = omega (arith, lower, c.requires.there); is = is }
