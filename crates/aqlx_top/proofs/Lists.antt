@@ -1,4 +1,4 @@
--- Short lists by their places.
+-- Short lists by their elements.
 use Rattle.std.proofs.Common.{◌≡◌, ◌<◌, ◌≤◌, List, [], ◌∷◌, length, get_or, ap₂, arith, sym}
 
 -- a list of two elements

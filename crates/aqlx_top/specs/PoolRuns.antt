@@ -17,7 +17,7 @@ use Rattle.aqlx_top.specs.Plans.{IsPlanOf}
 use Rattle.aqlx_top.specs.ProgramFaults.{HoldsProgram}
 use Rattle.aqlx_top.specs.Run.{Program, line_of}
 
--- a plan by which documents are handed to a pool: it is the normal plan of the program's text, as it is shown; and a sound
+-- a plan by which documents are handed to a pool: it is a normal plan of the program's text, as it is shown; and a sound
 -- pool's line of each document is the one that the program means
 pub record IsRunWith (means : Meaning) (text : List ℕ) (program : Program) (plan : Parts) : Type 0 where
   pub planned : IsPlanOf text plan
@@ -40,7 +40,7 @@ pub record RanInPart (pool : PoolEnds) (text : List ℕ) (program : Program) (co
 abbrev pub summary_from : Meaning → Parts → List Doc → List ℕ
 summary_from means plan docs = summary_of (names_in plan) (tally_of (length plan.outputs) (map (means plan) docs))
 
--- the demonstration by a pool on so many generated documents: all of them are handed over with the normal plan of its program, and the
+-- the demonstration by a pool on so many generated documents: all of them are handed over with a normal plan of its program, and the
 -- summary is that of the rows that the pool answered; a sound pool's is the one that the program means
 pub record GivesSummary (pool : PoolEnds) (count : ℕ) (bytes : List ℕ) : Type 0 where
   pub program : Program
@@ -52,7 +52,7 @@ pub record GivesSummary (pool : PoolEnds) (count : ℕ) (bytes : List ℕ) : Typ
   pub bytes_are : bytes ≡ summary_from pool.means plan (first_documents count)
   pub meant : IsSound pool.means → summary_from pool.means plan (first_documents count) ≡ summary_on program (first_documents count)
 
--- the demonstration under way: the first generated documents are handed over with the normal plan of its program
+-- the demonstration under way: the first generated documents are handed over with a normal plan of its program
 pub record IsCountedInPart (pool : PoolEnds) (count : ℕ) : Type 0 where
   pub plan : Parts
   pub planned : IsPlanOf DEMO.now plan

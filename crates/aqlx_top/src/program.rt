@@ -24,7 +24,7 @@ use view_graph::{Graph, resolve};
 /// The plan of a program's text.
 ///
 /// The program has no fault, and the plan is made of its typed form: each of its outputs shows on each
-/// document what the view of that output means, as a bag. It is the normal plan of `make_plan`. A text with a
+/// document what the view of that output means, as a bag. It is a normal plan, as `make_plan` makes it. A text with a
 /// fault is refused for its first one, in the order that `ProgramFault` tells; `Text` is never answered, since the text is UTF-8.
 ///
 /// Meaning: `IsPlanOf`, `specs/Plans.antt`, and `IsNormal` of `plan_maker`; of a fault: `HasCause`, `specs/ProgramFaults.antt`.

@@ -1,8 +1,7 @@
 ghost use Rattle.std.specs.Prelude.{◌≡◌, ℕ, ◌+◌, IfOk, OnOk, OnErr, Option, List, MatchResult, ◌<◌, ◌^◌};
 ghost use Rattle.aql_io.specs.Causes.{Rose};
-ghost use Rattle.span_token.specs.Documents.{Doc};
 ghost use Rattle.aqlx_top.specs.Devices.{SourceEnds, source_ends, sink_ends, source_between, sink_between};
-ghost use Rattle.aqlx_top.specs.Progress.{Finished, IsGoing, IsRunTo};
+ghost use Rattle.aqlx_top.specs.Progress.{IsGoing};
 ghost use Rattle.aqlx_top.specs.Handing.{InPartBy, PoolEnds, pool_between, pool_ends};
 ghost use Rattle.aqlx_top.specs.PoolTurns.{FinishedBy, IsRunBy, StandsBy, TurnedBy};
 ghost use Rattle.aqlx_top.specs.Planned.{names_in};

@@ -35,13 +35,14 @@ use std::thread::Threads;
 /// one line of the corpus, and one piece of output beyond the lines of one document; `plan` and `demo` hold
 /// their text.
 ///
-/// `run` and `demo` hand each document to `pool`, in order and once, with a plan whose text `plan` writes, and write or
-/// count the rows that it answered. The program's pool is `Workers`; a sound pool's lines are those that the program
-/// means.
+/// `run` and `demo` write or count the rows that `pool` answered. A pool that keeps a list is handed each document, in
+/// order and once, with a plan whose text `plan` may write; of one that keeps none no clause says how often. The
+/// program's pool is `Workers`; a sound pool's lines are those that the program means.
 ///
-/// With `--workers N`, N from 2 on, `run` answers the lines that are ready by N workers, each in a thread of
-/// its own but for the first one, and holds what one read brought, or a window of large documents, and its
-/// lines; no byte of what is written depends on N. All other calls start no thread.
+/// With `--workers N`, N from 2 on, and a plain pool, `run` answers the lines that are ready by N workers, each in a
+/// thread of its own but for the first one, and holds what one read brought, or a window of large documents, and its
+/// lines; no byte of what is written depends on N. All other calls start no thread. No clause says of threads that there
+/// are any.
 ///
 /// Meaning: `Outcome`, `specs/Outcome.antt`; docs/FORMATS.md, "Exit status and standard error".
 pub fn aqlx<R: Threads + Sync, F: Files, S: Source, O: Sink, E: Sink, P: Pool>(

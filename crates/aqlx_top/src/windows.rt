@@ -319,7 +319,7 @@ fn has_lines(bytes: &[u8], number: usize) -> bool {
 }
 
 /// Answers the line that was given and those that are ready, as far as none is bad. False where that one is
-/// bad, or memory is wanting for it: then nothing is answered.
+/// bad: then nothing is answered.
 fn answer_ready<R: Threads + Sync, P: Pool>(
     rt: &R,
     alloc: Global,

@@ -18,8 +18,9 @@ use std::alloc::Global;
 /// changes. A pool is sound where it answers what the plan's outputs are worth (`IsSound`,
 /// `specs/Answers.antt`).
 ///
-/// Documents that are evaluated by several threads are handed to parts of the pool, one for each thread, and
-/// what was handed to the parts is gathered in the documents' order.
+/// Where it is plain (`is_plain`), several threads hand the documents of lines that are ready to parts of it, one for
+/// each thread, and nothing is gathered of these. Documents of a window, and all documents of other pools, are handed
+/// to the pool itself. `gather` is for callers that share a pool with a list out; a run doesn't call it.
 pub trait Pool: Sized + Send + Sync + Drop {
     ghost means: { Self → Meaning };
 

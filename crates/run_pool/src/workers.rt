@@ -1,3 +1,5 @@
+ghost use Rattle.std.specs.Prelude.{◌≡◌, true};
+
 use crate::{Answered, Pool};
 use algebra::Plan;
 use corpus_json::Layout;
@@ -28,7 +30,9 @@ impl Pool for Workers {
         Ok(Answered::AsFound)
     }
 
-    fn is_plain(&self) -> bool {
+    fn is_plain(&self) -> bool
+        ensures plain { result ≡ true }
+    {
         true
     }
 

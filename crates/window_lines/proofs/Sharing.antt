@@ -60,7 +60,7 @@ found_answers plan [] (lists ∷ answers) are valid = absurd are
 found_answers plan (doc ∷ docs) [] are valid = absurd are
 found_answers plan (doc ∷ docs) (lists ∷ answers) are valid = (found_answer plan doc lists are.0 valid, found_answers plan docs answers are.1 valid)
 
--- R holds of two lists place by place, the second one mapped
+-- R holds of two lists element by element, the second one mapped
 pub zip-mapped : {A B V : Type 0} (R : A → B → Type 0) (xs : List A) (vs : List V) (f : V → B) (i : ℕ) (x : A) (v : V) → AllZip R xs (map f vs) → i < length xs
     → x ≡ get_or xs i x → v ≡ get_or vs i v → R x (f v)
 zip-mapped R [] vs f i x v are below is here = absurd (omega arith)

@@ -17,7 +17,7 @@ pub joined-more : {A B : Type 0} (f : A → List B) (xs : List A) (size n : ℕ)
     → flat_map f (take ((n + 1) * size) xs) ≡ flat_map f (take (n * size) xs) ++ flat_map f (slice_chunk xs size n)
 joined-more f xs size n = ap (flat_map f) (more xs size n) ∙ flat_map-append f (take (n * size) xs) (slice_chunk xs size n)
 
--- R holds of two lists place by place: of their stretches too
+-- R holds of two lists element by element: of their stretches too
 pub zip-take : {A B : Type 0} (R : A → B → Type 0) (n : ℕ) (xs : List A) (ys : List B) → AllZip R xs ys → AllZip R (take n xs) (take n ys)
 zip-take R zero xs ys are = tt
 zip-take R (suc n) [] [] are = tt

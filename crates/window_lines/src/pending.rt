@@ -91,6 +91,8 @@ impl Pending {
     fn push_text(&mut self, text: Vec<u8>) -> Result<(), OutOfMemory>
         ensures { OnOk result (self.new ≡ self.old ++ text.items) }
     {
+        // so that nothing that is pending is lost where memory is wanting
+        self.whole.reserve(2)?;
         let last = mem::replace(&mut self.last, Vec::new(self.alloc));
         self.whole.push(last)?;
         self.whole.push(text)?;

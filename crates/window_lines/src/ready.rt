@@ -63,7 +63,7 @@ struct Ready<'a, 'l, 'p, P: Pool> {
     count: usize,
     /// The numbers of pieces, in the order in which they are taken up.
     order: &'a [usize],
-    /// The place in this order of the next piece that nobody answers yet.
+    /// The index in this order of the next piece that nobody answers yet.
     next: &'a AtomicUsize,
     ghost of_plan: { layout.now ≡ names_in schedule.now },
     ghost some: { 0 < size },
@@ -155,16 +155,16 @@ fn answer_in_threads<R: Threads + Sync, P: Pool>(
     } else {
         1
     };
-    let job = |place: usize, hand: &mut Hand<'_>|
+    let job = |number: usize, hand: &mut Hand<'_>|
         requires { IsSync P.row × (P.means ready.now.pool.now ≡ rows_by) × (hand.old.tools ≡ ready.now.schedule.now.lists) }
         ensures { (hand.new.tools ≡ ready.entry.now.schedule.now.lists) × HasAnswered (line_by ready.entry.now.schedule.now) ready.entry.now.first.now ready.entry.now.bytes.now hand.new }
-    { ready.answer(place, hand) };
+    { ready.answer(number, hand) };
     thread::for_each_mut(rt, hands, threads, &job);
 }
 
 impl<'a, 'l, 'p, P: Pool> Ready<'a, 'l, 'p, P> {
-    /// Answers pieces until none is left, by a part of the pool; the hand of place 0 answers the first line before.
-    fn answer(&self, place: usize, hand: &mut Hand<'_>)
+    /// Answers pieces until none is left, by a part of the pool; the hand of number 0 answers the first line before.
+    fn answer(&self, number: usize, hand: &mut Hand<'_>)
         requires as_found { P.means self.now.pool.now ≡ rows_by }
         requires tools { hand.old.tools ≡ self.now.schedule.now.lists }
         ensures tools { hand.new.tools ≡ self.now.schedule.now.lists }
@@ -172,7 +172,7 @@ impl<'a, 'l, 'p, P: Pool> Ready<'a, 'l, 'p, P> {
     {
         hand.clear();
         let mut pool = self.pool.part(self.alloc);
-        let first = if place == 0 {
+        let first = if number == 0 {
             self.answer_first(hand, &mut pool)
         } else {
             First::Unknown
@@ -213,11 +213,11 @@ impl<'a, 'l, 'p, P: Pool> Ready<'a, 'l, 'p, P> {
         ensures as_found { P.means pool.new ≡ P.means pool.old }
     {
         'pieces: for _ in 0..self.order.len() {
-            let place = self.next.fetch_add(1, Ordering::Relaxed);
-            if place >= self.order.len() {
+            let next = self.next.fetch_add(1, Ordering::Relaxed);
+            if next >= self.order.len() {
                 return;
             }
-            let n = self.order[place];
+            let n = self.order[next];
             if n >= self.count {
                 return;
             }
