@@ -1,5 +1,7 @@
 //! What is written for documents, and which lines are none.
-use crate::setup::{DIGIT, NO_MATCH, NO_NUMBERS, NUMBERS, Setup, comes_to, repeated, usual};
+use crate::setup::{
+    DIGIT, NO_MATCH, NO_NUMBERS, NUMBERS, Setup, are_written, comes_to, repeated, usual,
+};
 use std::alloc::Global;
 use std::test::Fail;
 
@@ -66,6 +68,14 @@ fn documents_are_written_in_order_with_their_matches(rt: HostRuntime) -> Result<
             (0, out.as_bytes(), ""),
             (corpus, 0),
         )?;
+    }
+    Ok(())
+}
+
+#[test]
+fn documents_are_written_in_order_by_each_number_of_workers(rt: HostRuntime) -> Result<(), Fail> {
+    for row in &DONE {
+        are_written(&rt, rt.alloc(), *row)?;
     }
     Ok(())
 }
@@ -151,19 +161,17 @@ const LIMIT: [(usize, u8, &str, &str); 2] = [
 fn a_line_of_the_limit_is_read_and_a_longer_one_is_not(rt: HostRuntime) -> Result<(), Fail> {
     for (letters, status, out, err) in &LIMIT {
         let line = line_of(rt.alloc(), *letters)?;
-        let setup = Setup {
-            corpus: line.as_slice(),
-            piece: 1 << 20,
-            ..usual(NUMBERS, "")
-        };
         let wanted = (*status, out.as_bytes(), *err);
-        comes_to(
-            &rt,
-            rt.alloc(),
-            &setup,
-            wanted,
-            ("letters", *letters as u64),
-        )?;
+        for workers in &["1", "4"] {
+            let words = ["run", "p.aql", "--workers", *workers];
+            let setup = Setup {
+                words: &words,
+                corpus: line.as_slice(),
+                piece: 1 << 20,
+                ..usual(NUMBERS, "")
+            };
+            comes_to(&rt, rt.alloc(), &setup, wanted, (workers, *letters as u64))?;
+        }
     }
     Ok(())
 }

@@ -1,9 +1,8 @@
 //! What programs of the whole language write: worked rows, each compared byte for byte.
-use crate::setup::{PERSONS, PERSONS_DOCUMENT, PERSONS_LINE, Setup, comes_to, usual};
-use std::alloc::Global;
-use std::process::Abort;
+use crate::setup::{
+    IN_A_WINDOW, PERSONS, PERSONS_DOCUMENT, PERSONS_LINE, are_written, is_written, padded,
+};
 use std::test::Fail;
-use std::thread::Threads;
 
 /// Each row: a program, a document, and the line that is written for it.
 const LANGUAGE: [(&str, &str, &str); 24] = [
@@ -149,57 +148,26 @@ const LANGUAGE: [(&str, &str, &str); 24] = [
     ),
 ];
 
-/// Each row: by how many workers a program is run, over how many bytes of its document's line at least, and in
-/// pieces of how many bytes these are read and what is written goes out. Of 17,000 bytes that are there at once
-/// more than one worker takes lines.
-const RUNS: [(&str, usize, usize); 4] = [
-    ("1", 1, 10),
-    ("1", 17_000, 65_536),
-    ("4", 17_000, 65_536),
-    ("16", 17_000, 65_536),
-];
-
-/// So many lines of this text.
-fn lines_of(alloc: Global, text: &str, count: usize) -> Result<String, Fail> {
-    let mut lines = String::new(alloc);
-    for _ in 0..count {
-        lines.push_str(text)?;
-        lines.push_str("\n")?;
-    }
-    Ok(lines)
-}
-
-/// Asserts what a run writes of a row's program over so many of its documents.
-fn is_written<R: Threads + Sync + Abort>(
-    rt: &R,
-    alloc: Global,
-    row: &(&str, &str, &str),
-    run: &(&str, usize, usize),
-) -> Result<(), Fail> {
-    let (program, document, line) = *row;
-    let (workers, bytes, piece) = *run;
-    let count = bytes.div_ceil(document.len().max(1));
-    let corpus = lines_of(alloc, document, count)?;
-    let out = lines_of(alloc, line, count)?;
-    let words = ["run", "p.aql", "--workers", workers];
-    let setup = Setup {
-        words: &words,
-        piece,
-        out_piece: piece,
-        ..usual(program, corpus.as_str())
-    };
-    let wanted = (0, out.as_bytes(), "");
-    comes_to(rt, alloc, &setup, wanted, (program, count as u64))
-}
-
 #[test]
 fn worked_rows_of_the_language_are_written_by_each_number_of_workers(
     rt: HostRuntime,
 ) -> Result<(), Fail> {
-    for row in &LANGUAGE {
-        for run in &RUNS {
-            is_written(&rt, rt.alloc(), row, run)?;
-        }
+    for (program, document, line) in &LANGUAGE {
+        let out = format!(in rt.alloc(); "{line}\n")?;
+        are_written(&rt, rt.alloc(), (program, document, out.as_str()))?;
+    }
+    Ok(())
+}
+
+#[test]
+fn worked_rows_of_the_language_are_written_of_documents_in_a_window(
+    rt: HostRuntime,
+) -> Result<(), Fail> {
+    for (program, document, line) in &LANGUAGE {
+        let padded = padded(rt.alloc(), document)?;
+        let out = format!(in rt.alloc(); "{line}\n")?;
+        let row = (*program, padded.as_str(), out.as_str());
+        is_written(&rt, rt.alloc(), row, &IN_A_WINDOW)?;
     }
     Ok(())
 }

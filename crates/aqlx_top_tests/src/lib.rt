@@ -1,6 +1,6 @@
 //! Tests of the top call, over files, sources and sinks in memory.
 //!
-//! It has no functions of its own: its tests call public items of `aqlx_top` and `aql_io` alone.
+//! It has no functions of its own: its tests call public items of `aqlx_top`, `aql_io` and `run_pool` alone.
 #![tactic(auto)]
 
 #[cfg(test)]
@@ -9,6 +9,8 @@ mod devices;
 mod documents;
 #[cfg(test)]
 mod language;
+#[cfg(test)]
+mod meeting;
 #[cfg(test)]
 mod modes;
 #[cfg(test)]

@@ -108,6 +108,64 @@ pub(crate) fn comes_by<R: Threads + Sync + Abort, P: Pool>(
     Ok(())
 }
 
+/// By how many workers a program is run, over how many bytes of lines at least, and in pieces of how many bytes these
+/// are read and what is written goes out.
+pub(crate) type Run = (&'static str, usize, usize);
+
+/// Of 17,000 bytes that are there at once more than one worker takes lines.
+const RUNS: [Run; 4] = [
+    ("1", 1, 10),
+    ("1", 17_000, 65_536),
+    ("4", 17_000, 65_536),
+    ("16", 17_000, 65_536),
+];
+
+/// Three large lines that are there at once are evaluated together.
+pub(crate) const IN_A_WINDOW: Run = ("4", 200_000, 1 << 20);
+
+/// Asserts what each run writes of a row: a program, lines, and what is written for these.
+pub(crate) fn are_written<R: Threads + Sync + Abort>(
+    rt: &R,
+    alloc: Global,
+    row: (&str, &str, &str),
+) -> Result<(), Fail> {
+    for run in &RUNS {
+        is_written(rt, alloc, row, run)?;
+    }
+    Ok(())
+}
+
+/// Asserts what one run writes of a row, whose lines stand in the corpus as often as it takes.
+pub(crate) fn is_written<R: Threads + Sync + Abort>(
+    rt: &R,
+    alloc: Global,
+    row: (&str, &str, &str),
+    run: &Run,
+) -> Result<(), Fail> {
+    let (program, lines, out) = row;
+    let (workers, bytes, piece) = *run;
+    let lines = format!(in alloc; "{lines}\n")?;
+    let count = bytes.div_ceil(lines.len().max(1));
+    let corpus = repeated(alloc, lines.as_str(), count)?;
+    let out = repeated(alloc, out, count)?;
+    let words = ["run", "p.aql", "--workers", workers];
+    let setup = Setup {
+        words: &words,
+        piece,
+        out_piece: piece,
+        ..usual(program, corpus.as_str())
+    };
+    let wanted = (0, out.as_bytes(), "");
+    comes_to(rt, alloc, &setup, wanted, (program, count as u64))
+}
+
+/// A document with 70,000 letters in a member that nobody reads.
+pub(crate) fn padded(alloc: Global, document: &str) -> Result<String, Fail> {
+    let letters = repeated(alloc, "x", 70_000)?;
+    let members = document.strip_prefix("{").unwrap_or("}");
+    Ok(format!(in alloc; "{{\"pad\":\"{letters}\",{members}")?)
+}
+
 /// A text so many times, one behind another.
 pub(crate) fn repeated(alloc: Global, part: &str, count: usize) -> Result<String, Fail> {
     let mut all = String::new(alloc);

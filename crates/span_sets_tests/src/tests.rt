@@ -444,3 +444,26 @@ fn blocks_are_runs_of_neighbours(rt: HostRuntime) -> Result<(), Fail> {
     }
     Ok(())
 }
+
+/// Fifty letters, each with a blank behind it.
+const LETTERS: &str =
+    "x x x x x x x x x x x x x x x x x x x x x x x x x x x x x x x x x x x x x x x x x x x x x x x x x x ";
+
+#[test]
+fn of_many_neighbours_each_run_of_two_or_three_is_a_block(rt: HostRuntime) -> Result<(), Fail> {
+    let alloc = rt.alloc();
+    let doc = Document::new(alloc, LETTERS, None)?;
+    let mut spans: Vec<Ends> = Vec::new(alloc);
+    let mut want: Vec<Ends> = Vec::new(alloc);
+    for i in 0..50 {
+        spans.push((2 * i, 2 * i + 1))?;
+        if i < 49 {
+            want.push((2 * i, 2 * i + 3))?;
+        }
+        if i < 48 {
+            want.push((2 * i, 2 * i + 5))?;
+        }
+    }
+    let asked = ((2, 3), (0, 1), false);
+    has_blocks(&rt, &doc, spans.as_slice(), asked, want.as_slice())
+}

@@ -118,6 +118,20 @@ fn every_number_of_workers_gives_the_same_pairs(rt: HostRuntime) -> Result<(), F
     Ok(expect_rows(&rt, rt.alloc(), &plan, &PAIRS)?)
 }
 
+#[test]
+fn each_document_of_a_full_window_has_its_rows(rt: HostRuntime) -> Result<(), Fail> {
+    let alloc = rt.alloc();
+    let plan = numbers(alloc)?;
+    let docs = documents(alloc, &["1 22"; 64])?;
+    for workers in [1u32, 4, 16] {
+        assert!(rt;
+            has_rows(&rt, alloc, &plan, docs.as_slice(), workers, &[2; 64])?,
+            "by {workers}"
+        );
+    }
+    Ok(())
+}
+
 /// Who claimed the item, on the board.
 fn claimed_by<'d>(
     finished: &Finished<'d>,
