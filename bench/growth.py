@@ -15,10 +15,11 @@ usage: bench/growth.py corpus [PROGRAM ..]      the time on 2, 20 and 200 MB of 
 
 All runs are with one worker; those of `memory` with as many as WORKERS says. Times are processor seconds, user and system, the best of all rounds, with the start in them; those
 of `start` are by the clock. Behind them stand exponents: of the power of the size by which the time of a corpus, or that of one
-document, grows from each size to the next. Ends with 1 where an exponent is above 1.05 (corpus) or 1.1 (document), or a start
-takes more than 5 ms (demonstration) or 30 ms (dictionary): `!` marks it. Memory for a document is taken once by a process and
-used again for the next, so with few documents (TEXT=20: two of 10 MB) its taking shows in the last exponent. Corpora stand in a
-folder of their own in TMPDIR while they are used, 500 MB at most.
+document, grows from each size to the next, and last from the least size to the greatest. `!` marks one above 1.05 (corpus) or 1.1
+(document), and a start of more than 5 ms (demonstration) or 30 ms (dictionary); ends with 1 where that is the last exponent of a
+program, or a start. Memory for a document is taken once by a process and used again for the next, so with few documents (TEXT=20:
+two of 10 MB) its taking shows in the exponents. Corpora stand in a folder of their own in TMPDIR while they are used, 500 MB at
+most.
 """
 import json
 import math
@@ -114,21 +115,21 @@ def times_of(name, corpora, work):
 
 
 def exponents(sizes, times):
-    """From each size to the next, the power of the size by which the time grows."""
-    steps = zip(sizes, sizes[1:], times, times[1:])
+    """From each size to the next, and last from the first to the last one, the power of the size by which the time grows."""
+    steps = [*zip(sizes, sizes[1:], times, times[1:]), (sizes[0], sizes[-1], times[0], times[-1])]
     return [math.log(late / early) / math.log(large / small) for small, large, early, late in steps]
 
 
 def print_times(names, sizes, corpora, most, whole, work):
     """Prints a line for each program: its times, and the exponents of the time of `whole` bytes, or of one document of each size."""
-    print(f"{'program':<17}" + "".join(f" {named(size) + ' ms':>11}" for size in sizes) + "   exponents")
+    print(f"{'program':<17}" + "".join(f" {named(size) + ' ms':>11}" for size in sizes) + "   exponents, from step to step and over all")
     fine = True
     for name in names:
         times = times_of(name, corpora, work)
         grown = exponents(sizes, times if whole is None else [seconds * size / whole for seconds, size in zip(times, sizes)])
         marked = "".join(f" {power:>7.3f}{'!' if power > most else ' '}" for power in grown)
         print(f"{name:<17}" + "".join(f" {seconds * 1000:>11.1f}" for seconds in times) + f"  {marked}", flush=True)
-        fine = fine and all(power <= most for power in grown)
+        fine = fine and grown[-1] <= most
     return fine
 
 
