@@ -1,6 +1,7 @@
 //! Tests of the top call, over files, sources and sinks in memory.
 //!
-//! It has no functions of its own: its tests call public items of `aqlx_top`, `aql_io` and `run_pool` alone.
+//! It has no functions of its own: its tests call public items of `aqlx_top`, `aql_io` and `run_pool` alone. The
+//! other crates that it stands on have the types of a pool's method.
 #![tactic(auto)]
 
 #[cfg(test)]
