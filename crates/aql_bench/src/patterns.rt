@@ -1,7 +1,7 @@
 //! Patterns with a kept searcher.
 
 use crate::bench::Bench;
-use aql_regex_extract::{Searcher, WholeSearcher};
+use aql_regex_extract::{Searcher, Sought, SoughtRuns, WholeSearcher};
 use span_token::{Document, OutOfMemory, Span};
 
 /// The successive matches of a pattern in each document.
@@ -17,8 +17,12 @@ impl Bench for Matches<'_, '_> {
         let mut count = 0u64;
         for doc in self.docs {
             self.found.clear();
-            self.searcher
-                .append_matches(doc, doc.whole(), &[0], &mut self.found)?;
+            let sought = Sought {
+                doc,
+                source: doc.whole(),
+                groups: &[0],
+            };
+            self.searcher.append_matches(&sought, &mut self.found)?;
             count = count.wrapping_add(self.found.len() as u64);
         }
         Ok(count)
@@ -38,8 +42,14 @@ impl Bench for Runs<'_, '_> {
         let mut count = 0u64;
         for doc in self.docs {
             self.found.clear();
-            self.searcher
-                .append_token_runs(doc, doc.whole(), 1, 4, &[0], &mut self.found)?;
+            let sought = SoughtRuns {
+                doc,
+                source: doc.whole(),
+                low: 1,
+                high: 4,
+                groups: &[0],
+            };
+            self.searcher.append_token_runs(&sought, &mut self.found)?;
             count = count.wrapping_add(self.found.len() as u64);
         }
         Ok(count)

@@ -8,6 +8,7 @@ ghost use Rattle.aql_regex_extract.specs.TokenRuns.{run_rows, AreRunRows};
 use crate::cut::cut;
 use crate::pattern::Pattern;
 use crate::searcher::Searcher;
+use crate::sought::{Sought, SoughtRuns};
 use crate::whole::WholeSearcher;
 use span_token::{Document, OutOfMemory, Span};
 use std::alloc::Global;
@@ -34,7 +35,12 @@ pub fn find_all(
 {
     let mut searcher = Searcher::new(alloc, p)?;
     let mut flat = Vec::new(alloc);
-    let number = searcher.append_matches(doc, source, groups, &mut flat)?;
+    let sought = Sought {
+        doc,
+        source,
+        groups,
+    };
+    let number = searcher.append_matches(&sought, &mut flat)?;
     cut(alloc, flat.as_slice(), number, groups.len())
 }
 
@@ -67,7 +73,14 @@ pub fn find_token_runs(
 {
     let mut searcher = WholeSearcher::new(alloc, p)?;
     let mut flat = Vec::new(alloc);
-    let number = searcher.append_token_runs(doc, source, low, high, groups, &mut flat)?;
+    let sought = SoughtRuns {
+        doc,
+        source,
+        low,
+        high,
+        groups,
+    };
+    let number = searcher.append_token_runs(&sought, &mut flat)?;
     cut(alloc, flat.as_slice(), number, groups.len())
 }
 

@@ -27,4 +27,5 @@ mod whole_matcher;
 pub use find::{find_all, find_token_runs, has_match, matches_whole};
 pub use pattern::{Pattern, PatternFault, compile_pattern};
 pub use searcher::Searcher;
+pub use sought::{Sought, SoughtRuns};
 pub use whole::WholeSearcher;

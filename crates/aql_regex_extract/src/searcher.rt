@@ -7,7 +7,7 @@ use crate::pattern::Pattern;
 use crate::search::{has_found, push_found};
 use crate::sought::Sought;
 use regex::Matcher;
-use span_token::{Document, OutOfMemory, Span};
+use span_token::{OutOfMemory, Span};
 use std::alloc::Global;
 use std::marker::Model;
 
@@ -42,8 +42,8 @@ impl<'p> Searcher<'p> {
         Ok(Searcher { pattern, matcher })
     }
 
-    /// All successive matches in the text of `source`, put after what `into` holds: for each match, in
-    /// order, one entry for each number in `groups`, None for a group that takes no part. Gives the
+    /// All successive matches in the text of the source, put after what `into` holds: for each match, in
+    /// order, one entry for each group that is asked for, None for a group that takes no part. Gives the
     /// number of matches.
     ///
     /// After want of memory no clause says what `into` holds.
@@ -51,27 +51,20 @@ impl<'p> Searcher<'p> {
     /// Meaning: `match_rows`, `specs/Matches.antt`.
     pub fn append_matches(
         &mut self,
-        doc: &Document<'_>,
-        source: Span,
-        groups: &[u32],
+        sought: &Sought<'_, '_>,
         into: &mut Vec<Option<Span>>,
     ) -> Result<usize, OutOfMemory>
-        requires in_document { LiesIn (extent_of source) doc.now }
-        ensures rows { IfOk result (PutsRows (match_rows self.old doc.now (extent_of source) groups.now)
+        requires in_document { LiesIn (extent_of sought.now.source) sought.now.doc.now }
+        ensures rows { IfOk result (PutsRows (match_rows self.old sought.now.doc.now (extent_of sought.now.source) sought.now.groups.now)
             (extents_of into.old.items) (extents_of into.new.items)) }
         ensures matches { OnOk result (extents_of into.new.items ≡ extents_of into.old.items
-            ++ flat_rows self.old doc.now (extent_of source) groups.now) }
-        ensures within { All (IsInside (extent_of source)) into.old.items
-            → OnOk result (All (IsInside (extent_of source)) into.new.items) }
+            ++ flat_rows self.old sought.now.doc.now (extent_of sought.now.source) sought.now.groups.now) }
+        ensures within { All (IsInside (extent_of sought.now.source)) into.old.items
+            → OnOk result (All (IsInside (extent_of sought.now.source)) into.new.items) }
         ensures same { self.new ≡ self.old }
     {
-        let text = doc.text_of(source);
-        let sought = Sought {
-            doc,
-            source,
-            groups,
-        };
-        push_found(&mut self.matcher, &sought, text, into)
+        let text = sought.doc.text_of(sought.source);
+        push_found(&mut self.matcher, sought, text, into)
     }
 
     /// Whether the pattern matches somewhere in `text`.

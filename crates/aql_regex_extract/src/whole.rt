@@ -6,9 +6,10 @@ ghost use Rattle.aql_regex_extract.specs.Patterns.{whole_form};
 ghost use Rattle.aql_regex_extract.specs.TokenRuns.{AreRunRows, run_rows};
 
 use crate::pattern::Pattern;
-use crate::runs::push_runs;
+use crate::runs::{AskedRuns, push_runs};
+use crate::sought::SoughtRuns;
 use crate::whole_matcher::WholeMatcher;
-use span_token::{Document, OutOfMemory, SourceTokens, Span};
+use span_token::{OutOfMemory, SourceTokens, Span};
 use std::alloc::Global;
 use std::marker::Model;
 
@@ -44,38 +45,40 @@ impl<'p> WholeSearcher<'p> {
         })
     }
 
-    /// The token-bounded matches in `source`, put after what `into` holds: for each token wholly in
-    /// `source` that has a run, in order, one entry for each number in `groups`, as `find_token_runs`
-    /// gives them. Gives the number of runs.
+    /// The token-bounded matches in the source, put after what `into` holds: for each token wholly in
+    /// the source that has a run, in order, one entry for each group that is asked for, as
+    /// `find_token_runs` gives them. Gives the number of runs.
     ///
     /// After want of memory no clause says what `into` holds.
     ///
     /// Meaning: `AreRunRows`, `specs/TokenRuns.antt`; just one list of rows has it, `run_rows`.
     pub fn append_token_runs(
         &mut self,
-        doc: &Document<'_>,
-        source: Span,
-        low: u32,
-        high: u32,
-        groups: &[u32],
+        sought: &SoughtRuns<'_, '_>,
         into: &mut Vec<Option<Span>>,
     ) -> Result<usize, OutOfMemory>
-        requires in_document { LiesIn (extent_of source) doc.now }
-        requires at_least_one { 1 ≤ low }
-        ensures runs { IfOk result (PutsRows (run_rows self.old doc.now (extent_of source) low high groups.now)
+        requires in_document { LiesIn (extent_of sought.now.source) sought.now.doc.now }
+        requires at_least_one { 1 ≤ sought.now.low }
+        ensures runs { IfOk result (PutsRows (run_rows self.old sought.now.doc.now (extent_of sought.now.source) sought.now.low sought.now.high sought.now.groups.now)
             (extents_of into.old.items) (extents_of into.new.items)) }
         ensures longest { IfOk result (λ number. (rows : List (List (Option Extent)))
-            × AreRunRows self.old doc.now (extent_of source) low high groups.now rows
+            × AreRunRows self.old sought.now.doc.now (extent_of sought.now.source) sought.now.low sought.now.high sought.now.groups.now rows
             × PutsRows rows (extents_of into.old.items) (extents_of into.new.items) number) }
         ensures unique { (rows : List (List (Option Extent)))
-            → AreRunRows self.old doc.now (extent_of source) low high groups.now rows
+            → AreRunRows self.old sought.now.doc.now (extent_of sought.now.source) sought.now.low sought.now.high sought.now.groups.now rows
             → IfOk result (PutsRows rows (extents_of into.old.items) (extents_of into.new.items)) }
-        ensures within { All (IsInside (extent_of source)) into.old.items
-            → OnOk result (All (IsInside (extent_of source)) into.new.items) }
+        ensures within { All (IsInside (extent_of sought.now.source)) into.old.items
+            → OnOk result (All (IsInside (extent_of sought.now.source)) into.new.items) }
         ensures same { self.new ≡ self.old }
     {
-        let tokens = SourceTokens::of(doc, source);
-        let number = push_runs(&mut self.whole, &tokens, low, high, groups, into)?;
+        let tokens = SourceTokens::of(sought.doc, sought.source);
+        let asked = AskedRuns {
+            tokens: &tokens,
+            low: sought.low,
+            high: sought.high,
+            groups: sought.groups,
+        };
+        let number = push_runs(&mut self.whole, &asked, into)?;
         Ok(number)
     }
 

@@ -2,8 +2,8 @@ ghost use Rattle.span_token.specs.Documents.{LiesIn};
 ghost use Rattle.span_token.specs.Extents.{extent_of};
 
 use aql_regex_extract::{
-    Pattern, PatternFault, Searcher, WholeSearcher, compile_pattern, find_all, find_token_runs,
-    has_match, matches_whole,
+    Pattern, PatternFault, Searcher, Sought, SoughtRuns, WholeSearcher, compile_pattern, find_all,
+    find_token_runs, has_match, matches_whole,
 };
 use span_token::{Document, Failure, Span, TEXT_LIMIT};
 use std::alloc::Global;
@@ -81,7 +81,12 @@ fn puts_rows(
     requires { LiesIn (extent_of source) doc.now }
 {
     let mut flat = Vec::new(alloc);
-    let number = searcher.append_matches(doc, source, groups, &mut flat)?;
+    let sought = Sought {
+        doc,
+        source,
+        groups,
+    };
+    let number = searcher.append_matches(&sought, &mut flat)?;
     Ok(number == want.len() && are_put(&flat, want))
 }
 
@@ -160,7 +165,14 @@ fn puts_run_rows(
     let source = Span { begin, end };
     let mut searcher = WholeSearcher::new(alloc, pattern)?;
     let mut flat = Vec::new(alloc);
-    let number = searcher.append_token_runs(doc, source, low, high, groups, &mut flat)?;
+    let sought = SoughtRuns {
+        doc,
+        source,
+        low,
+        high,
+        groups,
+    };
+    let number = searcher.append_token_runs(&sought, &mut flat)?;
     Ok(number == want.len() && are_put(&flat, want))
 }
 
@@ -519,17 +531,23 @@ fn search_in_threads<R: Threads + Sync>(rt: &R, doc: &Document<'_>, workers: &mu
         2,
         &|_, worker: &mut Worker<'_>| {
             worker.found.clear();
-            let all = doc.whole();
-            if let Ok(number) = worker
-                .searcher
-                .append_matches(doc, all, &[0], &mut worker.found)
-            {
+            let source = doc.whole();
+            let all = Sought {
+                doc,
+                source,
+                groups: &[0],
+            };
+            if let Ok(number) = worker.searcher.append_matches(&all, &mut worker.found) {
                 worker.matches = number;
             }
-            if let Ok(number) = worker
-                .whole
-                .append_token_runs(doc, all, 1, 2, &[0], &mut worker.found)
-            {
+            let runs = SoughtRuns {
+                doc,
+                source,
+                low: 1,
+                high: 2,
+                groups: &[0],
+            };
+            if let Ok(number) = worker.whole.append_token_runs(&runs, &mut worker.found) {
                 worker.runs = number;
             }
         },

@@ -11,6 +11,7 @@ ghost use Rattle.aql_typed.specs.Fitting.{found_width};
 ghost use Rattle.aql_typed.specs.Meaning.{found_in};
 ghost use Rattle.row_operators.specs.Searches.{extraction_for, HasRuns, IsFoundIn};
 
+use aql_regex_extract::{Sought, SoughtRuns};
 use row_values::Row;
 use scalar_ops::Tools;
 use span_token::{Document, OutOfMemory, Span};
@@ -137,7 +138,12 @@ fn find_matches(
 {
     match source {
         Some(source) => {
-            let number = tools.append_matches(pattern, doc, source, groups, found)?;
+            let sought = Sought {
+                doc,
+                source,
+                groups,
+            };
+            let number = tools.append_matches(pattern, &sought, found)?;
             Ok(number)
         }
         None => Ok(0),
@@ -165,7 +171,14 @@ fn find_runs(
 {
     match source {
         Some(source) => {
-            let number = tools.append_token_runs(pattern, doc, source, low, high, groups, found)?;
+            let sought = SoughtRuns {
+                doc,
+                source,
+                low,
+                high,
+                groups,
+            };
+            let number = tools.append_token_runs(pattern, &sought, found)?;
             Ok(number)
         }
         None => Ok(0),

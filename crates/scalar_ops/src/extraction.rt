@@ -9,29 +9,29 @@ ghost use Rattle.dict_match.specs.Rows.{dict_and_extent, extents_for};
 ghost use Rattle.scalar_ops.specs.Extractions.{of_pattern, of_dict};
 
 use crate::Tools;
-use aql_regex_extract::{Pattern, Searcher, WholeSearcher};
+use aql_regex_extract::{Pattern, Searcher, Sought, SoughtRuns, WholeSearcher};
 use dict_match::DictMatch;
 use span_token::{Document, OutOfMemory, Span};
 use std::alloc::Global;
 
 impl<'t> Tools<'t> {
-    /// The successive matches of the pattern with that number in `source`, put after what `into` holds:
-    /// for each match one entry for each number in `groups`, None for a group that takes no part. Gives
-    /// the number of matches. A pattern that isn't there has none.
+    /// The successive matches of the pattern with that number in the source, put after what `into` holds:
+    /// for each match one entry for each group that is asked for, None for a group that takes no part.
+    /// Gives the number of matches. A pattern that isn't there has none.
     ///
     /// After want of memory no clause says what `into` holds.
     pub fn append_matches(
         &mut self,
         pattern: u32,
-        doc: &Document<'_>,
-        source: Span,
-        groups: &[u32],
+        sought: &Sought<'_, '_>,
         into: &mut Vec<Option<Span>>,
     ) -> Result<usize, OutOfMemory>
-        requires in_document { LiesIn (extent_of source) doc.now }
-        ensures rows { IfOk result (PutsRows (of_pattern self.old pattern (λ p. match_rows p doc.now (extent_of source) groups.now))
+        requires in_document { LiesIn (extent_of sought.now.source) sought.now.doc.now }
+        ensures rows { IfOk result (PutsRows
+            (of_pattern self.old pattern (λ p. match_rows p sought.now.doc.now (extent_of sought.now.source) sought.now.groups.now))
             (extents_of into.old.items) (extents_of into.new.items)) }
-        ensures within { All (IsInside (extent_of source)) into.old.items → OnOk result (All (IsInside (extent_of source)) into.new.items) }
+        ensures within { All (IsInside (extent_of sought.now.source)) into.old.items
+            → OnOk result (All (IsInside (extent_of sought.now.source)) into.new.items) }
         ensures same { self.new ≡ self.old }
     {
         let index = pattern as usize;
@@ -39,32 +39,30 @@ impl<'t> Tools<'t> {
         match tables.patterns.get(index) {
             Some(pattern) => {
                 let kept = &mut self.plain[index];
-                append_found(self.alloc, kept, pattern, doc, source, groups, into)
+                append_found(self.alloc, kept, pattern, sought, into)
             }
             None => Ok(0),
         }
     }
 
-    /// The token-bounded matches of the pattern with that number in `source`, put after what `into`
-    /// holds: for each token that has a run of `low` to `high` tokens one entry for each number in
-    /// `groups`. Gives the number of runs. A pattern that isn't there has none.
+    /// The token-bounded matches of the pattern with that number in the source, put after what `into`
+    /// holds: for each token that has a run of the asked lengths one entry for each group that is asked
+    /// for. Gives the number of runs. A pattern that isn't there has none.
     ///
     /// After want of memory no clause says what `into` holds.
     pub fn append_token_runs(
         &mut self,
         pattern: u32,
-        doc: &Document<'_>,
-        source: Span,
-        low: u32,
-        high: u32,
-        groups: &[u32],
+        sought: &SoughtRuns<'_, '_>,
         into: &mut Vec<Option<Span>>,
     ) -> Result<usize, OutOfMemory>
-        requires in_document { LiesIn (extent_of source) doc.now }
-        requires at_least_one { 1 ≤ low }
-        ensures rows { IfOk result (PutsRows (of_pattern self.old pattern (λ p. run_rows p doc.now (extent_of source) low high groups.now))
+        requires in_document { LiesIn (extent_of sought.now.source) sought.now.doc.now }
+        requires at_least_one { 1 ≤ sought.now.low }
+        ensures rows { IfOk result (PutsRows
+            (of_pattern self.old pattern (λ p. run_rows p sought.now.doc.now (extent_of sought.now.source) sought.now.low sought.now.high sought.now.groups.now))
             (extents_of into.old.items) (extents_of into.new.items)) }
-        ensures within { All (IsInside (extent_of source)) into.old.items → OnOk result (All (IsInside (extent_of source)) into.new.items) }
+        ensures within { All (IsInside (extent_of sought.now.source)) into.old.items
+            → OnOk result (All (IsInside (extent_of sought.now.source)) into.new.items) }
         ensures same { self.new ≡ self.old }
     {
         let index = pattern as usize;
@@ -72,9 +70,7 @@ impl<'t> Tools<'t> {
         match tables.patterns.get(index) {
             Some(pattern) => {
                 let kept = &mut self.whole[index];
-                append_runs(
-                    self.alloc, kept, pattern, doc, source, low, high, groups, into,
-                )
+                append_runs(self.alloc, kept, pattern, sought, into)
             }
             None => Ok(0),
         }
@@ -134,22 +130,22 @@ fn append_found<'t>(
     alloc: Global,
     kept: &mut Option<Searcher<'t>>,
     pattern: &'t Pattern,
-    doc: &Document<'_>,
-    source: Span,
-    groups: &[u32],
+    sought: &Sought<'_, '_>,
     into: &mut Vec<Option<Span>>,
 ) -> Result<usize, OutOfMemory>
     requires made { IfSome kept.old (λ searcher. searcher ≡ pattern.now) }
-    requires in_document { LiesIn (extent_of source) doc.now }
-    ensures rows { IfOk result (PutsRows (match_rows pattern.now doc.now (extent_of source) groups.now) (extents_of into.old.items) (extents_of into.new.items)) }
-    ensures within { All (IsInside (extent_of source)) into.old.items → OnOk result (All (IsInside (extent_of source)) into.new.items) }
+    requires in_document { LiesIn (extent_of sought.now.source) sought.now.doc.now }
+    ensures rows { IfOk result (PutsRows (match_rows pattern.now sought.now.doc.now (extent_of sought.now.source) sought.now.groups.now)
+        (extents_of into.old.items) (extents_of into.new.items)) }
+    ensures within { All (IsInside (extent_of sought.now.source)) into.old.items
+        → OnOk result (All (IsInside (extent_of sought.now.source)) into.new.items) }
     ensures made { IfSome kept.new (λ searcher. searcher ≡ pattern.now) }
 {
     if kept.is_none() {
         *kept = Some(Searcher::new(alloc, pattern)?);
     }
     match kept {
-        Some(searcher) => searcher.append_matches(doc, source, groups, into),
+        Some(searcher) => searcher.append_matches(sought, into),
         None => unreachable!(),
     }
 }
@@ -160,25 +156,24 @@ fn append_runs<'t>(
     alloc: Global,
     kept: &mut Option<WholeSearcher<'t>>,
     pattern: &'t Pattern,
-    doc: &Document<'_>,
-    source: Span,
-    low: u32,
-    high: u32,
-    groups: &[u32],
+    sought: &SoughtRuns<'_, '_>,
     into: &mut Vec<Option<Span>>,
 ) -> Result<usize, OutOfMemory>
     requires made { IfSome kept.old (λ searcher. searcher ≡ pattern.now) }
-    requires in_document { LiesIn (extent_of source) doc.now }
-    requires at_least_one { 1 ≤ low }
-    ensures rows { IfOk result (PutsRows (run_rows pattern.now doc.now (extent_of source) low high groups.now) (extents_of into.old.items) (extents_of into.new.items)) }
-    ensures within { All (IsInside (extent_of source)) into.old.items → OnOk result (All (IsInside (extent_of source)) into.new.items) }
+    requires in_document { LiesIn (extent_of sought.now.source) sought.now.doc.now }
+    requires at_least_one { 1 ≤ sought.now.low }
+    ensures rows { IfOk result (PutsRows
+        (run_rows pattern.now sought.now.doc.now (extent_of sought.now.source) sought.now.low sought.now.high sought.now.groups.now)
+        (extents_of into.old.items) (extents_of into.new.items)) }
+    ensures within { All (IsInside (extent_of sought.now.source)) into.old.items
+        → OnOk result (All (IsInside (extent_of sought.now.source)) into.new.items) }
     ensures made { IfSome kept.new (λ searcher. searcher ≡ pattern.now) }
 {
     if kept.is_none() {
         *kept = Some(WholeSearcher::new(alloc, pattern)?);
     }
     match kept {
-        Some(searcher) => searcher.append_token_runs(doc, source, low, high, groups, into),
+        Some(searcher) => searcher.append_token_runs(sought, into),
         None => unreachable!(),
     }
 }

@@ -19,12 +19,12 @@ none_there (Some m) h = absurd (true≢false h)
 
 pub returns-then-not-has_match-clause-row : goal.returns-then-not-has_match-clause-row
 returns-then-not-has_match-clause-row c = λ pattern whole.
-    let doc = c.args.tokens.now.doc in
-    let run = run_extent c.args.tokens.now.tokens c.args.first c.args.last in
+    let doc = c.args.asked.now.tokens.now.doc in
+    let run = run_extent c.args.asked.now.tokens.now.tokens c.args.first c.args.last in
     let none : first_match (whole_form pattern) c.args.text.now ≡ None =
     none_there _ (sym (c.has_match.ensures.found pattern whole) ∙ c.if-not-has_match.true) in
-    let row : whole_row pattern doc c.args.groups.now run ≡ None =
-    ap (option_map (row_of doc run c.args.groups.now)) (ap (first_match (whole_form pattern)) (sym c.requires.in_run) ∙ none) in (
+    let row : whole_row pattern doc c.args.asked.now.groups.now run ≡ None =
+    ap (option_map (row_of doc run c.args.asked.now.groups.now)) (ap (first_match (whole_form pattern)) (sym c.requires.in_run) ∙ none) in (
       sym (ap is_some row),
       sym (append-nil _) ∙ ap (λ r. extents_of c.args.into.now.items ++ r) (sym (ap (λ o. unwrap_or o []) row)),
     )
@@ -39,12 +39,12 @@ push_from-requires c = record {
 
 pub returns-in-None-clause-row : goal.returns-in-None-clause-row
 returns-in-None-clause-row c = λ pattern whole.
-    let doc = c.args.tokens.now.doc in
-    let run = run_extent c.args.tokens.now.tokens c.args.first c.args.last in
+    let doc = c.args.asked.now.tokens.now.doc in
+    let run = run_extent c.args.asked.now.tokens.now.tokens c.args.first c.args.last in
     let pushes = rw c.in-None.is at c.in_ok-push_from.ensures.found in
     let kept = (FindsWhole-same _ _ pattern c.has_match.ensures.same whole).finds in
-    let row : whole_row pattern doc c.args.groups.now run ≡ None =
-    whole_row-None (matcher_pattern c.has_match.new.self.matcher) pattern c.args.text.now doc run c.args.groups.now kept
+    let row : whole_row pattern doc c.args.asked.now.groups.now run ≡ None =
+    whole_row-None (matcher_pattern c.has_match.new.self.matcher) pattern c.args.text.now doc run c.args.asked.now.groups.now kept
     (λ (k : ℕ). (c.type_inv.text k).fits) c.requires.in_run pushes.0 in (
       sym (ap is_some row),
       pushes.1 ∙ sym (append-nil _) ∙ ap (λ r. extents_of c.args.into.now.items ++ r) (sym (ap (λ o. unwrap_or o []) row)),
@@ -54,7 +54,7 @@ pub returns-in-Some-clause-row : goal.returns-in-Some-clause-row
 returns-in-Some-clause-row c = λ pattern whole.
     let pushes = rw c.in-Some.is at c.in_ok-push_from.ensures.found in
     let doc = c.doc-doc.result.now in
-    let groups = c.args.groups.now in
+    let groups = c.args.asked.now.groups.now in
     let source = extent_of c.run-source.result in
     let kept = (FindsWhole-same _ _ pattern c.has_match.ensures.same whole).finds in
     let row : whole_row pattern doc groups source ≡ _ =

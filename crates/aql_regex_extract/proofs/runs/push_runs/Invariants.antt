@@ -12,9 +12,9 @@ invariant-loop-first l = record {
   same : IsSameWhole l.initial.whole l.whole;
   rows : (pattern : List ℕ) → FindsWhole l.initial.whole pattern →
       extents_of l.into.items ≡ extents_of l.initial.into.items
-      ++ flat_map (λ row. row) (filter_map (run_row pattern l.tokens.doc l.tokens.tokens l.low l.high l.groups) (range_with_len 0 l.first));
+      ++ flat_map (λ row. row) (filter_map (run_row pattern l.asked.tokens.now.doc l.asked.tokens.now.tokens l.asked.low l.asked.high l.asked.groups.now) (range_with_len 0 l.first));
   number : (pattern : List ℕ) → FindsWhole l.initial.whole pattern →
-      l.number ≡ length (filter_map (run_row pattern l.tokens.doc l.tokens.tokens l.low l.high l.groups) (range_with_len 0 l.first));
+      l.number ≡ length (filter_map (run_row pattern l.asked.tokens.now.doc l.asked.tokens.now.tokens l.asked.low l.asked.high l.asked.groups.now) (range_with_len 0 l.first));
   few : l.number ≤ l.first;
-  within : (wide : Extent) → HoldsTokens wide l.tokens.tokens → All (IsInside wide) l.initial.into.items → All (IsInside wide) l.into.items;
+  within : (wide : Extent) → HoldsTokens wide l.asked.tokens.now.tokens → All (IsInside wide) l.initial.into.items → All (IsInside wide) l.into.items;
 }

@@ -21,11 +21,11 @@ rows_by-source pattern low high groups d doc tokens source same are = ap₂ (row
 pub returns-clause-runs : goal.returns-clause-runs
 returns-clause-runs c =
     let pattern = c.self.inside.pattern.now in
-    let source = extent_of c.args.source in
+    let source = extent_of c.args.sought.now.source in
     let finds = c.self.invariant in
-    let are = rows_by-source pattern c.args.low c.args.high c.args.groups.now c.of-tokens.result.doc c.args.doc.now c.of-tokens.result.tokens source
+    let are = rows_by-source pattern c.args.sought.now.low c.args.sought.now.high c.args.sought.now.groups.now c.of-tokens.result.doc c.args.sought.now.doc.now c.of-tokens.result.tokens source
     c.of-tokens.ensures.doc c.of-tokens.ensures.tokens in
-    let rows = are ∙ ap (λ (p : List ℕ). run_rows p c.args.doc.now source c.args.low c.args.high c.args.groups.now) c.self.view_is in (
+    let rows = are ∙ ap (λ (p : List ℕ). run_rows p c.args.sought.now.doc.now source c.args.sought.now.low c.args.sought.now.high c.args.sought.now.groups.now) c.self.view_is in (
       c.in_ok-number.ensures.number pattern finds ∙ ap length rows,
       c.in_ok-number.ensures.runs pattern finds
           ∙ ap (λ (rs : List (List (Option Extent))). extents_of c.args.into.now.items ++ flat_map (λ r. r) rs) rows,
@@ -33,14 +33,14 @@ returns-clause-runs c =
 
 pub returns-clause-longest : goal.returns-clause-longest
 returns-clause-longest c =
-    let source = extent_of c.args.source in (
-      run_rows c.args.self.now c.args.doc.now source c.args.low c.args.high c.args.groups.now,
-      run_rows-are c.args.self.now c.args.doc.now source c.args.low c.args.high c.args.groups.now,
+    let source = extent_of c.args.sought.now.source in (
+      run_rows c.args.self.now c.args.sought.now.doc.now source c.args.sought.now.low c.args.sought.now.high c.args.sought.now.groups.now,
+      run_rows-are c.args.self.now c.args.sought.now.doc.now source c.args.sought.now.low c.args.sought.now.high c.args.sought.now.groups.now,
       returns-clause-runs c,
     )
 
 pub returns-clause-unique : goal.returns-clause-unique
 returns-clause-unique c = λ rows are.
-    let source = extent_of c.args.source in
+    let source = extent_of c.args.sought.now.source in
     subst (λ (rs : List (List (Option Extent))). PutsRows rs (extents_of c.args.into.now.items) (extents_of c.push_runs.new.into.items) c.in_ok-number.number)
-    (sym (run_rows-only c.args.self.now c.args.doc.now source c.args.low c.args.high c.args.groups.now rows are)) (returns-clause-runs c)
+    (sym (run_rows-only c.args.self.now c.args.sought.now.doc.now source c.args.sought.now.low c.args.sought.now.high c.args.sought.now.groups.now rows are)) (returns-clause-runs c)
