@@ -20,7 +20,8 @@ use Rattle.aql_parser.specs.Readers.{Left, Gives}
 use Rattle.aql_parser.specs.Reading.Statements.{read_statement}
 use Rattle.aql_parser.specs.Faults.{kinds_in, MayFollow, HasTree, HaveTrees, IsSyntaxFault, IsDecided, IsFaultOf}
 use Rattle.aql_parser.specs.declared.parsing.SyntaxFault.{SyntaxFault}
-use Rattle.aql_parser.specs.Runs.{IsFirstRun, may_follow, IsKept, IsNamed, IsTree, IsTreeOf}
+use Rattle.aql_parser.specs.Runs.{IsFirstRun, IsTree, IsTreeOf}
+use Rattle.aql_parser.specs.Keeping.{may_follow, IsKept, IsNamed}
 use Rattle.aql_parser.proofs.Rules.{none_some, some_parts}
 use Rattle.aql_parser.proofs.StatementRules.{placed_whole, reads_statement}
 

@@ -7,3 +7,4 @@ pub mod Nesting
 -- programs with trees and programs without
 pub mod Faults
 pub mod Runs
+pub mod Keeping

@@ -48,13 +48,17 @@ pub fn measure(toks: &[Tok]) -> Sizes
 }
 
 /// The first statement's tokens: how many they are, and how deep their parentheses nest.
-#[derive(Clone, Copy)]
+#[derive(Clone, Copy, Debug, PartialEq, Eq)]
 pub struct Run {
     pub len: usize,
     pub nesting: u32,
 }
 
-/// The tokens up to and with the first `;`, or all.
+/// The first statement's tokens: those up to and with the first `;`, or all.
+///
+/// Takes no memory. `parse_statement` takes a statement that nests no deeper than `MAX_NESTING`, 64.
+///
+/// Meaning: `IsFirstRun` and `IsLeastDepth`, `specs/Runs.antt`.
 pub fn first_run(toks: &[Tok]) -> Run
     requires some { 0 < length toks.now }
     requires few { length toks.now < 2 ^ 32 }

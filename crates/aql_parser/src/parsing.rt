@@ -11,7 +11,8 @@ ghost use Rattle.aql_syntax.specs.Programs.{AreTokensOf, placed_in};
 ghost use Rattle.aql_syntax.specs.Shapes.{IsFormed};
 ghost use Rattle.aql_parser.specs.Nesting.{NestsWithin, IsWithin, nesting_limit};
 ghost use Rattle.aql_parser.specs.Faults.{IsFaultOf, IsDecided};
-ghost use Rattle.aql_parser.specs.Runs.{IsTreeOf, IsKept, IsNamed, is_module, may_follow};
+ghost use Rattle.aql_parser.specs.Runs.{IsTreeOf};
+ghost use Rattle.aql_parser.specs.Keeping.{IsKept, IsNamed, is_module, may_follow};
 
 use crate::cursor::{Cursor, NoTree, Refused};
 use crate::measuring::{MAX_NESTING, first_run};
@@ -64,7 +65,7 @@ pub fn parse(alloc: Global, toks: &[Tok]) -> Result<Vec<Statement>, Failure<Synt
     while let [first, ..] = rest {
         let at = toks.len() - rest.len();
         let len = first_run(rest).len;
-        let tree = match whole(alloc, &rest[..len], at as u32, trees.len()) {
+        let tree = match parse_statement(alloc, &rest[..len], at as u32, trees.len()) {
             Ok(tree) => tree,
             Err(refused) => return Err(named(refused, trees.len() as u32 + 1, first.line)),
         };
@@ -75,7 +76,21 @@ pub fn parse(alloc: Global, toks: &[Tok]) -> Result<Vec<Statement>, Failure<Synt
 }
 
 /// The statement whose tokens are all of `run`, where `before` statements stand before it.
-fn whole(alloc: Global, run: &[Tok], at: u32, before: usize) -> Result<Statement, Refused>
+///
+/// `at` is the number, from 0, of the run's first token in its program, so that each `at` in the tree
+/// is a token's number there. `first_run` tells how many tokens are a statement's; whoever has
+/// statements of further kinds passes over their tokens by it and hands the others over one by one.
+///
+/// `NoTree` comes exactly where no statement has these tokens, or the one that has them is a `module`
+/// behind others. The only other refusal is want of memory.
+///
+/// Meaning: `IsTreeOf`, `specs/Runs.antt`.
+pub fn parse_statement(
+    alloc: Global,
+    run: &[Tok],
+    at: u32,
+    before: usize,
+) -> Result<Statement, Failure<NoTree>>
     requires few { at + length run.now < 2 ^ 32 }
     requires nested { IsWithin nesting_limit (kinds_of run.now) }
     ensures { IsTreeOf at (kinds_of run.now) before result }

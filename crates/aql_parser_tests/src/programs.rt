@@ -6,8 +6,9 @@ ghost use Rattle.aql_syntax.specs.Views.{statement_of};
 
 use crate::reading::{is_text, lexed, parsed, shown};
 use aql_lexer::{Tok, TokKind};
-use aql_parser::{Sizes, measure};
+use aql_parser::{MAX_NESTING, NoTree, Sizes, first_run, measure, parse_statement};
 use aql_syntax::{Statement, print};
+use span_token::Failure;
 use std::alloc::Global;
 use std::process::Abort;
 use std::test::Fail;
@@ -123,6 +124,16 @@ static SIZES: [(&str, u32, u32); 11] = [
     ("((a)) ) ; ((b", 2, 2),
 ];
 
+/// Programs of two statements, with the program that has the tree of the second one at the same token, or
+/// `none` where it has no tree there.
+static SECONDS: [(&str, &str); 5] = [
+    ("output view W; output view V as 'x';", "output view W; output view V as 'x';"),
+    ("create view P as extract pattern W.a; output view V", "none"),
+    ("pattern p W; output view V;", "output view W; output view V;"),
+    ("output view W; module m;", "none"),
+    ("output view W; output view V; output view U;", "output view W; output view V;"),
+];
+
 /// Puts tokens of `kinds` after the others.
 fn add(toks: &mut Vec<Tok>, kinds: Vec<TokKind>) -> Result<(), Fail> {
     for kind in kinds {
@@ -193,6 +204,49 @@ fn sizes_count_statements_and_open_parentheses(rt: HostRuntime) -> Result<(), Fa
             },
             "{text}"
         );
+    }
+    Ok(())
+}
+
+/// The second statement of a text as it looks where it is read alone, or `none`.
+fn second_alone(alloc: Global, text: &str) -> Result<String, Fail> {
+    let toks = lexed(alloc, text)?;
+    if toks.is_empty() {
+        return Err(Fail::from("a text of the table has tokens"));
+    }
+    let rest = &toks[first_run(&toks).len..];
+    if rest.is_empty() {
+        return Err(Fail::from("a text of the table has two statements"));
+    }
+    let run = first_run(rest);
+    if run.nesting > MAX_NESTING {
+        return Err(Fail::from("a statement of the table nests within the limit"));
+    }
+    let at = toks.len() - rest.len();
+    match parse_statement(alloc, &rest[..run.len], at as u32, 1) {
+        Ok(tree) => Ok(format!(in alloc; "{:?}", tree)?),
+        Err(Failure::Fault(NoTree)) => Ok(format!(in alloc; "none")?),
+        Err(Failure::OutOfMemory) => Err(Fail::from("out of memory")),
+    }
+}
+
+/// The second statement of a program as it looks, or `none` for that word.
+fn second_of(alloc: Global, program: &str) -> Result<String, Fail> {
+    if program == "none" {
+        return Ok(format!(in alloc; "none")?);
+    }
+    match parsed(alloc, program)?.get(1) {
+        Some(tree) => Ok(format!(in alloc; "{:?}", tree)?),
+        None => Err(Fail::from("a program of the table has two statements")),
+    }
+}
+
+#[test]
+fn a_statement_is_read_alone_behind_one_of_another_kind(rt: HostRuntime) -> Result<(), Fail> {
+    for (text, program) in SECONDS {
+        let got = second_alone(rt.alloc(), text)?;
+        let want = second_of(rt.alloc(), program)?;
+        is_text(&rt, got.as_str(), want.as_str(), text);
     }
     Ok(())
 }

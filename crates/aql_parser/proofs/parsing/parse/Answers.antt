@@ -10,8 +10,8 @@ use Rattle.aql_parser.proofs.ProgramRules.{decided, few_parsed, run_nested, faul
 use Rattle.aql_parser.proofs.Standing.{printable}
 use Rattle.aql_parser.proofs.parsing.parse.Goals as goal
 
-pub whole-requires-clause-nested : goal.whole-requires-clause-nested
-whole-requires-clause-nested c =
+pub parse_statement-requires-clause-nested : goal.parse_statement-requires-clause-nested
+parse_statement-requires-clause-nested c =
     run_nested nesting_limit c.args.toks.now c.loop-rest.rest.now (map statement_of c.loop-rest.trees.items) c.first_run-len.result.len
     c.requires.nested c.loop-rest.invariant c.first_run-len.ensures.run
 

@@ -3,7 +3,7 @@ use Rattle.std.specs.Result.{IsErrAnd}
 use Rattle.aql_lexer.specs.Kinds.{kinds_of}
 use Rattle.aql_parser.specs.Nesting.{nesting_limit}
 use Rattle.aql_parser.proofs.ProgramRules.{tree_refused, tree_kept}
-use Rattle.aql_parser.proofs.parsing.whole.Goals as goal
+use Rattle.aql_parser.proofs.parsing.parse_statement.Goals as goal
 
 -- what a refusal is passed on as
 passed_on : {T E : Type 0} (r : Result T E) (e : E) → IsErrAnd r (λ x. x ≡ e) → r ≡ Err e
