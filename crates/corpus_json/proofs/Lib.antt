@@ -13,6 +13,7 @@ mod Objects
 mod NameIndexLemmas
 mod RowSpans
 mod Sections
+mod Texts
 mod Views
 -- the constants of the code are the limits of the definitions
 mod LimitLaws

@@ -8,9 +8,9 @@ use Rattle.row_values.specs.Datums.{Datum, IsOfDocument, datum_of}
 use Rattle.row_values.specs.Rows.{sorted}
 use Rattle.row_values.specs.SortedRows.{SameBag-sorted}
 use Rattle.row_values.specs.declared.value.Value.{Value}
-use Rattle.corpus_json.specs.NameIndexes.{NameIndex, name_index, name_indexes}
+use Rattle.corpus_json.specs.NameIndexes.{NameIndex, column_index, name_indexes}
 use Rattle.corpus_json.specs.Sections.{HasColumns}
-use Rattle.corpus_json.specs.declared.write.order.Named.{Named}
+use Rattle.corpus_json.specs.declared.write.member.Column.{Column}
 use Rattle.corpus_json.proofs.Objects.{indexes_within}
 use Rattle.corpus_json.proofs.Sections.{All-unmap}
 
@@ -28,11 +28,11 @@ sorted_all P rows references are all =
     All-unmap P (λ (row : Bor (List Datum)). row.now) references (subst (All P) (sym are) (All-permutation P rows (sorted rows) (SameBag-sorted rows) all))
 
 -- columns within the width are within each row
-pub columns_in_rows : (columns : List Named) (width : ℕ) (rows : List (List Datum)) → HasColumns columns width → All (λ row. length row ≡ width) rows → All (λ row. HasColumns columns (length row)) rows
+pub columns_in_rows : (columns : List Column) (width : ℕ) (rows : List (List Datum)) → HasColumns columns width → All (λ row. length row ≡ width) rows → All (λ row. HasColumns columns (length row)) rows
 columns_in_rows columns width rows have fit = λ k d within j e there. subst (λ n. (get_or columns j e).index < n) (sym (fit k d within)) (have j e there)
 
 -- the columns of an output that stand by their names
-pub columns_within : (columns : List Named) (names : List (List ℕ)) → map name_index columns ≡ name_indexes names → HasColumns columns (length names)
+pub columns_within : (columns : List Column) (names : List (List ℕ)) → map column_index columns ≡ name_indexes names → HasColumns columns (length names)
 columns_within columns names are =
-    All-unmap (λ (p : NameIndex). p.1 < length names) name_index columns (All-unmap (λ index. index < length names) (λ (p : NameIndex). p.1) (map name_index columns)
+    All-unmap (λ (p : NameIndex). p.1 < length names) column_index columns (All-unmap (λ index. index < length names) (λ (p : NameIndex). p.1) (map column_index columns)
     (subst (λ (indexes : List NameIndex). All (λ index. index < length names) (map (λ (p : NameIndex). p.1) indexes)) (sym are) (indexes_within names)))

@@ -1,5 +1,5 @@
 -- The views as serde_json has them, with the members as they stand in a line.
-use Rattle.std.proofs.Common.{◌≡◌, ℕ, suc, ◌<◌, List, [], ◌∷◌, ◌++◌, codes, Option, None, Some, length, map, get_or, All, refl, sym, ap, subst, ◌∙◌, arith, append_assoc}
+use Rattle.std.proofs.Common.{◌≡◌, ℕ, suc, ◌<◌, List, [], ◌∷◌, ◌++◌, codes, Option, None, Some, length, map, get_or, All, false, refl, sym, ap, subst, ◌∙◌, arith, append_assoc}
 use Rattle.std.proofs.Math.ListN.{get_or-map}
 use Rattle.std.proofs.lemmas.List.{length-map}
 use Rattle.std.proofs.lemmas.Simd.{map-map}
@@ -16,12 +16,11 @@ use Rattle.row_values.specs.Outputs.{OutputNames}
 use Rattle.row_values.specs.Rows.{sorted}
 use Rattle.row_values.specs.SortedRows.{SameBag-sorted}
 use Rattle.corpus_json.specs.Outputs.{value_data, object_of, array_of, row_data, rows_data, views_data, label_pair, line_data}
-use Rattle.json.specs.Token.{Token, begin_array, begin_object, end_object, key}
-use Rattle.json.specs.Tree.{json_tokens}
-use Rattle.serde_json.specs.Written.{outline}
-use Rattle.corpus_json.specs.declared.write.order.Named.{Named}
-use Rattle.corpus_json.specs.NameIndexes.{NameIndex, name_index, name_indexes}
-use Rattle.corpus_json.specs.Writing.{listed, placed, row_listed, array_tokens, section_pair, views_listed, views_tokens, label_tokens}
+use Rattle.json.specs.Print.{escape_byte, quoted}
+use Rattle.serde_json.specs.Written.{compact_text}
+use Rattle.corpus_json.specs.declared.write.member.Column.{Column}
+use Rattle.corpus_json.specs.NameIndexes.{NameIndex, column_index, name_indexes}
+use Rattle.corpus_json.specs.Writing.{listed, placed, row_listed, array_text, section_pair, views_listed, views_text, label_text}
 use Rattle.corpus_json.specs.Sections.{Section, section_of, output_at, section_at, output_names, sections_of, HasRows}
 use Rattle.corpus_json.specs.declared.write.member.Member.{Member}
 use Rattle.corpus_json.proofs.Objects.{with_value, object_of-zip, indexes_within}
@@ -50,12 +49,12 @@ rows_placed document output rows fit =
     ap array_of (map_where (λ row. length row ≡ length output.columns) (row_data document output.columns) (row_listed document (name_indexes output.columns)) (row_placed document output.columns) (sorted rows)
     (All-permutation (λ row. length row ≡ length output.columns) rows (sorted rows) (SameBag-sorted rows) fit))
 
--- their tokens, from the columns that stand by their names
-pub list_tokens : (document : Doc) (output : OutputNames) (columns : List Named) (rows : List (List Datum)) → map name_index columns ≡ name_indexes output.columns → All (λ row. length row ≡ length output.columns) rows
-    → json_tokens (outline (rows_data document output rows)) ≡ begin_array ∷ array_tokens (map (row_listed document (map name_index columns)) (sorted rows))
-unfolding array_tokens
-list_tokens document output columns rows are fit =
-    ap (λ d. json_tokens (outline d)) (rows_placed document output rows fit) ∙ ap (λ (indexes : List NameIndex). begin_array ∷ array_tokens (map (row_listed document indexes) (sorted rows))) (sym are)
+-- their text, from the columns that stand by their names
+pub list_text : (document : Doc) (output : OutputNames) (columns : List Column) (rows : List (List Datum)) → map column_index columns ≡ name_indexes output.columns → All (λ row. length row ≡ length output.columns) rows
+    → compact_text (rows_data document output rows) ≡ 91 ∷ array_text false (map (row_listed document (map column_index columns)) (sorted rows))
+unfolding array_text
+list_text document output columns rows are fit =
+    ap compact_text (rows_placed document output rows fit) ∙ ap (λ (indexes : List NameIndex). 91 ∷ array_text false (map (row_listed document indexes) (sorted rows))) (sym are)
 
 -- ---- the outputs by their names
 
@@ -126,19 +125,19 @@ has_rows outputs widths members same are =
 
 -- ---- the line
 
-with_label : (label : Option (List ℕ)) (views : Data) → json_tokens (outline (object_of (label_pair label ++ (codes "views", views) ∷ []))) ≡ begin_object ∷ (label_tokens label ++ (key (codes "views") ∷ (json_tokens (outline views) ++ end_object ∷ [])))
+with_label : (label : Option (List ℕ)) (views : Data) → compact_text (object_of (label_pair label ++ (codes "views", views) ∷ [])) ≡ label_text label ++ (codes "\"views\":" ++ (compact_text views ++ 125 ∷ []))
+unfolding escape_byte
 with_label None views = refl
-with_label (Some label) views = refl
+with_label (Some label) views = ap (λ text. codes "{\"label\":" ++ text) (sym (append_assoc (quoted label) (44 ∷ []) (codes "\"views\":" ++ (compact_text views ++ 125 ∷ []))))
 
--- the tokens of the line's object
-pub line_tokens : (document : Doc) (outputs : List OutputNames) (rows : List (List (List Datum))) → length rows ≡ length outputs
-    → json_tokens (outline (line_data document outputs rows)) ≡ begin_object ∷ (label_tokens document.label ++ (key (codes "views") ∷ begin_object ∷ (views_tokens document rows (sections_of outputs) ++ end_object ∷ [])))
-unfolding line_data views_tokens
-line_tokens document outputs rows same =
+-- the text of the line's object
+pub line_text : (document : Doc) (outputs : List OutputNames) (rows : List (List (List Datum))) → length rows ≡ length outputs
+    → compact_text (line_data document outputs rows) ≡ label_text document.label ++ (codes "\"views\":{" ++ (views_text false document rows (sections_of outputs) ++ 125 ∷ []))
+unfolding line_data views_text
+line_text document outputs rows same =
     with_label document.label (views_data document outputs rows)
-    ∙ ap (λ (views : Data). begin_object ∷ (label_tokens document.label ++ (key (codes "views") ∷ (json_tokens (outline views) ++ end_object ∷ [])))) (views_placed document outputs rows same)
+    ∙ ap (λ (views : Data). label_text document.label ++ (codes "\"views\":" ++ (compact_text views ++ 125 ∷ []))) (views_placed document outputs rows same)
 
--- what six pieces one after another add
-pub six_pieces : (old one two three four five six label views : List Token) (first second third last : Token) → one ≡ old ++ first ∷ [] → two ≡ one ++ label → three ≡ two ++ second ∷ [] → four ≡ three ++ third ∷ [] → five ≡ four ++ views → six ≡ five ++ last ∷ []
-    → six ≡ old ++ first ∷ (label ++ (second ∷ third ∷ (views ++ last ∷ [])))
-six_pieces old one two three four five six label views first second third last a b c d e f = rw (f, e, d, c, b, a) (simp append_assoc)
+-- what four pieces one after another add
+pub four_pieces : (old one two three four a b c d : List ℕ) → one ≡ old ++ a → two ≡ one ++ b → three ≡ two ++ c → four ≡ three ++ d → four ≡ old ++ (a ++ (b ++ (c ++ d)))
+four_pieces old one two three four a b c d p q r s = rw (s, r, q, p) (simp append_assoc)

@@ -20,6 +20,7 @@ pub mod Passing
 -- output lines
 pub mod Outputs
 -- how an output line is written
+pub mod Keys
 pub mod NameIndexes
 pub mod Sections
 pub mod Writing

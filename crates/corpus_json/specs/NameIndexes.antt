@@ -5,6 +5,7 @@ use Rattle.std.specs.BTreeMap.{insert_entry}
 use Rattle.std.specs.Ordering.{nat_cmp}
 use Rattle.std.specs.Cmp.Lexicographic.{slice_cmp}
 use denote.Ref.{Bor}
+use Rattle.corpus_json.specs.declared.write.member.Column.{Column}
 use Rattle.corpus_json.specs.declared.write.order.Named.{Named}
 
 -- a name and its index among the names that were given, from 0
@@ -13,6 +14,9 @@ NameIndex = List ℕ × ℕ
 
 abbrev pub name_index : Named → NameIndex
 name_index named = (named.name.now, named.index)
+
+abbrev pub column_index : Column → NameIndex
+column_index column = (column.key.name.now, column.index)
 
 abbrev pub entry_index : Bor (List ℕ) × ℕ → NameIndex
 entry_index entry = (entry.0.now, entry.1)

@@ -2,8 +2,8 @@
 use Rattle.std.specs.Prelude.{◌≡◌, ◌<◌, ℕ, List, [], All, length, map, slice_index_or}
 use Rattle.row_values.specs.Outputs.{OutputNames}
 use Rattle.corpus_json.specs.NameIndexes.{NameIndex, name_indexes}
+use Rattle.corpus_json.specs.declared.write.member.Column.{Column}
 use Rattle.corpus_json.specs.declared.write.member.Member.{Member}
-use Rattle.corpus_json.specs.declared.write.order.Named.{Named}
 
 -- an output in a line: its name, its index among the outputs, and its names
 pub record Section : Type 0 where
@@ -12,7 +12,7 @@ pub record Section : Type 0 where
   pub output : OutputNames
 
 abbrev pub section_of : Member → Section
-section_of member = record { name = member.name.now; index = member.index; output = member.output.now }
+section_of member = record { name = member.key.name.now; index = member.index; output = member.output.now }
 
 abbrev pub output_at : List OutputNames → ℕ → OutputNames
 output_at outputs index = slice_index_or outputs index (record { name = []; columns = [] })
@@ -28,7 +28,7 @@ unfoldable pub sections_of : List OutputNames → List Section
 sections_of outputs = map (section_at outputs) (name_indexes (output_names outputs))
 
 -- each column is one of so many
-abbrev pub HasColumns : List Named → ℕ → Type 0
+abbrev pub HasColumns : List Column → ℕ → Type 0
 HasColumns columns width = All (λ column. column.index < width) columns
 
 -- there is a list of rows at the output's index, and its width is the number of the output's columns

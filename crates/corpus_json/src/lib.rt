@@ -4,7 +4,7 @@
 //! gives its text and label, and `write_document` gives the output line of a document. Their contracts give
 //! the crates above exact lines, exact documents by serde_json's own reading, and exact bytes by its
 //! compact text. Stands on `aql_io` for sources, on `span_token` for documents, on `row_values` for
-//! outputs and rows, and on `serde_json` and `json`.
+//! outputs and rows, and on `serde_json`, `json` and `itoa`.
 #![tactic(auto)]
 
 mod input;

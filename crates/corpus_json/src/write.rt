@@ -1,8 +1,13 @@
+mod decimal;
+mod key;
 mod layout;
 mod line;
 mod member;
 mod order;
+mod place;
+mod plain;
 mod row;
+mod text;
 mod value;
 mod views;
 

@@ -1,14 +1,12 @@
-ghost use Rattle.std.specs.Prelude.{◌≡◌, ◌++◌, ◌∷◌, [], All, IfOk, length, map, option_map};
-ghost use Rattle.json.specs.Token.{begin_object};
-ghost use Rattle.json.specs.Tree.{json_tokens};
-ghost use Rattle.serde_json.specs.Written.{outline};
+ghost use Rattle.std.specs.Prelude.{◌≡◌, ◌++◌, All, IfOk, OnOk, length, map, option_map};
+ghost use Rattle.serde_json.specs.Written.{compact_text};
 ghost use Rattle.row_values.specs.Rows.{RowsLieIn};
 ghost use Rattle.corpus_json.specs.Outputs.{output_line, line_data, rows_of, width_of};
-ghost use Rattle.corpus_json.specs.Writing.{Adds, label_tokens};
+ghost use Rattle.corpus_json.specs.Writing.{label_text};
 
 use super::layout::Layout;
+use super::text::write_text;
 use super::views::write_views;
-use json::Writer;
 use row_values::{Output, Rows};
 use span_token::{Document, OutOfMemory};
 use std::alloc::Global;
@@ -51,9 +49,8 @@ pub fn append_document(
     requires in_document { All (RowsLieIn document.now) (map rows_of rows.now) }
     ensures line { IfOk result (λ longer. longer.items ≡ line.items ++ output_line document.now layout.now (map rows_of rows.now)) }
 {
-    let mut out = Writer::new(line);
-    write_object(alloc, &mut out, document, layout, rows)?;
-    let mut longer = out.into_inner();
+    let mut longer = line;
+    write_object(alloc, &mut longer, document, layout, rows)?;
     longer.push(b'\n')?;
     Ok(longer)
 }
@@ -61,31 +58,32 @@ pub fn append_document(
 /// Writes the object of the line.
 fn write_object(
     alloc: Global,
-    out: &mut Writer,
+    out: &mut Vec<u8>,
     document: &Document<'_>,
     layout: &Layout<'_>,
     rows: &[&Rows<'_>],
 ) -> Result<(), OutOfMemory>
     requires columns { map width_of rows.now ≡ map (λ output. length output.columns) layout.now }
     requires in_document { All (RowsLieIn document.now) (map rows_of rows.now) }
-    ensures { Adds result out.old out.new (json_tokens (outline (line_data document.now layout.now (map rows_of rows.now)))) }
+    ensures { OnOk result (out.new.items ≡ out.old.items ++ compact_text (line_data document.now layout.now (map rows_of rows.now))) }
 {
-    out.begin_object()?;
     write_label(out, document.label())?;
-    out.key("views")?;
-    out.begin_object()?;
+    out.extend_from_slice(b"\"views\":{")?;
     write_views(alloc, out, document, layout.members(), rows)?;
-    out.end_object()?;
+    out.push(b'}')?;
     Ok(())
 }
 
-/// Writes the member `label`, where there is a label.
-fn write_label(out: &mut Writer, label: Option<&str>) -> Result<(), OutOfMemory>
-    ensures { Adds result out.old out.new (label_tokens (option_map (λ label. label.now) label.entry)) }
+/// Writes the opening brace and the member `label`, where there is a label.
+fn write_label(out: &mut Vec<u8>, label: Option<&str>) -> Result<(), OutOfMemory>
+    ensures { OnOk result (out.new.items ≡ out.old.items ++ label_text (option_map (λ label. label.now) label.entry)) }
 {
-    if let Some(label) = label {
-        out.key("label")?;
-        out.string(label)?;
-    }
+    let Some(label) = label else {
+        out.push(b'{')?;
+        return Ok(());
+    };
+    out.extend_from_slice(b"{\"label\":")?;
+    write_text(out, label.as_bytes())?;
+    out.push(b',')?;
     Ok(())
 }
