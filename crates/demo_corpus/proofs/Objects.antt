@@ -3,7 +3,7 @@ use Rattle.std.proofs.Common.{◌≡◌, ◌≤◌, ◌++◌, ◌∷◌, [], Lis
 use Rattle.json.specs.Token.{Token, begin_object, end_object, key, string}
 use Rattle.json.specs.Tree.{json_tokens, depth}
 use Rattle.serde_json.specs.Written.{outline}
-use Rattle.corpus_json.specs.Writing.{label_tokens}
+use Rattle.demo_corpus.specs.Tokens.{label_tokens}
 use Rattle.json.specs.Lex.{tokens}
 use Rattle.std.specs.Str.{IsUtf8}
 use Rattle.std.proofs.lemmas.Str.{is_utf8-from_IsUtf8}

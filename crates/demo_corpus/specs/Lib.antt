@@ -10,5 +10,7 @@ pub mod Prefixes
 pub mod Totals
 pub mod Summaries
 -- Words of private clauses
+-- a line as it is written
+pub mod Tokens
 -- totals on the way to their summary
 pub mod NamedTotals

@@ -3,7 +3,7 @@ ghost use Rattle.json.specs.Tree.{json_tokens};
 ghost use Rattle.serde_json.specs.Written.{outline};
 ghost use Rattle.corpus_json.specs.Documents.{document_in};
 ghost use Rattle.corpus_json.specs.Inputs.{doc_of};
-ghost use Rattle.corpus_json.specs.Writing.{Adds, label_tokens};
+ghost use Rattle.demo_corpus.specs.Tokens.{Adds, label_tokens};
 ghost use Rattle.demo_corpus.specs.Corpora.{corpus_of, document_data, document_text};
 
 use corpus_json::Input;

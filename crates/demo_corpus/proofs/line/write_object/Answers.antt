@@ -1,6 +1,6 @@
 use Rattle.std.proofs.Common.{◌≡◌, ◌++◌, ◌∷◌, [], ap, ◌∙◌, codes}
 use Rattle.json.specs.Token.{begin_object, end_object, key, string}
-use Rattle.corpus_json.specs.Writing.{label_tokens}
+use Rattle.demo_corpus.specs.Tokens.{label_tokens}
 use Rattle.demo_corpus.proofs.Objects.{five_pieces, object_tokens}
 use Rattle.demo_corpus.proofs.line.write_object.Goals as goal
 
