@@ -2,6 +2,8 @@ pub mod TextLength
 pub mod Values
 -- how a line is read, with no tree of its value
 mod Passing
+mod PlainRuns
+mod Flat
 -- how a reader of lines comes to its answer
 pub mod Windows
 pub mod LastLf

@@ -17,6 +17,7 @@ pub mod Documents
 pub mod Inputs
 -- how a line is read, with no tree of its value
 pub mod Passing
+pub mod Flat
 -- output lines
 pub mod Outputs
 -- how an output line is written

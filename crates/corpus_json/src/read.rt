@@ -6,10 +6,12 @@ ghost use Rattle.corpus_json.specs.Inputs.{doc_of, doc_of_ref};
 ghost use Rattle.corpus_json.specs.Passing.{AreStrings, whole_value, members_at, object_alone};
 ghost use Rattle.serde_json.specs.Data.{Members, object};
 
+mod flat;
 mod members;
 mod number;
 
 use crate::{Input, InputRef, NotDocument};
+use flat::flat_object;
 use json::{Reader, Scratch, Token};
 use members::{Strings, pass_members};
 use span_token::{Failure, OutOfMemory};
@@ -109,6 +111,9 @@ fn read_text<'d>(
 ) -> Result<Option<InputRef<'d>>, OutOfMemory>
     ensures { IfOk result (λ found. option_map doc_of_ref found ≡ option_and_then document_of (value_read text.now)) }
 {
+    if let Some(strings) = flat_object(text) {
+        return Ok(input_of(strings));
+    }
     let mut reader = Reader::new(text, scratch)?;
     Ok(whole_document(&mut reader))
 }

@@ -86,7 +86,11 @@ fn pass_items(reader: &mut Reader<'_>, depth: usize) -> Result<(), Invalid>
 }
 
 /// The strings with one more member, which is this string or none.
-fn with_member<'d>(strings: Strings<'d>, name: &str, string: Option<&'d str>) -> Strings<'d>
+pub(crate) fn with_member<'d>(
+    strings: Strings<'d>,
+    name: &str,
+    string: Option<&'d str>,
+) -> Strings<'d>
     ensures { PutsString strings.entry result name.now (option_map (λ s. s.now) string.entry) }
 {
     if name == "text" {
