@@ -127,11 +127,23 @@ static SIZES: [(&str, u32, u32); 11] = [
 /// Programs of two statements, with the program that has the tree of the second one at the same token, or
 /// `none` where it has no tree there.
 static SECONDS: [(&str, &str); 5] = [
-    ("output view W; output view V as 'x';", "output view W; output view V as 'x';"),
-    ("create view P as extract pattern W.a; output view V", "none"),
-    ("pattern p W; output view V;", "output view W; output view V;"),
+    (
+        "output view W; output view V as 'x';",
+        "output view W; output view V as 'x';",
+    ),
+    (
+        "create view P as extract pattern W.a; output view V",
+        "none",
+    ),
+    (
+        "pattern p W; output view V;",
+        "output view W; output view V;",
+    ),
     ("output view W; module m;", "none"),
-    ("output view W; output view V; output view U;", "output view W; output view V;"),
+    (
+        "output view W; output view V; output view U;",
+        "output view W; output view V;",
+    ),
 ];
 
 /// Puts tokens of `kinds` after the others.

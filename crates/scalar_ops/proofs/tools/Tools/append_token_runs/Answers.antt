@@ -7,4 +7,4 @@ use Rattle.scalar_ops.proofs.tools.Tools.append_token_runs.Goals as goal
 
 pub returns-in-None-clause-rows : goal.returns-in-None-clause-rows
 returns-in-None-clause-rows c =
-    puts_none (λ p. run_rows p c.args.doc.now (extent_of c.args.source) c.args.low c.args.high c.args.groups.now) c.args.self.now.patterns c.args.pattern (extents_of c.args.into.now.items) (search (rules, c.in-None.ensures.lookup.3))
+    puts_none (λ p. run_rows p c.args.sought.now.doc.now (extent_of c.args.sought.now.source) c.args.sought.now.low c.args.sought.now.high c.args.sought.now.groups.now) c.args.self.now.patterns c.args.pattern (extents_of c.args.into.now.items) (search (rules, c.in-None.ensures.lookup.3))
