@@ -229,6 +229,138 @@ fn span<'d>(begin: u32, end: u32) -> Value<'d>
     Value::Span(Span { begin, end })
 }
 
+/// Texts, of which spans have all characters: so many, and what is written for them as another program quotes them
+/// (Python's `json`).
+static QUOTED: [(&str, u32, &str); 25] = [
+    ("T", 1, "\"T\""),
+    ("The", 3, "\"The\""),
+    ("The ", 4, "\"The \""),
+    ("The quic", 8, "\"The quic\""),
+    ("The quick brown", 15, "\"The quick brown\""),
+    ("The quick brown ", 16, "\"The quick brown \""),
+    ("The quick brown f", 17, "\"The quick brown f\""),
+    (
+        "The quick brown fox jumps over ",
+        31,
+        "\"The quick brown fox jumps over \"",
+    ),
+    (
+        "The quick brown fox jumps over t",
+        32,
+        "\"The quick brown fox jumps over t\"",
+    ),
+    (
+        "The quick brown fox jumps over th",
+        33,
+        "\"The quick brown fox jumps over th\"",
+    ),
+    (
+        "The quick brown fox jumps over the lazy dog",
+        43,
+        "\"The quick brown fox jumps over the lazy dog\"",
+    ),
+    (
+        "\nThe quick brown fox jumps over the lazy dog",
+        44,
+        "\"\\nThe quick brown fox jumps over the lazy dog\"",
+    ),
+    (
+        "The qui\nck brown fox jumps over the lazy dog",
+        44,
+        "\"The qui\\nck brown fox jumps over the lazy dog\"",
+    ),
+    (
+        "The quick brow\nn fox jumps over the lazy dog",
+        44,
+        "\"The quick brow\\nn fox jumps over the lazy dog\"",
+    ),
+    (
+        "The quick brown\n fox jumps over the lazy dog",
+        44,
+        "\"The quick brown\\n fox jumps over the lazy dog\"",
+    ),
+    (
+        "The quick brown \nfox jumps over the lazy dog",
+        44,
+        "\"The quick brown \\nfox jumps over the lazy dog\"",
+    ),
+    (
+        "The quick brown f\nox jumps over the lazy dog",
+        44,
+        "\"The quick brown f\\nox jumps over the lazy dog\"",
+    ),
+    (
+        "The quick brown fox jumps over \nthe lazy dog",
+        44,
+        "\"The quick brown fox jumps over \\nthe lazy dog\"",
+    ),
+    (
+        "The quick brown fox jumps over t\nhe lazy dog",
+        44,
+        "\"The quick brown fox jumps over t\\nhe lazy dog\"",
+    ),
+    (
+        "The quick brown fox jumps over th\ne lazy dog",
+        44,
+        "\"The quick brown fox jumps over th\\ne lazy dog\"",
+    ),
+    (
+        "say \"no\" and \\ go on, then back to plain text",
+        45,
+        "\"say \\\"no\\\" and \\\\ go on, then back to plain text\"",
+    ),
+    ("a\tb\rc\u{8}d\u{c}e", 9, "\"a\\tb\\rc\\bd\\fe\""),
+    (
+        "\u{0}\u{1}\u{1f} \u{7f}",
+        5,
+        "\"\\u0000\\u0001\\u001f \u{7f}\"",
+    ),
+    (
+        "été à la plage, où il fait 30 degrés",
+        36,
+        "\"été à la plage, où il fait 30 degrés\"",
+    ),
+    (
+        "ends in a quote, behind 32 bytes.\"",
+        34,
+        "\"ends in a quote, behind 32 bytes.\\\"\"",
+    ),
+];
+
+#[test]
+fn texts_of_spans_are_quoted_whatever_their_length(rt: HostRuntime) -> Result<(), Fail> {
+    for (text, end, quoted) in QUOTED {
+        let wanted = format!(in rt.alloc();
+            "{{\"views\":{{\"P\":[{{\"num\":{{\"begin\":0,\"end\":{end},\"text\":{quoted}}}}}]}}}}"
+        )?;
+        expect_line(
+            &rt,
+            rt.alloc(),
+            text,
+            None,
+            &[span(0, end)],
+            wanted.as_str(),
+        )?;
+    }
+    Ok(())
+}
+
+#[test]
+fn texts_are_quoted_whatever_their_length(rt: HostRuntime) -> Result<(), Fail> {
+    for (text, _, quoted) in QUOTED {
+        let wanted = format!(in rt.alloc(); "{{\"views\":{{\"P\":[{{\"num\":{quoted}}}]}}}}")?;
+        expect_line(
+            &rt,
+            rt.alloc(),
+            "",
+            None,
+            &[Value::Text(text)],
+            wanted.as_str(),
+        )?;
+    }
+    Ok(())
+}
+
 #[test]
 fn spans_are_written_in_row_order(rt: HostRuntime) -> Result<(), Fail> {
     let alloc = rt.alloc();

@@ -100,7 +100,13 @@ pub(crate) fn find<'d>(
             groups,
         } => {
             let source = source_in(doc, row, column);
-            find_runs(tools, doc, source, pattern, low, high, groups, found)
+            let runs = Runs {
+                pattern,
+                low,
+                high,
+                groups,
+            };
+            find_runs(tools, doc, source, &runs, found)
         }
         Search::Dict { column, dict } => {
             let source = source_in(doc, row, column);
@@ -150,21 +156,27 @@ fn find_matches(
     }
 }
 
+/// A pattern that matches runs of `low` to `high` tokens whole, and the groups that are asked for.
+#[derive(Drop)]
+struct Runs<'g> {
+    pattern: u32,
+    low: u32,
+    high: u32,
+    groups: &'g [u32],
+}
+
 /// The runs of tokens of a span that a pattern matches.
 fn find_runs(
     tools: &mut Tools<'_>,
     doc: &Document<'_>,
     source: Option<Span>,
-    pattern: u32,
-    low: u32,
-    high: u32,
-    groups: &[u32],
+    runs: &Runs<'_>,
     found: &mut Vec<Option<Span>>,
 ) -> Result<usize, OutOfMemory>
     requires in_document { IfSome source (λ s. LiesIn (extent_of s) doc.now) }
-    requires at_least_one { 1 ≤ low }
+    requires at_least_one { 1 ≤ runs.now.low }
     requires none_yet { found.old.items ≡ [] }
-    ensures rows { IfOk result (PutsRows (of_some (λ s. of_pattern tools.old pattern (λ p. run_rows p doc.now s low high groups.now)) (option_map extent_of source))
+    ensures rows { IfOk result (PutsRows (of_some (λ s. of_pattern tools.old runs.now.pattern (λ p. run_rows p doc.now s runs.now.low runs.now.high runs.now.groups.now)) (option_map extent_of source))
         [] (extents_of found.new.items)) }
     ensures lies { OnOk result (All (IsFoundIn doc.now) found.new.items) }
     ensures same { tools.new ≡ tools.old }
@@ -174,11 +186,11 @@ fn find_runs(
             let sought = SoughtRuns {
                 doc,
                 source,
-                low,
-                high,
-                groups,
+                low: runs.low,
+                high: runs.high,
+                groups: runs.groups,
             };
-            let number = tools.append_token_runs(pattern, &sought, found)?;
+            let number = tools.append_token_runs(runs.pattern, &sought, found)?;
             Ok(number)
         }
         None => Ok(0),
