@@ -1,4 +1,5 @@
-//! The tree of a program; `at` is everywhere the number of the node's first token, from 0.
+//! The tree of a program. Where a node has a field `at`, it is the number of the node's first token, from 0; a
+//! union, a minus, a flag, the alias of an output, the entries of a dictionary and `require` have none.
 use span_token::OwnedText;
 
 /// A statement of a program.
