@@ -45,7 +45,7 @@ const LARGE: usize = 65_536;
 
 /// How many bytes one read of the corpus may bring: more than a pipe holds, so that a read that brings as many
 /// comes from a file, which is never waited for.
-const ROOM: usize = 8_388_608;
+const ROOM: usize = 16_777_216;
 
 /// What a run keeps from line to line: lines that are pending, and behind them a window of documents whose
 /// lines aren't made yet, which has at most `most` documents and so many bytes of lines.

@@ -7,12 +7,12 @@ use algebra::Plan;
 use anyhow::{Result, bail};
 use aql_io::Source;
 use corpus_json::{DocumentReader, LINE_LIMIT, Layout, LineBuffer, Step};
-use plan_operators::Schedule;
+use plan_operators::{EvaluationRoom, Schedule};
 use run_pool::Workers;
 use scalar_ops::Tools;
 use std::alloc::Global;
 use std::io::Write;
-use window_lines::{AnswerRoom, append_answer};
+use window_lines::append_answer;
 
 /// How many bytes of output are held before they are written.
 const PIECE: usize = 65_536;
@@ -23,7 +23,7 @@ struct Lines {
     corpus: LineBuffer,
     line: Vec<u8>,
     documents: DocumentReader,
-    room: AnswerRoom,
+    room: EvaluationRoom,
     pending: Vec<u8>,
 }
 
@@ -55,7 +55,7 @@ impl Lines {
             corpus: LineBuffer::new(alloc)?,
             line: Vec::new(alloc),
             documents: DocumentReader::new(alloc),
-            room: AnswerRoom::new(alloc),
+            room: EvaluationRoom::new(alloc),
             pending: Vec::new(alloc),
         })
     }

@@ -27,14 +27,7 @@ use std::mem;
 #[derive(Drop)]
 pub struct Room {
     reader: DocumentReader,
-    answer: AnswerRoom,
-}
-
-/// Memory that is used again for each document.
-#[derive(Drop)]
-pub struct AnswerRoom {
     evaluation: EvaluationRoom,
-    line: Vec<u8>,
 }
 
 impl Room {
@@ -42,17 +35,7 @@ impl Room {
     pub fn new(alloc: Global) -> Room {
         Room {
             reader: DocumentReader::new(alloc),
-            answer: AnswerRoom::new(alloc),
-        }
-    }
-}
-
-impl AnswerRoom {
-    /// No room yet: it grows with what it is used for.
-    pub fn new(alloc: Global) -> AnswerRoom {
-        AnswerRoom {
             evaluation: EvaluationRoom::new(alloc),
-            line: Vec::new(alloc),
         }
     }
 }
@@ -93,7 +76,7 @@ pub fn answer_line<P: Pool>(
                 tools,
                 pool,
                 input,
-                &mut room.answer,
+                &mut room.evaluation,
                 pending,
             )?;
             Ok(true)
@@ -109,6 +92,7 @@ pub fn answer_line<P: Pool>(
 ///
 /// `schedule` is the plan's, `layout` has its outputs, and `tools` are made of its tables. `with_tokens` says
 /// whether the document keeps its tokens, and changes no byte. The text is no longer than a document's may be.
+/// `room` is memory that is used again for each document.
 ///
 /// Meaning: `line_from`, `specs/Lines.antt` of `run_pool`.
 pub fn append_answer<P: Pool>(
@@ -119,7 +103,7 @@ pub fn append_answer<P: Pool>(
     tools: &mut Tools<'_>,
     pool: &mut P,
     input: InputRef<'_>,
-    room: &mut AnswerRoom,
+    room: &mut EvaluationRoom,
     pending: &mut Vec<u8>,
 ) -> Result<(), OutOfMemory>
     requires layout { layout.now ≡ names_in schedule.now }
@@ -131,7 +115,7 @@ pub fn append_answer<P: Pool>(
     ensures same { tools.new ≡ tools.old }
 {
     let document = document_of(alloc, with_tokens, input)?;
-    let board = evaluate(alloc, tools, &mut room.evaluation, &document, schedule)?;
+    let board = evaluate(alloc, tools, room, &document, schedule)?;
     append_rows(
         alloc,
         schedule.plan(),
@@ -139,7 +123,6 @@ pub fn append_answer<P: Pool>(
         pool,
         &document,
         board.as_slice(),
-        &mut room.line,
         pending,
     )
 }
@@ -161,7 +144,7 @@ pub fn document_of<'d>(
 }
 
 /// Hands a document to a pool, and puts the line that it answers behind what is pending; `board` has the rows of
-/// each output's node, and `line` is room for the line.
+/// each output's node.
 fn append_rows<'d, P: Pool>(
     alloc: Global,
     plan: &Plan,
@@ -169,7 +152,6 @@ fn append_rows<'d, P: Pool>(
     pool: &mut P,
     document: &Document<'d>,
     board: &[Option<Rows<'d>>],
-    line: &mut Vec<u8>,
     pending: &mut Vec<u8>,
 ) -> Result<(), OutOfMemory>
     requires layout { layout.now ≡ names_in plan.now }
@@ -182,7 +164,7 @@ fn append_rows<'d, P: Pool>(
     let outputs = plan.outputs();
     if outputs.len() == 1 {
         let shown = [rows_shown(board, &outputs[0])];
-        return append_answered(alloc, plan, layout, pool, document, &shown, line, pending);
+        return append_answered(alloc, plan, layout, pool, document, &shown, pending);
     }
     let shown = all_shown(alloc, outputs, board)?;
     append_answered(
@@ -192,13 +174,12 @@ fn append_rows<'d, P: Pool>(
         pool,
         document,
         shown.as_slice(),
-        line,
         pending,
     )
 }
 
 /// Hands a document to a pool with the rows that were found, and puts the line that it answers behind what is
-/// pending; `line` is room for the line.
+/// pending.
 fn append_answered<'d, P: Pool>(
     alloc: Global,
     plan: &Plan,
@@ -206,7 +187,6 @@ fn append_answered<'d, P: Pool>(
     pool: &mut P,
     document: &Document<'d>,
     found: &[&Rows<'d>],
-    line: &mut Vec<u8>,
     pending: &mut Vec<u8>,
 ) -> Result<(), OutOfMemory>
     requires layout { layout.now ≡ names_in plan.now }
@@ -216,52 +196,29 @@ fn append_answered<'d, P: Pool>(
     ensures means { P.means pool.new ≡ P.means pool.old }
 {
     match pool.answer(alloc, plan, layout, document, found)? {
-        Answered::AsFound => append_line(alloc, layout, document, found, line, pending),
+        Answered::AsFound => append_line(alloc, layout, document, found, pending),
         Answered::Instead(rows) => {
             let lent = all_lent(alloc, rows.as_slice())?;
-            append_line(alloc, layout, document, lent.as_slice(), line, pending)
+            append_line(alloc, layout, document, lent.as_slice(), pending)
         }
     }
 }
 
-/// Puts the line of a document with these rows behind what is pending; `line` is room for it, which isn't used
-/// where nothing is pending.
+/// Puts the line of a document with these rows behind what is pending.
 pub(crate) fn append_line(
     alloc: Global,
     layout: &Layout<'_>,
     document: &Document<'_>,
     rows: &[&Rows<'_>],
-    line: &mut Vec<u8>,
     pending: &mut Vec<u8>,
 ) -> Result<(), OutOfMemory>
     requires columns { map width_of rows.now ≡ map (λ output. length output.columns) layout.now }
     requires in_document { All (RowsLieIn document.now) (map rows_of rows.now) }
     ensures bytes { OnOk result (pending.new.items ≡ pending.old.items ++ output_line document.now layout.now (map rows_of rows.now)) }
 {
-    if pending.is_empty() {
-        *pending = line_in(alloc, pending, document, layout, rows)?;
-    } else {
-        *line = line_in(alloc, line, document, layout, rows)?;
-        pending.extend_from_slice(line)?;
-    }
+    let before = mem::replace(pending, Vec::new(alloc));
+    *pending = append_document(alloc, before, document, layout, rows)?;
     Ok(())
-}
-
-/// The line of a document with these rows, in the room that is given.
-fn line_in(
-    alloc: Global,
-    room: &mut Vec<u8>,
-    document: &Document<'_>,
-    layout: &Layout<'_>,
-    rows: &[&Rows<'_>],
-) -> Result<Vec<u8>, OutOfMemory>
-    requires columns { map width_of rows.now ≡ map (λ output. length output.columns) layout.now }
-    requires in_document { All (RowsLieIn document.now) (map rows_of rows.now) }
-    ensures { IfOk result (λ line. line.items ≡ output_line document.now layout.now (map rows_of rows.now)) }
-{
-    room.clear();
-    let empty = mem::replace(room, Vec::new(alloc));
-    append_document(alloc, empty, document, layout, rows)
 }
 
 /// Lists of rows, borrowed.

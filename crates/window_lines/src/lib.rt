@@ -18,9 +18,7 @@ mod ready;
 mod stretch;
 mod window;
 
-pub use answer::{
-    AnswerRoom, Room, all_lent, all_shown, answer_line, append_answer, document_of, lent,
-};
+pub use answer::{Room, all_lent, all_shown, answer_line, append_answer, document_of, lent};
 pub use hands::Hands;
 pub use pending::{Pending, Texts};
 pub use ready::{Answered, append_ready};

@@ -150,7 +150,6 @@ fn append_answers<'d, P: Pool>(
     requires answers { AreAllAnswers (P.means pool.now) plan.now docs.now (map (λ rows. map arc_value rows.items) answers.now) }
     ensures bytes { OnOk result (pending.new.items ≡ pending.old.items ++ flat_map (line_from (P.means pool.now) plan.now) docs.now) }
 {
-    let mut line = Vec::new(alloc);
     for d in 0..docs.len() {
         append_shared(
             alloc,
@@ -159,15 +158,13 @@ fn append_answers<'d, P: Pool>(
             layout,
             &docs[d],
             answers[d].as_slice(),
-            &mut line,
             pending,
         )?;
     }
     Ok(())
 }
 
-/// Puts the line of a document behind what is pending; `rows` are those of each output, and `line` is room
-/// for the line.
+/// Puts the line of a document behind what is pending; `rows` are those of each output.
 fn append_shared<'d, P: Pool>(
     alloc: Global,
     pool: &P,
@@ -175,7 +172,6 @@ fn append_shared<'d, P: Pool>(
     layout: &Layout<'_>,
     document: &Document<'d>,
     rows: &[Arc<Rows<'d>, Global>],
-    line: &mut Vec<u8>,
     pending: &mut Vec<u8>,
 ) -> Result<(), OutOfMemory>
     requires layout { layout.now ≡ names_in plan.now }
@@ -185,7 +181,7 @@ fn append_shared<'d, P: Pool>(
     let _ = pool;
     let _ = plan;
     let shown = all_lent(alloc, rows)?;
-    append_line(alloc, layout, document, shown.as_slice(), line, pending)
+    append_line(alloc, layout, document, shown.as_slice(), pending)
 }
 
 /// Shared rows, borrowed.

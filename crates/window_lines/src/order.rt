@@ -1,6 +1,6 @@
 //! In which order threads take up the pieces of lines that are ready.
 
-ghost use Rattle.std.specs.Prelude.{◌<◌};
+ghost use Rattle.std.specs.Prelude.{◌<◌, ◌≤◌, ◌*◌, ℕ, IfSome, length};
 
 use memchr::memchr;
 use span_token::OutOfMemory;
@@ -18,9 +18,10 @@ struct Share {
 
 /// The numbers of the pieces of `bytes`, each of `size` bytes, in the order in which they are taken up.
 ///
-/// It is that of the lines, but where the line `first` that stands before them is large: then the pieces in which
-/// lines begin, those with the most bytes first, so that seldom a thread has a large document left when all others
-/// are done. No clause rests on it: what is answered is put together by the places of the lines.
+/// It is that of the lines, but where the line `first` that stands before them is large: then behind the first half
+/// come those pieces of the other one in which lines begin, those with the most bytes first, so that seldom a thread
+/// has a large document left when all others are done. No clause rests on it: what is answered is put together by the
+/// places of the lines.
 pub(crate) fn order_of(
     alloc: Global,
     first: &[u8],
@@ -29,17 +30,37 @@ pub(crate) fn order_of(
     count: usize,
 ) -> Result<Vec<usize>, OutOfMemory>
     requires some { 0 < size }
+    requires begun { (n : ℕ) → n < count → n * size < length bytes.now }
 {
-    if first.len() < LARGE {
+    if first.len() < LARGE || count < 2 {
         return numbers_below(alloc, count);
     }
-    let mut shares = shares_of(alloc, bytes, size)?;
+    let half = count / 2;
+    let mut order = numbers_below(alloc, half)?;
+    let Some(from) = line_from(bytes, half * size) else {
+        return Ok(order);
+    };
+    let mut shares = shares_of(alloc, bytes, size, from)?;
     shares.sort_unstable_by_key(|share| share.bytes);
-    let mut order = Vec::with_capacity(alloc, shares.len())?;
     for share in shares.iter().rev() {
         order.push(share.piece)?;
     }
     Ok(order)
+}
+
+/// Where the first line begins from the place `from` on: there, where a line begins there, or behind the next
+/// LF. `None` where there is no LF.
+pub(crate) fn line_from(bytes: &[u8], from: usize) -> Option<usize>
+    requires within { from ≤ length bytes.now }
+    ensures within { IfSome result (λ at. at ≤ length bytes.now) }
+{
+    if from == 0 {
+        return Some(0);
+    }
+    match memchr(b'\n', &bytes[from - 1..]) {
+        Some(n) => Some(from + n),
+        None => None,
+    }
 }
 
 /// The numbers from 0 on, as many as these.
@@ -51,12 +72,19 @@ fn numbers_below(alloc: Global, count: usize) -> Result<Vec<usize>, OutOfMemory>
     Ok(numbers)
 }
 
-/// For each piece in which lines begin that have their LF, in their order, how many bytes these have.
-fn shares_of(alloc: Global, bytes: &[u8], size: usize) -> Result<Vec<Share>, OutOfMemory>
+/// For each piece in which lines begin from the place `from` on that have their LF, in their order, how many bytes
+/// these have. A line begins at that place.
+fn shares_of(
+    alloc: Global,
+    bytes: &[u8],
+    size: usize,
+    from: usize,
+) -> Result<Vec<Share>, OutOfMemory>
     requires some { 0 < size }
+    requires within { from ≤ length bytes.now }
 {
     let mut shares = Vec::new(alloc);
-    let mut from = 0;
+    let mut from = from;
     'lines: while from < bytes.len() {
         let Some(length) = memchr(b'\n', &bytes[from..]) else {
             return Ok(shares);

@@ -14,7 +14,7 @@ ghost use Rattle.window_lines.specs.Lines.{line_by, names_in, rows_by};
 
 use crate::answer::answer_line;
 use crate::hands::{First, Hand, Hands, Part};
-use crate::order::order_of;
+use crate::order::{line_from, order_of};
 use crate::pending::Pending;
 use crate::stretch::stretch_count;
 use corpus_json::{LINE_LIMIT, Layout};
@@ -228,7 +228,7 @@ impl<'a, 'l, 'p, P: Pool> Ready<'a, 'l, 'p, P> {
         }
     }
 
-    /// Answers the lines that begin in the piece of number `n`.
+    /// Answers the lines that begin in the piece of number `n`; a piece in the middle of a line has none.
     fn answer_piece(&self, n: usize, hand: &mut Hand<'_>, pool: &mut P) -> Result<(), OutOfMemory>
         requires there { n < self.now.count }
         requires tools { hand.old.tools ≡ self.now.schedule.now.lists }
@@ -241,7 +241,9 @@ impl<'a, 'l, 'p, P: Pool> Ready<'a, 'l, 'p, P> {
     {
         let begin = n * self.size;
         let until = begin + self.size.min(self.bytes.len() - begin);
-        let from = line_from(self.bytes, begin);
+        let Some(from) = line_from(&self.bytes[..until], begin) else {
+            return Ok(());
+        };
         let mut part = Part {
             from,
             to: from,
@@ -465,21 +467,6 @@ fn append_part(part: &mut Part, pending: &mut Pending) -> Result<Answered, OutOf
     part.count = 0;
     pending.take_text(&mut part.text)?;
     Ok(end)
-}
-
-/// Where the first line begins from the place `from` on: there, where a line begins there, or behind the next
-/// LF, or at the end.
-fn line_from(bytes: &[u8], from: usize) -> usize
-    requires within { from ≤ length bytes.now }
-    ensures within { result ≤ length bytes.now }
-{
-    if from == 0 {
-        return 0;
-    }
-    match find_lf(&bytes[from - 1..]) {
-        Some(n) => from + n,
-        None => bytes.len(),
-    }
 }
 
 /// The place of the first LF.
