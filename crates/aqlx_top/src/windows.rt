@@ -44,7 +44,7 @@ const MOST_BYTES: usize = 4_194_304;
 const LARGE: usize = 65_536;
 
 /// How many bytes one read of the corpus may bring: more than a pipe holds, so that a read that brings as many
-/// comes from a file, which is never waited for.
+/// comes from a file, which is never waited for; and so many that threads are seldom started.
 const ROOM: usize = 16_777_216;
 
 /// What a run keeps from line to line: lines that are pending, and behind them a window of documents whose

@@ -204,7 +204,8 @@ fn append_answered<'d, P: Pool>(
     }
 }
 
-/// Puts the line of a document with these rows behind what is pending.
+/// Puts the line of a document with these rows behind what is pending, of which nothing is left where memory is
+/// wanting.
 pub(crate) fn append_line(
     alloc: Global,
     layout: &Layout<'_>,

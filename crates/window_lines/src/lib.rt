@@ -10,6 +10,7 @@
 mod answer;
 mod answers;
 mod documents;
+mod feeds;
 mod hands;
 mod lines;
 mod order;

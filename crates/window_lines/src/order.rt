@@ -1,12 +1,12 @@
 //! In which order threads take up the pieces of lines that are ready.
 
-ghost use Rattle.std.specs.Prelude.{◌<◌, ◌≤◌, ◌*◌, ℕ, IfSome, length};
+ghost use Rattle.std.specs.Prelude.{◌<◌, ◌≤◌, ◌*◌, ℕ, length};
 
-use memchr::memchr;
+use crate::feeds::{find_lf, line_begin};
 use span_token::OutOfMemory;
 use std::alloc::Global;
 
-/// Lines of so many bytes and more are large: few of them are ready at a time.
+/// Behind a line of so many bytes and more, lines are taken for large.
 const LARGE: usize = 16_384;
 
 /// The lines that begin in a piece: how many bytes they have, and the number of the piece.
@@ -19,7 +19,7 @@ struct Share {
 /// The numbers of the pieces of `bytes`, each of `size` bytes, in the order in which they are taken up.
 ///
 /// It is that of the lines, but where the line `first` that stands before them is large: then behind the first half
-/// come those pieces of the other one in which lines begin, those with the most bytes first, so that seldom a thread
+/// come those pieces of the second half in which lines begin, those with the most bytes first, so that seldom a thread
 /// has a large document left when all others are done. No clause rests on it: what is answered is put together by the
 /// places of the lines.
 pub(crate) fn order_of(
@@ -37,7 +37,7 @@ pub(crate) fn order_of(
     }
     let half = count / 2;
     let mut order = numbers_below(alloc, half)?;
-    let Some(from) = line_from(bytes, half * size) else {
+    let Some(from) = line_begin(bytes, half * size) else {
         return Ok(order);
     };
     let mut shares = shares_of(alloc, bytes, size, from)?;
@@ -46,21 +46,6 @@ pub(crate) fn order_of(
         order.push(share.piece)?;
     }
     Ok(order)
-}
-
-/// Where the first line begins from the place `from` on: there, where a line begins there, or behind the next
-/// LF. `None` where there is no LF.
-pub(crate) fn line_from(bytes: &[u8], from: usize) -> Option<usize>
-    requires within { from ≤ length bytes.now }
-    ensures within { IfSome result (λ at. at ≤ length bytes.now) }
-{
-    if from == 0 {
-        return Some(0);
-    }
-    match memchr(b'\n', &bytes[from - 1..]) {
-        Some(n) => Some(from + n),
-        None => None,
-    }
 }
 
 /// The numbers from 0 on, as many as these.
@@ -86,7 +71,7 @@ fn shares_of(
     let mut shares = Vec::new(alloc);
     let mut from = from;
     'lines: while from < bytes.len() {
-        let Some(length) = memchr(b'\n', &bytes[from..]) else {
+        let Some(length) = find_lf(&bytes[from..]) else {
             return Ok(shares);
         };
         add_line(&mut shares, from / size, length)?;

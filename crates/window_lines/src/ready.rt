@@ -3,7 +3,6 @@
 ghost use Rattle.std.specs.Prelude.{◌≡◌, ◌<◌, ◌≤◌, ◌+◌, ◌*◌, ◌^◌, ◌++◌, ◌-◌, ◌∷◌, [], ℕ, List, true, false, take, drop, Some, None, IfOk, OnOk, MatchOption, length, slice_index_or};
 ghost use Rattle.std.specs.Thread.{IsSync};
 ghost use Rattle.corpus_json.specs.Documents.{is_bad_line};
-ghost use Rattle.corpus_json.specs.Lines.{HasNoLf, FirstLfAt};
 ghost use Rattle.span_token.specs.Documents.{Doc};
 ghost use Rattle.scalar_ops.specs.Tables.{Lists};
 ghost use Rattle.window_lines.specs.declared.hands.First.TheVariants as declared_first;
@@ -13,12 +12,12 @@ ghost use Rattle.window_lines.specs.Hands.{AreParts, HasAnswered, HaveAnswered, 
 ghost use Rattle.window_lines.specs.Lines.{line_by, names_in, rows_by};
 
 use crate::answer::answer_line;
+use crate::feeds::{find_lf, line_begin};
 use crate::hands::{First, Hand, Hands, Part};
-use crate::order::{line_from, order_of};
+use crate::order::order_of;
 use crate::pending::Pending;
 use crate::stretch::stretch_count;
 use corpus_json::{LINE_LIMIT, Layout};
-use memchr::memchr;
 use plan_operators::Schedule;
 use run_pool::Pool;
 use span_token::OutOfMemory;
@@ -241,7 +240,7 @@ impl<'a, 'l, 'p, P: Pool> Ready<'a, 'l, 'p, P> {
     {
         let begin = n * self.size;
         let until = begin + self.size.min(self.bytes.len() - begin);
-        let Some(from) = line_from(&self.bytes[..until], begin) else {
+        let Some(from) = line_begin(&self.bytes[..until], begin) else {
             return Ok(());
         };
         let mut part = Part {
@@ -467,11 +466,4 @@ fn append_part(part: &mut Part, pending: &mut Pending) -> Result<Answered, OutOf
     part.count = 0;
     pending.take_text(&mut part.text)?;
     Ok(end)
-}
-
-/// The place of the first LF.
-fn find_lf(bytes: &[u8]) -> Option<usize>
-    ensures { MatchOption result (HasNoLf bytes.now) (FirstLfAt bytes.now) }
-{
-    memchr(b'\n', bytes)
 }
