@@ -46,9 +46,17 @@ def look_for_names(names, known):
         stop(f"no program {unknown[0]}: there are {', '.join(known)}")
 
 
+def processor():
+    """What the system calls the processor."""
+    for line in open("/proc/cpuinfo", encoding="utf-8"):
+        if line.startswith("model name"):
+            return line.split(":", 1)[1].strip()
+    return "unnamed"
+
+
 def machine():
     """The date, the processors and the load, for the head of a table."""
-    return f"{time.strftime('%Y-%m-%d')}, {os.cpu_count()} processors, load {os.getloadavg()[0]:.2f}"
+    return f"{time.strftime('%Y-%m-%d')}, {os.cpu_count()} processors ({processor()}), load {os.getloadavg()[0]:.2f}"
 
 
 def entries(corpus, number):

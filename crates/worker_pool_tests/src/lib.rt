@@ -6,4 +6,6 @@ mod gates;
 #[cfg(test)]
 mod plans;
 #[cfg(test)]
+mod programs;
+#[cfg(test)]
 mod tests;

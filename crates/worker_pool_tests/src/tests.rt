@@ -13,7 +13,7 @@ use std::thread::Threads;
 use worker_pool::{Crew, Finished, Gate, Open, evaluate};
 
 /// The plan on the documents, by so many workers, at least one.
-fn evaluated<'d, R: Threads + Sync, G: Gate>(
+pub(crate) fn evaluated<'d, R: Threads + Sync, G: Gate>(
     rt: &R,
     alloc: Global,
     plan: &'d Plan,
@@ -46,7 +46,10 @@ fn counts(alloc: Global, finished: Finished<'_>) -> Result<Vec<u32>, OutOfMemory
 }
 
 /// Documents of these texts, none of which is long.
-fn documents<'d>(alloc: Global, texts: &[&'d str]) -> Result<Vec<Document<'d>>, OutOfMemory> {
+pub(crate) fn documents<'d>(
+    alloc: Global,
+    texts: &[&'d str],
+) -> Result<Vec<Document<'d>>, OutOfMemory> {
     let mut docs = Vec::new(alloc);
     for text in texts {
         if text.len() > 100 {
@@ -150,7 +153,12 @@ fn claimed_by<'d>(
 }
 
 /// Whether the item is published, on the board.
-fn is_published<'d>(finished: &Finished<'d>, plan: &Plan, docs: &[Document<'d>], item: u32) -> bool
+pub(crate) fn is_published<'d>(
+    finished: &Finished<'d>,
+    plan: &Plan,
+    docs: &[Document<'d>],
+    item: u32,
+) -> bool
     requires done { IsEvaluation plan.now docs.now finished.now }
     requires few { item_count plan.now docs.now < 2 ^ 32 }
 {
