@@ -3,13 +3,13 @@
 
 usage: bench/growth.py corpus [PROGRAM ..]      the time on 2, 20 and 200 MB of mails
        bench/growth.py document [PROGRAM ..]    the time on 100 MB of one text, cut into documents of 10 KB to 10 MB
-       bench/growth.py memory [PROGRAM ..]      peak memory on 20 and 200 MB of mails
+       bench/growth.py memory [PROGRAM ..]      peak memory on 20 and 200 MB of mails and of large documents
        bench/growth.py start                    the time on an empty corpus, of the demonstration and of a dictionary with
                                                 10,000 entries, with that of /bin/true beside
 
   PROGRAM     a name that bench/run knows, or all of them but the joins
   AQLX        from the environment: the program (default: crates/aqlx/out/aqlx)
-  BENCH_DATA  the folder with mail-M.jsonl (default: bench/data)
+  BENCH_DATA  the folder with mail-M.jsonl and, for `memory`, large-M.jsonl (default: bench/data)
   ROUNDS      how often each is run (default: 3; 30 for `start`)
   TEXT        how many MB of text `document` cuts (default: 100)
 
@@ -159,15 +159,18 @@ def by_document(names, work):
 
 def memory(names, work):
     """Prints peak memory."""
-    sizes = CORPUS[1:]
-    corpora = [work / f"{size}.jsonl" for size in sizes]
-    for size, corpus in zip(sizes, corpora):
-        write_mails(size, corpus)
-    print(f"{'program':<17}" + "".join(f" {named(size):>8}" for size in sizes) + "   peak memory in MB")
+    corpora = {}
+    for size in CORPUS[1:]:
+        corpora[f"mails {named(size)}"] = work / f"{size}.jsonl"
+        write_mails(size, work / f"{size}.jsonl")
+    for times in (1, 10):
+        corpora[f"large x {times}"] = work / f"large-{times}.jsonl"
+        (work / f"large-{times}.jsonl").write_bytes((DATA / "large-M.jsonl").read_bytes() * times)
+    print(f"{'program':<17}" + "".join(f" {what:>13}" for what in corpora) + "   peak memory in MB")
     for name in names:
         words = [AQLX, "run", str(text_of(name, MAILS, work)[0]), "--workers", WORKERS]
-        peaks = [max(run(words, corpus, os.devnull, work)[1] for _ in range(ROUNDS or 3)) for corpus in corpora]
-        print(f"{name:<17}" + "".join(f" {peak:>8.1f}" for peak in peaks), flush=True)
+        peaks = [max(run(words, corpus, os.devnull, work)[1] for _ in range(ROUNDS or 3)) for corpus in corpora.values()]
+        print(f"{name:<17}" + "".join(f" {peak:>13.1f}" for peak in peaks), flush=True)
     return True
 
 
