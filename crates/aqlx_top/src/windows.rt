@@ -43,9 +43,13 @@ const MOST_BYTES: usize = 4_194_304;
 /// Lines of so many bytes go into a window, where few are ready behind them.
 const LARGE: usize = 65_536;
 
-/// How many bytes one read of the corpus may bring: more than a pipe holds, so that a read that brings as many
-/// comes from a file, which is never waited for; and so many that threads are seldom started.
-const ROOM: usize = 16_777_216;
+/// How many bytes the first read of the corpus may bring: more than a pipe holds, so that a read that brings as
+/// many comes from a file, which is never waited for.
+const ROOM: usize = 2_097_152;
+
+/// How many bytes a later read may bring, where those before it brought all that they could: so many that threads
+/// are seldom started.
+const MOST_ROOM: usize = 16_777_216;
 
 /// What a run keeps from line to line: lines that are pending, and behind them a window of documents whose
 /// lines aren't made yet, which has at most `most` documents and so many bytes of lines.
@@ -128,7 +132,7 @@ fn begin_windows<'p>(
         with_tokens,
         layout: Layout::new(alloc, outputs)?,
         workers: workers as usize,
-        reader: LineBuffer::with_room(alloc, ROOM)?,
+        reader: LineBuffer::growing(alloc, ROOM, MOST_ROOM)?,
         line: Vec::new(alloc),
         documents: DocumentReader::new(alloc),
         number: 0,

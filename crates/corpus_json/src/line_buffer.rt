@@ -22,10 +22,12 @@ const ROOM: usize = 65_536;
 
 /// The bytes that were taken from a source of lines and not given yet.
 ///
-/// It reads ahead by one buffer, whose size stays, and holds no source: each call is given it.
+/// It reads ahead by one buffer, which grows where it is told to, and holds no source: each call is given it.
 #[derive(Debug, Drop)]
 pub struct LineBuffer {
     bytes: Vec<u8>,
+    /// To how many bytes the buffer grows.
+    most: usize,
     from: usize,
     to: usize,
     past_last_lf: usize,
@@ -60,9 +62,20 @@ impl LineBuffer {
         ensures new { IfOk result (λ buffer. buffer ≡ record { ready = []; taken = 0; last = None }) }
         ensures given { IfOk result (λ buffer. (left : Option (List ℕ)) (faults : ℕ) → HasGiven left left faults faults buffer []) }
     {
+        LineBuffer::growing(alloc, room, room)
+    }
+
+    /// A buffer that took nothing yet, for reads of up to `room` bytes, and of up to twice as many each time one
+    /// fills it, up to `most` bytes. Where memory is wanting for more room, it stays.
+    pub fn growing(alloc: Global, room: usize, most: usize) -> Result<LineBuffer, OutOfMemory>
+        requires some { 0 < room }
+        ensures new { IfOk result (λ buffer. buffer ≡ record { ready = []; taken = 0; last = None }) }
+        ensures given { IfOk result (λ buffer. (left : Option (List ℕ)) (faults : ℕ) → HasGiven left left faults faults buffer []) }
+    {
         let bytes = vec![in alloc; 0; room]?;
         Ok(LineBuffer {
             bytes,
+            most,
             from: 0,
             to: 0,
             past_last_lf: 0,
@@ -194,6 +207,7 @@ impl LineBuffer {
         ensures read { Fills (S.left source.old) (S.left source.new) (S.faults source.old) (S.faults source.new) self.old self.new result }
         ensures told { is_some (S.left source.new) ≡ is_some (S.left source.old) }
     {
+        grow(&mut self.bytes, self.to, self.most);
         self.from = 0;
         self.to = 0;
         self.past_last_lf = 0;
@@ -280,6 +294,17 @@ fn last_step(step: Step, is_empty: bool) -> Step
     match step {
         Step::End => { if is_empty { Step::End } else { Step::Line } }
         other => other,
+    }
+}
+
+/// Makes twice the room, up to `most` bytes, where the last read filled it up to the end, which is where `to` is.
+fn grow(bytes: &mut Vec<u8>, to: usize, most: usize)
+    ensures { vec_len bytes.old ≤ vec_len bytes.new }
+{
+    let room = bytes.len();
+    if to == room && room < most {
+        // the room that is there does, where no more can be had
+        let _ = bytes.resize(room.saturating_mul(2).min(most), 0);
     }
 }
 

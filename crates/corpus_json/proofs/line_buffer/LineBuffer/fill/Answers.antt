@@ -9,8 +9,9 @@ pub returns-in-Ok-clause-read : goal.returns-in-Ok-clause-read
 returns-in-Ok-clause-read g c =
     let s = c.self.inside in
     let buf = c.read_most.new.buf in
-    let all = take s.bytes.len (buf ++ drop (length buf) s.bytes.items) in
-    let same : all ≡ buf = take_at buf (drop (length buf) s.bytes.items) s.bytes.len (omega arith) in
+    let room = c.grow.new.bytes in
+    let all = take room.len (buf ++ drop (length buf) room.items) in
+    let same : all ≡ buf = take_at buf (drop (length buf) room.items) room.len (omega arith) in
     fills-some (g.S.Source.left c.args.source.now) (g.S.Source.left c.read_most.new.source) (g.S.Source.faults c.args.source.now) (g.S.Source.faults c.read_most.new.source)
     all buf c.in-Ok.n s.taken s.last c.args.self.now same
     (ap (λ (r : Reading). r.taken) c.self.view_is) (ap (λ (r : Reading). r.last) c.self.view_is ∙ c.requires.going)
