@@ -300,14 +300,13 @@ fn answer_or_take<R: Threads + Sync, P: Pool>(
     }
 }
 
-/// Whether the line that was given belongs into the window: where one is begun, or the line is large, and too
-/// few are ready behind it for each worker to have lines of its own.
+/// Whether the line that was given belongs into the window: where one is begun, or the line is large, and fewer
+/// are ready behind it than there are workers.
 fn is_for_window(work: &Windowed<'_>) -> bool
     ensures { result ≡ false → work.now.window.items ≡ [] }
 {
     !work.window.is_empty()
-        || work.line.len() >= LARGE
-            && !has_lines(work.reader.ready(), work.workers.saturating_mul(2))
+        || work.line.len() >= LARGE && !has_lines(work.reader.ready(), work.workers)
 }
 
 /// Whether so many lines are there with their LF.
