@@ -35,3 +35,7 @@ Ready-sync a l p P ghosts shared = search (Schedule-sync, layout.the_sync, word.
 -- a hand may be sent: its tools, and room
 pub Hand-send : (p : NamedLft) → IsSend (Hand.the_row p)
 Hand-send p = search (tools, vec.the_send, crosses, sendable) depth 60 fits 20000
+
+-- two captures of a closure
+pub two_captured_send : (ν : Sym) (A B : RattleType) → IsSend A → IsSend B → IsSend (TupleAt ν (A ∷ B ∷ []))
+two_captured_send ν A B a b = search sendable depth 20

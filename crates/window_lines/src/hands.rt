@@ -36,6 +36,8 @@ impl<'p> Model for Hands<'p> {
 /// What one thread keeps: its tools, room for a document, and what it answered last.
 #[derive(Drop)]
 pub(crate) struct Hand<'p> {
+    /// Whether it answers the first line, as the first hand does.
+    pub leads: bool,
     pub tools: Tools<'p>,
     pub room: Room,
     pub first: First,
@@ -89,16 +91,18 @@ fn hands_for<'p>(
 {
     let mut hands = Vec::with_capacity(alloc, number as usize)?;
     for _ in 0..number {
-        hands.push(hand_for(alloc, tables)?)?;
+        let leads = hands.is_empty();
+        hands.push(hand_for(alloc, tables, leads)?)?;
     }
     Ok(hands)
 }
 
 /// A hand with tools for the tables, which answered nothing yet.
-fn hand_for<'p>(alloc: Global, tables: &'p Tables) -> Result<Hand<'p>, OutOfMemory>
+fn hand_for<'p>(alloc: Global, tables: &'p Tables, leads: bool) -> Result<Hand<'p>, OutOfMemory>
     ensures { IfOk result (λ hand. hand.tools ≡ tables.now) }
 {
     Ok(Hand {
+        leads,
         tools: Tools::new(alloc, tables)?,
         room: Room::new(alloc),
         first: First::Unknown,

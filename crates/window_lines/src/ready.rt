@@ -1,6 +1,6 @@
 //! Lines that are ready: each of several threads reads, evaluates and answers pieces of them by itself.
 
-ghost use Rattle.std.specs.Prelude.{◌≡◌, ◌<◌, ◌≤◌, ◌+◌, ◌*◌, ◌^◌, ◌++◌, ◌-◌, ◌∷◌, [], ℕ, List, true, false, take, drop, Some, None, IfOk, OnOk, MatchOption, length, slice_index_or};
+ghost use Rattle.std.specs.Prelude.{◌≡◌, ◌<◌, ◌≤◌, ◌+◌, ◌*◌, ◌^◌, ◌++◌, ◌-◌, ◌∷◌, [], ℕ, List, true, false, take, drop, Some, None, IfOk, OnOk, MatchOption, length, slice_index_or, vec_len};
 ghost use Rattle.std.specs.Thread.{IsSync};
 ghost use Rattle.corpus_json.specs.Documents.{is_bad_line};
 ghost use Rattle.span_token.specs.Documents.{Doc};
@@ -24,7 +24,7 @@ use span_token::OutOfMemory;
 use std::alloc::Global;
 use std::mem;
 use std::sync::atomic::{AtomicUsize, Ordering};
-use std::thread::{self, Threads};
+use std::thread::{self, Threads, join_mut};
 
 /// How many bytes of lines pay for the threads that answer them.
 const MANY: usize = 16_384;
@@ -124,7 +124,7 @@ pub fn append_ready<R: Threads + Sync, P: Pool>(
         order: order.as_slice(),
         next: &next,
     };
-    answer_in_threads(rt, &ready, hands.hands.as_mut_slice());
+    answer_in_threads(rt, &ready, &mut hands.hands);
     append_answered(&ready, hands.hands.as_mut_slice(), pending)
 }
 
@@ -136,34 +136,122 @@ fn piece_size(length: usize, threads: usize) -> usize
     (length / threads / PIECES).max(PIECE)
 }
 
-/// Lets the hands answer, each in a thread of its own but for the first one, where there are many bytes.
+/// Lets the hands answer, each in a thread of its own but for one of them, where there are many bytes.
+///
+/// Of four threads and more, one is started apart from the others, so that of four each is started by this one: a
+/// system may put a thread that a new thread starts onto the same processor, where the two wait for each other.
 fn answer_in_threads<R: Threads + Sync, P: Pool>(
     rt: &R,
     ready: &Ready<'_, '_, '_, P>,
-    hands: &mut [Hand<'_>],
+    hands: &mut Vec<Hand<'_>>,
 )
-    requires some { 0 < length hands.old }
+    requires some { 0 < vec_len hands.old }
     requires as_found { P.means ready.now.pool.now ≡ rows_by }
-    requires tools { HaveTools ready.now.schedule.now.lists hands.old }
-    ensures long { length hands.new ≡ length hands.old }
-    ensures tools { HaveTools ready.now.schedule.now.lists hands.new }
-    ensures answered { HaveAnswered (line_by ready.now.schedule.now) ready.now.first.now ready.now.bytes.now hands.new }
+    requires tools { HaveTools ready.now.schedule.now.lists hands.old.items }
+    ensures some { 0 < vec_len hands.new }
+    ensures few { vec_len hands.new ≤ vec_len hands.old }
+    ensures tools { HaveTools ready.now.schedule.now.lists hands.new.items }
+    ensures answered { HaveAnswered (line_by ready.now.schedule.now) ready.now.first.now ready.now.bytes.now hands.new.items }
 {
     let threads = if ready.bytes.len() >= MANY {
         hands.len().min(ready.order.len()).max(1)
     } else {
         1
     };
-    let job = |number: usize, hand: &mut Hand<'_>|
+    if threads < 4 {
+        answer_among(rt, ready, threads, hands);
+        return;
+    }
+    let Some(mut last) = hands.pop() else {
+        return;
+    };
+    answer_apart(rt, ready, threads - 1, hands, &mut last);
+    put_back(hands, last);
+}
+
+/// Puts a hand behind the others again, where it came from.
+fn put_back<'p>(hands: &mut Vec<Hand<'p>>, hand: Hand<'p>)
+    ensures some { vec_len hands.old ≤ vec_len hands.new }
+    ensures few { vec_len hands.new ≤ vec_len hands.old + 1 }
+    ensures tools { (lists : Lists) → HaveTools lists hands.old.items → hand.entry.tools ≡ lists → HaveTools lists hands.new.items }
+    ensures answered { (piece : Doc → List ℕ) (first bytes : List ℕ) → HaveAnswered piece first bytes hands.old.items → HasAnswered piece first bytes hand.entry
+        → HaveAnswered piece first bytes hands.new.items }
+{
+    // its room is there; without room the others would do
+    let _ = hands.push(hand);
+}
+
+/// Lets the hands answer in so many threads, and another one in one more.
+fn answer_apart<R: Threads + Sync, P: Pool>(
+    rt: &R,
+    ready: &Ready<'_, '_, '_, P>,
+    threads: usize,
+    hands: &mut Vec<Hand<'_>>,
+    last: &mut Hand<'_>,
+)
+    requires some { 0 < threads }
+    requires as_found { P.means ready.now.pool.now ≡ rows_by }
+    requires tools { HaveTools ready.now.schedule.now.lists hands.old.items }
+    requires last { last.old.tools ≡ ready.now.schedule.now.lists }
+    ensures long { vec_len hands.new ≡ vec_len hands.old }
+    ensures tools { HaveTools ready.now.schedule.now.lists hands.new.items × (last.new.tools ≡ ready.now.schedule.now.lists) }
+    ensures answered { HaveAnswered (line_by ready.now.schedule.now) ready.now.first.now ready.now.bytes.now hands.new.items
+        × HasAnswered (line_by ready.now.schedule.now) ready.now.first.now ready.now.bytes.now last.new }
+{
+    join_mut(
+        rt,
+        &mut ||
+            requires { IsSync P.row × (P.means ready.now.pool.now ≡ rows_by) × (last.now.tools ≡ ready.now.schedule.now.lists) }
+            ensures { (last.exit.now.tools ≡ ready.entry.now.schedule.now.lists) × HasAnswered (line_by ready.entry.now.schedule.now) ready.entry.now.first.now ready.entry.now.bytes.now last.exit.now }
+        { ready.answer(last) },
+        &mut ||
+            requires { IsSync R.row × IsSync P.row × (0 < threads) × (P.means ready.now.pool.now ≡ rows_by) × HaveTools ready.now.schedule.now.lists hands.now.items }
+            ensures { (vec_len hands.exit.now ≡ vec_len hands.entry.now) × HaveTools ready.entry.now.schedule.now.lists hands.exit.now.items × HaveAnswered (line_by ready.entry.now.schedule.now) ready.entry.now.first.now ready.entry.now.bytes.now hands.exit.now.items }
+        { answer_among(rt, ready, threads, hands) },
+    );
+}
+
+/// Lets the hands answer in so many threads.
+fn answer_among<R: Threads + Sync, P: Pool>(
+    rt: &R,
+    ready: &Ready<'_, '_, '_, P>,
+    threads: usize,
+    hands: &mut Vec<Hand<'_>>,
+)
+    requires some { 0 < threads }
+    requires as_found { P.means ready.now.pool.now ≡ rows_by }
+    requires tools { HaveTools ready.now.schedule.now.lists hands.old.items }
+    ensures long { vec_len hands.new ≡ vec_len hands.old }
+    ensures tools { HaveTools ready.now.schedule.now.lists hands.new.items }
+    ensures answered { HaveAnswered (line_by ready.now.schedule.now) ready.now.first.now ready.now.bytes.now hands.new.items }
+{
+    share_out(rt, ready, threads, hands.as_mut_slice());
+}
+
+/// The same, of hands in a row.
+fn share_out<R: Threads + Sync, P: Pool>(
+    rt: &R,
+    ready: &Ready<'_, '_, '_, P>,
+    threads: usize,
+    hands: &mut [Hand<'_>],
+)
+    requires some { 0 < threads }
+    requires as_found { P.means ready.now.pool.now ≡ rows_by }
+    requires tools { HaveTools ready.now.schedule.now.lists hands.old }
+    ensures long { length hands.new ≡ length hands.old }
+    ensures tools { HaveTools ready.now.schedule.now.lists hands.new }
+    ensures answered { HaveAnswered (line_by ready.now.schedule.now) ready.now.first.now ready.now.bytes.now hands.new }
+{
+    let job = |_number: usize, hand: &mut Hand<'_>|
         requires { IsSync P.row × (P.means ready.now.pool.now ≡ rows_by) × (hand.old.tools ≡ ready.now.schedule.now.lists) }
         ensures { (hand.new.tools ≡ ready.entry.now.schedule.now.lists) × HasAnswered (line_by ready.entry.now.schedule.now) ready.entry.now.first.now ready.entry.now.bytes.now hand.new }
-    { ready.answer(number, hand) };
+    { ready.answer(hand) };
     thread::for_each_mut(rt, hands, threads, &job);
 }
 
 impl<'a, 'l, 'p, P: Pool> Ready<'a, 'l, 'p, P> {
-    /// Answers pieces until none is left, by a part of the pool; the hand of number 0 answers the first line before.
-    fn answer(&self, number: usize, hand: &mut Hand<'_>)
+    /// Answers pieces until none is left, by a part of the pool; the hand that leads answers the first line before.
+    fn answer(&self, hand: &mut Hand<'_>)
         requires as_found { P.means self.now.pool.now ≡ rows_by }
         requires tools { hand.old.tools ≡ self.now.schedule.now.lists }
         ensures tools { hand.new.tools ≡ self.now.schedule.now.lists }
@@ -171,7 +259,7 @@ impl<'a, 'l, 'p, P: Pool> Ready<'a, 'l, 'p, P> {
     {
         hand.clear();
         let mut pool = self.pool.part(self.alloc);
-        let first = if number == 0 {
+        let first = if hand.leads {
             self.answer_first(hand, &mut pool)
         } else {
             First::Unknown

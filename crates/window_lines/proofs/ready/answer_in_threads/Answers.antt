@@ -1,10 +1,6 @@
-use denote.Exit.{no}
-use denote.Param.Send.{param_send, param_sync, arg_send, arg_sync, shr_sync}
-use Rattle.window_lines.proofs.Crosses.{Hand-send, Ready-sync, one_captured_sync}
+use Rattle.window_lines.specs.Lines.{line_by}
 use Rattle.window_lines.proofs.ready.answer_in_threads.Goals as goal
 
-pub for_each_mut-requires-send-T : goal.for_each_mut-requires-send-T
-for_each_mut-requires-send-T g c κs within = param_send 1 _ (arg_send _ no _ (Hand-send _))
-
-pub for_each_mut-requires-sync-F : goal.for_each_mut-requires-sync-F
-for_each_mut-requires-sync-F g c κs within = param_sync 2 _ (arg_sync _ no _ (one_captured_sync _ _ (shr_sync _ _ _ (Ready-sync _ _ _ _ _ c.type_bounds.sync-P))))
+pub returns-clause-answered : goal.returns-clause-answered
+returns-clause-answered g c =
+    c.put_back.ensures.answered (line_by c.args.ready.now.schedule.now) c.args.ready.now.first.now c.args.ready.now.bytes.now c.answer_apart.ensures.answered.0 c.answer_apart.ensures.answered.1
