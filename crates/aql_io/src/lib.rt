@@ -11,6 +11,7 @@ mod calls;
 mod count_sink;
 mod failed;
 mod faults;
+mod file_source;
 mod files;
 mod mem_files;
 mod mem_sink;
@@ -25,6 +26,7 @@ mod sure_source;
 
 pub use count_sink::CountSink;
 pub use failed::Failed;
+pub use file_source::FileSource;
 pub use files::Files;
 pub use mem_files::MemFiles;
 pub use mem_sink::MemSink;

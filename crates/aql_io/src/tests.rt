@@ -81,6 +81,61 @@ fn a_sure_source_gives_all_and_then_its_end(rt: HostRuntime) -> Result<(), Fail>
     Ok(())
 }
 
+/// Asks of a source that was asked to make bytes ready for these bytes, None where none are ready, in a room of 8.
+fn takes_ahead<S: Source>(
+    rt: &impl Abort,
+    alloc: Global,
+    source: &mut S,
+    most: usize,
+    want: Option<&str>,
+) -> Result<(), AllocError> {
+    let mut room = vec![in alloc; 0; 8]?;
+    match source.take_ahead(&mut room, most) {
+        Some(count) => is_piece(rt, Some(&room[..count]), want),
+        None => is_piece(rt, None, want),
+    }
+    Ok(())
+}
+
+#[test]
+fn what_is_made_ready_is_taken_once_and_by_a_read_too(rt: HostRuntime) -> Result<(), Fail> {
+    let alloc = rt.alloc();
+    let mut source = SureSource::new(b"abcdefghij".to_vec(alloc)?);
+    takes_ahead(&rt, alloc, &mut source, 8, None)?;
+    source.look_ahead(3);
+    takes_ahead(&rt, alloc, &mut source, 2, None)?;
+    takes_ahead(&rt, alloc, &mut source, 8, Some("abc"))?;
+    takes_ahead(&rt, alloc, &mut source, 8, None)?;
+    source.look_ahead(5);
+    gives(&rt, &mut source, 2, &[Some("de")]);
+    source.look_ahead(100);
+    takes_ahead(&rt, alloc, &mut source, 8, Some("fghij"))?;
+    source.look_ahead(100);
+    takes_ahead(&rt, alloc, &mut source, 8, None)?;
+    gives(&rt, &mut source, 8, &[Some("")]);
+    Ok(())
+}
+
+#[test]
+fn a_file_is_read_from_a_place_on_and_looked_ahead_in(rt: HostRuntime) -> Result<(), Fail> {
+    let alloc = rt.alloc();
+    fs::write(&rt, "looked.txt", b"abcdefghij")?;
+    let mut source = FileSource::new(alloc, fs::File::open(&rt, "looked.txt")?, 1);
+    gives(&rt, &mut source, 3, &[Some("bcd")]);
+    takes_ahead(&rt, alloc, &mut source, 8, None)?;
+    source.look_ahead(4);
+    takes_ahead(&rt, alloc, &mut source, 3, None)?;
+    takes_ahead(&rt, alloc, &mut source, 8, Some("efgh"))?;
+    source.look_ahead(4);
+    gives(&rt, &mut source, 1, &[Some("i")]);
+    source.look_ahead(4);
+    takes_ahead(&rt, alloc, &mut source, 8, Some("j"))?;
+    source.look_ahead(4);
+    takes_ahead(&rt, alloc, &mut source, 8, None)?;
+    gives(&rt, &mut source, 8, &[Some(""), Some("")]);
+    Ok(())
+}
+
 #[test]
 fn a_borrowed_source_takes_from_its_owner(rt: HostRuntime) -> Result<(), Fail> {
     let mut source = SureSource::new(b"abcdef".to_vec(rt.alloc())?);
