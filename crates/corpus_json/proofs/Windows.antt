@@ -68,8 +68,7 @@ takes-too_many bytes from to taken last before line_before is many =
     }
 
 -- the front of the buffer is ready after a read that brought some bytes; `all` is the buffer with what the read left in it
-pub fills-some : (left_before left_now : Option (List ℕ)) (faults_before faults_now : ℕ) (all buf : List ℕ) (n taken : ℕ) (last : Option Step) (before : Reading)
-    → all ≡ buf
+pub fills-some : (left_before left_now : Option (List ℕ)) (faults_before faults_now : ℕ) (buf : List ℕ) (n taken : ℕ) (last : Option Step) (before : Reading)
     → taken ≡ before.taken
     → last ≡ None
     → n ≢ 0
@@ -77,8 +76,8 @@ pub fills-some : (left_before left_now : Option (List ℕ)) (faults_before fault
     → taken + n ≤ corpus_limit
     → Consumes left_before left_now (take n buf)
     → faults_now ≡ faults_before
-    → Fills left_before left_now faults_before faults_now before record { ready = slice_range all 0 n; taken = taken + n; last = last } None
-fills-some left_before left_now faults_before faults_now all buf n taken last before same was going some within below consumed stands =
+    → Fills left_before left_now faults_before faults_now before record { ready = slice_range buf 0 n; taken = taken + n; last = last } None
+fills-some left_before left_now faults_before faults_now buf n taken last before was going some within below consumed stands =
     let front : slice_range buf 0 n ≡ take n buf = grind (arith) in
     let size : length (take n buf) ≡ n = length-take-le n buf within in
     let sum : taken + n ≡ before.taken + length (take n buf) = omega arith in

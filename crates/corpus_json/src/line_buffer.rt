@@ -65,8 +65,8 @@ impl LineBuffer {
         LineBuffer::growing(alloc, room, room)
     }
 
-    /// A buffer that took nothing yet, for reads of up to `room` bytes, and of up to twice as many each time one
-    /// fills it, up to `most` bytes. Where memory is wanting for more room, it stays.
+    /// A buffer that took nothing yet, for reads of up to `room` bytes, and of up to `most` once one fills it.
+    /// Where memory is wanting for more room, it stays.
     pub fn growing(alloc: Global, room: usize, most: usize) -> Result<LineBuffer, OutOfMemory>
         requires some { 0 < room }
         ensures new { IfOk result (λ buffer. buffer ≡ record { ready = []; taken = 0; last = None }) }
@@ -82,6 +82,15 @@ impl LineBuffer {
             taken: 0,
             last: None,
         })
+    }
+
+    /// Lets a read bring up to `most` bytes, where one before it fills the buffer: no fewer than it may so far.
+    ///
+    /// It changes no line, so no clause speaks of it.
+    pub fn grow_to(&mut self, most: usize)
+        ensures { self.new ≡ self.old }
+    {
+        self.most = self.most.max(most);
     }
 
     /// How many bytes were taken from the source in all.
@@ -207,16 +216,16 @@ impl LineBuffer {
         ensures read { Fills (S.left source.old) (S.left source.new) (S.faults source.old) (S.faults source.new) self.old self.new result }
         ensures told { is_some (S.left source.new) ≡ is_some (S.left source.old) }
     {
-        grow(&mut self.bytes, self.to, self.most);
+        let grown = if self.was_filled() { self.most } else { 0 };
         self.from = 0;
         self.to = 0;
         self.past_last_lf = 0;
-        let most = room_below(self.bytes.len(), self.taken);
+        let most = left_below(self.taken);
         if most < 1 {
             self.last = Some(Step::Limit);
             return Some(Step::Limit);
         }
-        match read_most(source, &mut self.bytes, most) {
+        match read_room(source, &mut self.bytes, grown, most) {
             Ok(0) => {
                 self.last = Some(Step::End);
                 Some(Step::End)
@@ -297,24 +306,51 @@ fn last_step(step: Step, is_empty: bool) -> Step
     }
 }
 
-/// Makes twice the room, up to `most` bytes, where the last read filled it up to the end, which is where `to` is.
-fn grow(bytes: &mut Vec<u8>, to: usize, most: usize)
-    ensures { vec_len bytes.old ≤ vec_len bytes.new }
+/// How many bytes may be taken where `taken` were.
+fn left_below(taken: u64) -> usize
+    requires { taken ≤ corpus_limit }
+    ensures { result ≡ corpus_limit - taken }
 {
-    let room = bytes.len();
-    if to == room && room < most {
-        // the room that is there does, where no more can be had
-        let _ = bytes.resize(room.saturating_mul(2).min(most), 0);
+    let left = CORPUS_LIMIT - taken;
+    left as usize
+}
+
+/// Takes up to `most` bytes from the source to the front of `room`: what it made ready, in another room, or what one read
+/// brings into this one, which is made as large as `grown` bytes before where it can.
+fn read_room<S: Source>(
+    source: &mut S,
+    room: &mut Vec<u8>,
+    grown: usize,
+    most: usize,
+) -> Result<usize, Failed>
+    requires room { 0 < vec_len room.old }
+    requires some { 1 ≤ most }
+    ensures bound { IfOk result (λ n. (n ≤ most) × (n ≤ vec_len room.new)) }
+    ensures room { 0 < vec_len room.new }
+    ensures bytes { MatchResult result
+        (λ n. Consumes (S.left source.old) (S.left source.new) (take n room.new.items) × (n ≡ 0 → IsAtEnd (S.left source.new)))
+        (λ _. Keeps (S.left source.old) (S.left source.new)) }
+    ensures told { is_some (S.left source.new) ≡ is_some (S.left source.old) }
+    ensures cause { HasCause (S.faults source.old) (S.faults source.new) result }
+{
+    match source.take_ahead(room, most) {
+        Some(n) => Ok(n),
+        None => {
+            grow(room, grown);
+            let most = room.len().min(most);
+            read_most(source, room.as_mut_slice(), most)
+        }
     }
 }
 
-/// How many bytes the next read may bring into a buffer of `room` bytes, where `taken` were taken.
-fn room_below(room: usize, taken: u64) -> usize
-    requires { taken ≤ corpus_limit }
-    ensures { result ≡ min room (corpus_limit - taken) }
+/// Makes room for `most` bytes, where there is less and memory for it.
+fn grow(bytes: &mut Vec<u8>, most: usize)
+    ensures { vec_len bytes.old ≤ vec_len bytes.new }
 {
-    let left = CORPUS_LIMIT - taken;
-    room.min(left as usize)
+    if bytes.len() < most {
+        // the room that is there does, where no more can be had
+        let _ = bytes.resize(most, 0);
+    }
 }
 
 /// Reads once into the first `most` bytes of `buf`.

@@ -124,14 +124,15 @@ fn a_line_may_have_16777216_bytes_and_not_one_more(rt: HostRuntime) -> Result<()
     Ok(())
 }
 
-/// How many bytes a buffer for reads of 4 bytes, which grows to 16, took before the read with this number fails, of
-/// a source that gives at most `piece` bytes in a read.
-fn taken_before(alloc: Global, piece: usize, failing: u64) -> Result<u64, OutOfMemory>
+/// How many bytes a buffer for reads of 4 bytes, which grows to 8 and is let grow to `most`, took before the read with
+/// this number fails, of a source that gives at most `piece` bytes in a read.
+fn taken_before(alloc: Global, most: usize, piece: usize, failing: u64) -> Result<u64, OutOfMemory>
     requires { 1 ≤ piece }
 {
     let bytes = vec![in alloc; b'\n'; 100]?;
     let mut source = MemSource::new(bytes, piece, [failing].to_vec(alloc)?);
-    let mut lines = LineBuffer::growing(alloc, 4, 16)?;
+    let mut lines = LineBuffer::growing(alloc, 4, 8)?;
+    lines.grow_to(most);
     let mut line = Vec::new(alloc);
     for _ in 0..100 {
         if lines.next_line(&mut source, &mut line)? == Step::Failed {
@@ -144,19 +145,20 @@ fn taken_before(alloc: Global, piece: usize, failing: u64) -> Result<u64, OutOfM
 #[test]
 fn a_buffer_grows_with_reads_that_fill_it(rt: HostRuntime) -> Result<(), Fail> {
     let alloc = rt.alloc();
-    // 4, 8, 16 and 16 bytes, where the source gives so many; else 4 bytes, and then 5 each time, which don't fill 8
-    for (piece, failing, wanted) in [
-        (99, 2, 4),
-        (99, 3, 12),
-        (99, 4, 28),
-        (99, 5, 44),
-        (5, 2, 4),
-        (5, 4, 14),
+    // 4 bytes and then 16 or 8, where the source gives so many; else 4 bytes, and then 5 each time, which don't fill 16
+    for (most, piece, failing, wanted) in [
+        (16, 99, 2, 4),
+        (16, 99, 3, 20),
+        (16, 99, 4, 36),
+        (8, 99, 3, 12),
+        (2, 99, 4, 20),
+        (16, 5, 2, 4),
+        (16, 5, 4, 14),
     ] {
         assert_eq!(rt;
-            taken_before(alloc, piece, failing)?,
+            taken_before(alloc, most, piece, failing)?,
             wanted,
-            "pieces of {piece} bytes, where the read {failing} fails"
+            "up to {most} bytes, pieces of {piece}, where the read {failing} fails"
         );
     }
     Ok(())
