@@ -17,6 +17,7 @@ use crate::hands::{First, Hand, Hands, Part};
 use crate::order::order_of;
 use crate::pending::Pending;
 use crate::stretch::stretch_count;
+use aql_io::Source;
 use corpus_json::{LINE_LIMIT, Layout};
 use plan_operators::Schedule;
 use run_pool::Pool;
@@ -77,6 +78,9 @@ struct Ready<'a, 'l, 'p, P: Pool> {
 /// pays where there are more lines than threads, and otherwise one does, without a thread. A bad line ends
 /// what is answered. `None` where the first line is bad, and nothing is put then.
 ///
+/// Meanwhile the corpus makes ready what the next read brings, up to `ahead` bytes, where several threads answer. Nothing is
+/// read by that: what is left of the corpus stays.
+///
 /// Each document is handed to a part of the pool by the thread that evaluates it, and what the part answers is
 /// written. The pool answers what is found and keeps no list, so nothing is gathered of its parts.
 ///
@@ -86,7 +90,7 @@ struct Ready<'a, 'l, 'p, P: Pool> {
 ///
 /// Meaning: `IsAnswered`, `specs/Answered.antt`; `line_by`, `specs/Lines.antt`: for each output the value of its
 /// node on the document.
-pub fn append_ready<R: Threads + Sync, P: Pool>(
+pub fn append_ready<R: Threads + Sync, P: Pool, S: Source>(
     rt: &R,
     alloc: Global,
     schedule: &Schedule<'_>,
@@ -94,6 +98,8 @@ pub fn append_ready<R: Threads + Sync, P: Pool>(
     layout: &Layout<'_>,
     hands: &mut Hands<'_>,
     pool: &P,
+    corpus: &mut S,
+    ahead: usize,
     first: &[u8],
     bytes: &[u8],
     pending: &mut Pending,
@@ -106,6 +112,8 @@ pub fn append_ready<R: Threads + Sync, P: Pool>(
         ((is_bad_line first.now ≡ true) × (pending.new ≡ pending.old))
         (λ taken. IsAnswered (line_by schedule.now) first.now bytes.now taken pending.old pending.new)) }
     ensures same { hands.new ≡ hands.old }
+    ensures left { S.left corpus.new ≡ S.left corpus.old }
+    ensures faults { S.faults corpus.new ≡ S.faults corpus.old }
 {
     let next = AtomicUsize::new(0);
     let size = piece_size(bytes.len(), hands.hands.len());
@@ -124,7 +132,7 @@ pub fn append_ready<R: Threads + Sync, P: Pool>(
         order: order.as_slice(),
         next: &next,
     };
-    answer_in_threads(rt, &ready, &mut hands.hands);
+    answer_in_threads(rt, &ready, &mut hands.hands, corpus, ahead);
     append_answered(&ready, hands.hands.as_mut_slice(), pending)
 }
 
@@ -136,14 +144,14 @@ fn piece_size(length: usize, threads: usize) -> usize
     (length / threads / PIECES).max(PIECE)
 }
 
-/// Lets the hands answer, each in a thread of its own but for one of them, where there are many bytes.
-///
-/// Of four threads and more, one is started apart from the others, so that of four each is started by this one: a
-/// system may put a thread that a new thread starts onto the same processor, where the two wait for each other.
-fn answer_in_threads<R: Threads + Sync, P: Pool>(
+/// Lets the hands answer, each in a thread of its own but for the first one, where there are many bytes; meanwhile the
+/// corpus makes ready what the next read brings.
+fn answer_in_threads<R: Threads + Sync, P: Pool, S: Source>(
     rt: &R,
     ready: &Ready<'_, '_, '_, P>,
     hands: &mut Vec<Hand<'_>>,
+    corpus: &mut S,
+    ahead: usize,
 )
     requires some { 0 < vec_len hands.old }
     requires as_found { P.means ready.now.pool.now ≡ rows_by }
@@ -152,21 +160,85 @@ fn answer_in_threads<R: Threads + Sync, P: Pool>(
     ensures few { vec_len hands.new ≤ vec_len hands.old }
     ensures tools { HaveTools ready.now.schedule.now.lists hands.new.items }
     ensures answered { HaveAnswered (line_by ready.now.schedule.now) ready.now.first.now ready.now.bytes.now hands.new.items }
+    ensures left { S.left corpus.new ≡ S.left corpus.old }
+    ensures faults { S.faults corpus.new ≡ S.faults corpus.old }
 {
-    let threads = if ready.bytes.len() >= MANY {
-        hands.len().min(ready.order.len()).max(1)
+    let threads = hands.len().min(ready.order.len());
+    if threads < 2 || ready.bytes.len() < MANY {
+        answer_alone(rt, ready, hands);
     } else {
-        1
-    };
-    if threads < 4 {
-        answer_among(rt, ready, threads, hands);
+        answer_by(rt, ready, threads, hands, corpus, ahead);
+    }
+}
+
+/// Lets the hands answer in so many threads, of which this one starts all others: a system may put a thread that a new
+/// thread starts onto the same processor, where the two wait for each other. This one looks ahead before it answers.
+#[cycle(threads)]
+fn answer_by<R: Threads + Sync, P: Pool, S: Source>(
+    rt: &R,
+    ready: &Ready<'_, '_, '_, P>,
+    threads: usize,
+    hands: &mut Vec<Hand<'_>>,
+    corpus: &mut S,
+    ahead: usize,
+)
+    requires shared { IsSync R.row × IsSync P.row }
+    requires some { 0 < vec_len hands.old }
+    requires as_found { P.means ready.now.pool.now ≡ rows_by }
+    requires tools { HaveTools ready.now.schedule.now.lists hands.old.items }
+    ensures some { 0 < vec_len hands.new }
+    ensures few { vec_len hands.new ≤ vec_len hands.old }
+    ensures tools { HaveTools ready.now.schedule.now.lists hands.new.items }
+    ensures answered { HaveAnswered (line_by ready.now.schedule.now) ready.now.first.now ready.now.bytes.now hands.new.items }
+    ensures left { S.left corpus.new ≡ S.left corpus.old }
+    ensures faults { S.faults corpus.new ≡ S.faults corpus.old }
+{
+    if threads < 2 || hands.len() < 2 {
+        corpus.look_ahead(ahead);
+        answer_alone(rt, ready, hands);
         return;
     }
     let Some(mut last) = hands.pop() else {
         return;
     };
-    answer_apart(rt, ready, threads - 1, hands, &mut last);
+    answer_beside(rt, ready, threads - 1, hands, &mut last, corpus, ahead);
     put_back(hands, last);
+}
+
+/// Lets the hands answer in so many threads, and another one in one more.
+#[cycle(threads)]
+fn answer_beside<R: Threads + Sync, P: Pool, S: Source>(
+    rt: &R,
+    ready: &Ready<'_, '_, '_, P>,
+    threads: usize,
+    hands: &mut Vec<Hand<'_>>,
+    last: &mut Hand<'_>,
+    corpus: &mut S,
+    ahead: usize,
+)
+    requires shared { IsSync R.row × IsSync P.row }
+    requires some { 0 < vec_len hands.old }
+    requires as_found { P.means ready.now.pool.now ≡ rows_by }
+    requires tools { HaveTools ready.now.schedule.now.lists hands.old.items }
+    requires last { last.old.tools ≡ ready.now.schedule.now.lists }
+    ensures some { 0 < vec_len hands.new }
+    ensures few { vec_len hands.new ≤ vec_len hands.old }
+    ensures tools { HaveTools ready.now.schedule.now.lists hands.new.items × (last.new.tools ≡ ready.now.schedule.now.lists) }
+    ensures answered { HaveAnswered (line_by ready.now.schedule.now) ready.now.first.now ready.now.bytes.now hands.new.items
+        × HasAnswered (line_by ready.now.schedule.now) ready.now.first.now ready.now.bytes.now last.new }
+    ensures left { S.left corpus.new ≡ S.left corpus.old }
+    ensures faults { S.faults corpus.new ≡ S.faults corpus.old }
+{
+    let mut one = ||
+        requires { IsSync P.row × (P.means ready.now.pool.now ≡ rows_by) × (last.now.tools ≡ ready.now.schedule.now.lists) }
+        ensures { (last.exit.now.tools ≡ ready.entry.now.schedule.now.lists) × HasAnswered (line_by ready.entry.now.schedule.now) ready.entry.now.first.now ready.entry.now.bytes.now last.exit.now }
+    { ready.answer(last) };
+    let mut others = ||
+        requires { IsSync R.row × IsSync P.row × (0 < vec_len hands.now) × (P.means ready.now.pool.now ≡ rows_by) × HaveTools ready.now.schedule.now.lists hands.now.items }
+        ensures { (0 < vec_len hands.exit.now) × (vec_len hands.exit.now ≤ vec_len hands.entry.now) × HaveTools ready.entry.now.schedule.now.lists hands.exit.now.items × HaveAnswered (line_by ready.entry.now.schedule.now) ready.entry.now.first.now ready.entry.now.bytes.now hands.exit.now.items
+            × (S.left corpus.exit.now ≡ S.left corpus.entry.now) × (S.faults corpus.exit.now ≡ S.faults corpus.entry.now) }
+    { answer_by(rt, ready, threads, hands, corpus, ahead) };
+    join_mut(rt, &mut one, &mut others);
 }
 
 /// Puts a hand behind the others again, where it came from.
@@ -181,51 +253,19 @@ fn put_back<'p>(hands: &mut Vec<Hand<'p>>, hand: Hand<'p>)
     let _ = hands.push(hand);
 }
 
-/// Lets the hands answer in so many threads, and another one in one more.
-fn answer_apart<R: Threads + Sync, P: Pool>(
+/// Lets the hands answer in this thread: the first one, and all others find nothing left.
+fn answer_alone<R: Threads + Sync, P: Pool>(
     rt: &R,
     ready: &Ready<'_, '_, '_, P>,
-    threads: usize,
-    hands: &mut Vec<Hand<'_>>,
-    last: &mut Hand<'_>,
-)
-    requires some { 0 < threads }
-    requires as_found { P.means ready.now.pool.now ≡ rows_by }
-    requires tools { HaveTools ready.now.schedule.now.lists hands.old.items }
-    requires last { last.old.tools ≡ ready.now.schedule.now.lists }
-    ensures long { vec_len hands.new ≡ vec_len hands.old }
-    ensures tools { HaveTools ready.now.schedule.now.lists hands.new.items × (last.new.tools ≡ ready.now.schedule.now.lists) }
-    ensures answered { HaveAnswered (line_by ready.now.schedule.now) ready.now.first.now ready.now.bytes.now hands.new.items
-        × HasAnswered (line_by ready.now.schedule.now) ready.now.first.now ready.now.bytes.now last.new }
-{
-    join_mut(
-        rt,
-        &mut ||
-            requires { IsSync P.row × (P.means ready.now.pool.now ≡ rows_by) × (last.now.tools ≡ ready.now.schedule.now.lists) }
-            ensures { (last.exit.now.tools ≡ ready.entry.now.schedule.now.lists) × HasAnswered (line_by ready.entry.now.schedule.now) ready.entry.now.first.now ready.entry.now.bytes.now last.exit.now }
-        { ready.answer(last) },
-        &mut ||
-            requires { IsSync R.row × IsSync P.row × (0 < threads) × (P.means ready.now.pool.now ≡ rows_by) × HaveTools ready.now.schedule.now.lists hands.now.items }
-            ensures { (vec_len hands.exit.now ≡ vec_len hands.entry.now) × HaveTools ready.entry.now.schedule.now.lists hands.exit.now.items × HaveAnswered (line_by ready.entry.now.schedule.now) ready.entry.now.first.now ready.entry.now.bytes.now hands.exit.now.items }
-        { answer_among(rt, ready, threads, hands) },
-    );
-}
-
-/// Lets the hands answer in so many threads.
-fn answer_among<R: Threads + Sync, P: Pool>(
-    rt: &R,
-    ready: &Ready<'_, '_, '_, P>,
-    threads: usize,
     hands: &mut Vec<Hand<'_>>,
 )
-    requires some { 0 < threads }
     requires as_found { P.means ready.now.pool.now ≡ rows_by }
     requires tools { HaveTools ready.now.schedule.now.lists hands.old.items }
     ensures long { vec_len hands.new ≡ vec_len hands.old }
     ensures tools { HaveTools ready.now.schedule.now.lists hands.new.items }
     ensures answered { HaveAnswered (line_by ready.now.schedule.now) ready.now.first.now ready.now.bytes.now hands.new.items }
 {
-    share_out(rt, ready, threads, hands.as_mut_slice());
+    share_out(rt, ready, 1, hands.as_mut_slice());
 }
 
 /// The same, of hands in a row.

@@ -3,7 +3,7 @@ use Rattle.std.proofs.Common.{rules, ◌≡◌, length, drop, subst, sym}
 use Rattle.std.proofs.lemmas.List.{take_at}
 use Rattle.window_lines.specs.Hands.{HaveAnswered, HaveTools}
 use Rattle.window_lines.specs.Lines.{line_by}
-use Rattle.window_lines.proofs.ready.answer_among.Goals as goal
+use Rattle.window_lines.proofs.ready.answer_alone.Goals as goal
 
 pub returns-clause-tools : goal.returns-clause-tools
 returns-clause-tools g c =
