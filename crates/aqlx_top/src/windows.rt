@@ -40,15 +40,19 @@ const MOST_DOCUMENTS: u32 = 64;
 /// How many bytes of lines make a window full.
 const MOST_BYTES: usize = 4_194_304;
 
-/// Lines of so many bytes go into a window, where few are ready behind them.
+/// Lines of so many bytes are large: they go into a window, where few are ready behind them.
 const LARGE: usize = 65_536;
 
 /// How many bytes the first read of the corpus may bring: more than a pipe holds, so that a read that brings as
 /// many comes from a file, which is never waited for.
 const ROOM: usize = 2_097_152;
 
-/// How many bytes a later read may bring, where those before it brought all that they could: so many that threads
-/// are seldom started.
+/// How many bytes for each worker a later read may bring, where one before it brought all that it could: so many that
+/// threads are seldom started, and so few that they are still near the processor when they are looked at.
+const ROOM_EACH: usize = 1_048_576;
+
+/// How many bytes a later read may bring where lines are large, or workers are many: so many that each worker has some
+/// of the large ones.
 const MOST_ROOM: usize = 16_777_216;
 
 /// What a run keeps from line to line: lines that are pending, and behind them a window of documents whose
@@ -63,6 +67,8 @@ pub(crate) struct Windowed<'p> {
     pub layout: Layout<'p>,
     pub workers: usize,
     pub reader: LineBuffer,
+    /// How many bytes a read may bring.
+    pub room: usize,
     pub line: Vec<u8>,
     pub documents: DocumentReader,
     pub number: u64,
@@ -124,6 +130,7 @@ fn begin_windows<'p>(
 {
     let schedule = Schedule::new(alloc, plan)?;
     let with_tokens = asks_for_tokens(&schedule);
+    let room = room_for(workers);
     Ok(Windowed {
         plan,
         schedule,
@@ -132,7 +139,8 @@ fn begin_windows<'p>(
         with_tokens,
         layout: Layout::new(alloc, outputs)?,
         workers: workers as usize,
-        reader: LineBuffer::growing(alloc, ROOM, MOST_ROOM)?,
+        reader: LineBuffer::growing(alloc, ROOM, room)?,
+        room,
         line: Vec::new(alloc),
         documents: DocumentReader::new(alloc),
         number: 0,
@@ -141,6 +149,18 @@ fn begin_windows<'p>(
         bytes: 0,
         pending: Pending::new(alloc),
     })
+}
+
+/// How many bytes a read may bring for so many workers, where lines aren't large.
+fn room_for(workers: u32) -> usize {
+    (workers as usize)
+        .saturating_mul(ROOM_EACH)
+        .clamp(ROOM, MOST_ROOM)
+}
+
+/// How many bytes a read may bring at least behind a line: many behind a large one.
+fn room_behind(line: &[u8]) -> usize {
+    if line.len() >= LARGE { MOST_ROOM } else { ROOM }
 }
 
 /// How many documents a window may have, so that the nodes of the plan on them are fewer than 2^32.
@@ -245,7 +265,7 @@ fn take_line<R: Threads + Sync, S: Source, P: Pool>(
             work.number += 1;
             // no more bytes were taken than a corpus has, which bounds the number of lines
             let _taken = work.reader.taken();
-            take_given(rt, alloc, work, pool)
+            take_given(rt, alloc, work, pool, corpus)
         }
         Step::End => Ok(Turn::Ended(Status::Done)),
         Step::Long => Ok(Turn::Ended(Status::Corpus(CorpusFault::LineLong(work.number + 1)))),
@@ -255,11 +275,12 @@ fn take_line<R: Threads + Sync, S: Source, P: Pool>(
 }
 
 /// Puts the document of the line that was given into the window, or answers that line and those that are ready.
-fn take_given<R: Threads + Sync, P: Pool>(
+fn take_given<R: Threads + Sync, S: Source, P: Pool>(
     rt: &R,
     alloc: Global,
     work: &mut Windowed<'_>,
     pool: &P,
+    corpus: &mut S,
 ) -> Result<Turn, OutOfMemory>
     requires fits { Fits work.old.plan.now work.old }
     requires as_found { P.means pool.now ≡ rows_by }
@@ -268,21 +289,24 @@ fn take_given<R: Threads + Sync, P: Pool>(
     requires line { length work.old.line.items ≤ line_limit }
     ensures given { IfOk result (IsGiven (line_by work.old.plan.now) work.old work.new) }
     ensures fits { IfOk result (λ _. (plan : Parts) → Fits plan work.old → Fits plan work.new) }
+    ensures left { S.left corpus.new ≡ S.left corpus.old }
+    ensures faults { S.faults corpus.new ≡ S.faults corpus.old }
 {
     if is_for_window(work) {
         take_document(alloc, work)
     } else {
-        answer_or_take(rt, alloc, work, pool)
+        answer_or_take(rt, alloc, work, pool, corpus)
     }
 }
 
 /// Answers the line that was given and those that are ready, or puts the document of that one into the window
 /// where it can't.
-fn answer_or_take<R: Threads + Sync, P: Pool>(
+fn answer_or_take<R: Threads + Sync, S: Source, P: Pool>(
     rt: &R,
     alloc: Global,
     work: &mut Windowed<'_>,
     pool: &P,
+    corpus: &mut S,
 ) -> Result<Turn, OutOfMemory>
     requires fits { Fits work.old.plan.now work.old }
     requires as_found { P.means pool.now ≡ rows_by }
@@ -292,8 +316,10 @@ fn answer_or_take<R: Threads + Sync, P: Pool>(
     requires empty { work.old.window.items ≡ [] }
     ensures given { IfOk result (IsGiven (line_by work.old.plan.now) work.old work.new) }
     ensures fits { IfOk result (λ _. (plan : Parts) → Fits plan work.old → Fits plan work.new) }
+    ensures left { S.left corpus.new ≡ S.left corpus.old }
+    ensures faults { S.faults corpus.new ≡ S.faults corpus.old }
 {
-    if answer_ready(rt, alloc, work, pool)? {
+    if answer_ready(rt, alloc, work, pool, corpus)? {
         Ok(Turn::Next)
     } else {
         take_document(alloc, work)
@@ -323,11 +349,12 @@ fn has_lines(bytes: &[u8], number: usize) -> bool {
 
 /// Answers the line that was given and those that are ready, as far as none is bad. False where that one is
 /// bad: then nothing is answered.
-fn answer_ready<R: Threads + Sync, P: Pool>(
+fn answer_ready<R: Threads + Sync, S: Source, P: Pool>(
     rt: &R,
     alloc: Global,
     work: &mut Windowed<'_>,
     pool: &P,
+    corpus: &mut S,
 ) -> Result<bool, OutOfMemory>
     requires fits { Fits work.old.plan.now work.old }
     requires as_found { P.means pool.now ≡ rows_by }
@@ -336,7 +363,11 @@ fn answer_ready<R: Threads + Sync, P: Pool>(
     ensures answered { IfOk result (λ answered. answered ≡ true → HasAnswered (line_by work.old.plan.now) work.old work.new) }
     ensures none { IfOk result (λ answered. answered ≡ false → IsAsBefore work.old work.new) }
     ensures fits { IfOk result (λ _. (plan : Parts) → Fits plan work.old → Fits plan work.new) }
+    ensures left { S.left corpus.new ≡ S.left corpus.old }
+    ensures faults { S.faults corpus.new ≡ S.faults corpus.old }
 {
+    work.room = work.room.max(room_behind(&work.line));
+    work.reader.grow_to(work.room);
     let told = append_ready(
         rt,
         alloc,
@@ -345,6 +376,8 @@ fn answer_ready<R: Threads + Sync, P: Pool>(
         &work.layout,
         &mut work.hands,
         pool,
+        corpus,
+        work.room,
         &work.line,
         work.reader.ready(),
         &mut work.pending,

@@ -44,8 +44,9 @@ returns-in-Limit-clause-turned g c = λ plan left faults before now own s.
 pub returns-in-Line-clause-turned : goal.returns-in-Line-clause-turned
 returns-in-Line-clause-turned g c = λ plan left faults before now own s.
     let next = rw c.in-Line.is at c.in_ok-next_line.ensures.answer in
-    more.given_result (line_by plan) left (g.S.Source.left c.args.corpus.now) (g.S.Source.left c.next_line.new.source) faults (g.S.Source.faults c.args.corpus.now) (g.S.Source.faults c.next_line.new.source) before now
-    c.args.work.now.reader c.args.work.now.pending c.args.work.now.window.items c.args.work.now.number _ c.take_given.new.work s c.requires.going next c.taken-taken.ensures.below refl refl refl c.take_given.result (rw own at c.take_given.ensures.given)
+    rw (c.take_given.ensures.left, c.take_given.ensures.faults)
+    (more.given_result (line_by plan) left (g.S.Source.left c.args.corpus.now) (g.S.Source.left c.next_line.new.source) faults (g.S.Source.faults c.args.corpus.now) (g.S.Source.faults c.next_line.new.source) before now
+    c.args.work.now.reader c.args.work.now.pending c.args.work.now.window.items c.args.work.now.number _ c.take_given.new.work s c.requires.going next c.taken-taken.ensures.below refl refl refl c.take_given.result (rw own at c.take_given.ensures.given))
 
 pub returns-in-Line-clause-counts : goal.returns-in-Line-clause-counts
 returns-in-Line-clause-counts g c =
