@@ -10,7 +10,7 @@ use aqlx_top::aqlx;
 use run_pool::Workers;
 use span_token::OutOfMemory;
 use std::alloc::Global;
-use std::io::ErrorKind;
+use std::io::{ErrorKind, Seek, SeekFrom};
 use std::process::ExitCode;
 use std::rt::Env;
 use std::thread::Threads;
@@ -35,13 +35,13 @@ fn words(alloc: Global, rt: &(impl Env + AllocGlobal)) -> Result<Vec<String>, Ou
 }
 
 /// The name under which the system has standard input.
-const STANDARD_INPUT: &str = "/dev/stdin";
+const STANDARD_INPUT: &str = "/proc/self/fd/0";
 
 /// Where the system tells the place of standard input.
 const ITS_PLACE: &str = "/proc/self/fdinfo/0";
 
-/// Standard input as a file, and its place in bytes, where it is a regular file that can be opened once more. Of anything
-/// else, as a pipe, nothing is opened, since that may wait.
+/// Standard input as a file, and its place in bytes, where it is a regular file that has places and can be opened once
+/// more. Of anything else, as a pipe, nothing is opened, since that may wait.
 fn standard_file<R: rt::Files + AllocGlobal>(rt: &R) -> Option<(R::File, u64)> {
     let is_file = fs::metadata(rt, STANDARD_INPUT).ok()?.is_file();
     if !is_file {
@@ -49,7 +49,8 @@ fn standard_file<R: rt::Files + AllocGlobal>(rt: &R) -> Option<(R::File, u64)> {
     }
     let told = fs::read_to_string(rt, ITS_PLACE).ok()?;
     let place = place_told(&told)?;
-    let file = fs::open(rt, STANDARD_INPUT).ok()?;
+    let mut file = fs::open(rt, STANDARD_INPUT).ok()?;
+    file.seek(SeekFrom::Start(place)).ok()?;
     Some((file, place))
 }
 

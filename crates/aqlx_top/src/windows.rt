@@ -163,6 +163,15 @@ fn room_behind(line: &[u8]) -> usize {
     if line.len() >= LARGE { MOST_ROOM } else { ROOM }
 }
 
+/// How many bytes are looked at ahead: as many as a read may bring, where the last one brought all that it could.
+fn room_ahead(work: &Windowed<'_>) -> usize {
+    if work.reader.was_filled() {
+        work.room
+    } else {
+        0
+    }
+}
+
 /// How many documents a window may have, so that the nodes of the plan on them are fewer than 2^32.
 fn most_documents(plan: &Plan) -> u32
     ensures some { 0 < result }
@@ -368,6 +377,7 @@ fn answer_ready<R: Threads + Sync, S: Source, P: Pool>(
 {
     work.room = work.room.max(room_behind(&work.line));
     work.reader.grow_to(work.room);
+    let ahead = room_ahead(work);
     let told = append_ready(
         rt,
         alloc,
@@ -377,7 +387,7 @@ fn answer_ready<R: Threads + Sync, S: Source, P: Pool>(
         &mut work.hands,
         pool,
         corpus,
-        work.room,
+        ahead,
         &work.line,
         work.reader.ready(),
         &mut work.pending,
@@ -402,6 +412,8 @@ fn take_document(alloc: Global, work: &mut Windowed<'_>) -> Result<Turn, OutOfMe
 {
     let good = put_document(alloc, &mut work.documents, &work.line, &mut work.window)?;
     if good {
+        work.room = work.room.max(room_behind(&work.line));
+        work.reader.grow_to(work.room);
         work.bytes = work.bytes.saturating_add(work.line.len());
         Ok(Turn::Next)
     } else {
