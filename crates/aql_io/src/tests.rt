@@ -1,7 +1,9 @@
 use super::*;
 use std::alloc::{AllocError, Global};
+use std::cell::Cell;
 use std::collections::BTreeMap;
 use std::io::{Cursor, Read, Write};
+use std::os::unix::fs::FileExt;
 use std::process::Abort;
 use std::test::Fail;
 use std::{fs, io};
@@ -133,6 +135,54 @@ fn a_file_is_read_from_a_place_on_and_looked_ahead_in(rt: HostRuntime) -> Result
     source.look_ahead(4);
     takes_ahead(&rt, alloc, &mut source, 8, None)?;
     gives(&rt, &mut source, 8, &[Some(""), Some("")]);
+    Ok(())
+}
+
+/// A file of `abcdef` whose reads with these numbers, from 1, fail.
+#[derive(Drop)]
+struct Faulty {
+    fails: [u64; 2],
+    made: Cell<u64>,
+}
+
+impl FileExt for Faulty {
+    fn read_at(&self, buf: &mut [u8], offset: u64) -> io::Result<usize> {
+        let made = self.made.get().saturating_add(1);
+        self.made.set(made);
+        if self.fails[0] == made || self.fails[1] == made {
+            return Err(io::Error::from(io::ErrorKind::Other));
+        }
+        let bytes = b"abcdef".as_slice();
+        let from = bytes.len().min(offset as usize);
+        let n = buf.len().min(bytes.len() - from);
+        buf[..n].copy_from_slice(&bytes[from..from + n]);
+        Ok(n)
+    }
+
+    fn write_at(&self, _buf: &[u8], _offset: u64) -> io::Result<usize> {
+        Ok(0)
+    }
+}
+
+#[test]
+fn a_look_that_fails_is_no_read_and_a_read_that_fails_takes_nothing(
+    rt: HostRuntime,
+) -> Result<(), Fail> {
+    let alloc = rt.alloc();
+    let file = Faulty {
+        fails: [2, 3],
+        made: Cell::new(0),
+    };
+    let mut source = FileSource::new(alloc, file, 0);
+    gives(&rt, &mut source, 2, &[Some("ab")]);
+    source.look_ahead(4);
+    takes_ahead(&rt, alloc, &mut source, 8, None)?;
+    gives(
+        &rt,
+        &mut source,
+        3,
+        &[None, Some("cde"), Some("f"), Some("")],
+    );
     Ok(())
 }
 
