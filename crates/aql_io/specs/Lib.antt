@@ -10,3 +10,5 @@ pub mod Held
 pub mod Room
 -- what contracts see of an adapter over an object of std
 pub mod Counting
+-- what contracts see of a file that is read at places
+pub mod Places

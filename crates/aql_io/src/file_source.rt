@@ -1,6 +1,7 @@
-ghost use Rattle.std.specs.Prelude.{◌≡◌, ◌<◌, ◌≤◌, None, IfSome, vec_len};
+ghost use Rattle.std.specs.Prelude.{◌≡◌, ◌<◌, ◌≤◌, None, IfOk, IfSome, OnErr, vec_len};
 ghost use Rattle.std.specs.Io.{ReadsAtMost};
 ghost use Rattle.aql_io.specs.Causes.{HasCause};
+ghost use Rattle.aql_io.specs.Places.{behind};
 
 use crate::faults::Faults;
 use crate::{Failed, Source};
@@ -25,11 +26,11 @@ pub struct FileSource<F> {
 
 impl<F> Model for FileSource<F> {
     ghost use Rattle.std.specs.Prelude.{◌≤◌, vec_len};
-    ghost use Rattle.aql_io.specs.Counting.{Counting};
+    ghost use Rattle.aql_io.specs.Places.{Placed};
 
-    ghost Value = { Counting F };
+    ghost Value = { Placed F };
 
-    ghost view = { λ s. record { inner = s.file; faults = s.faults } };
+    ghost view = { λ s. record { file = s.file; at = s.at; faults = s.faults } };
 
     ghost invariant = { λ s. s.count ≤ vec_len s.ahead };
 }
@@ -37,7 +38,7 @@ impl<F> Model for FileSource<F> {
 impl<F> FileSource<F> {
     /// A source of what stands in `file` from the place `at` on, in bytes.
     pub fn new(alloc: Global, file: F, at: u64) -> FileSource<F>
-        ensures { result ≡ record { inner = file; faults = 0 } }
+        ensures { result ≡ record { file = file; at = at; faults = 0 } }
     {
         FileSource {
             file,
@@ -54,10 +55,13 @@ impl<F: FileExt> Source for FileSource<F> {
 
     ghost faults = { λ s. s.faults };
 
-    /// Gives what one read of the file gives at the place.
+    /// Gives what one read of the file gives at the place, and goes on behind it.
     fn read(&mut self, buf: &mut [u8]) -> Result<usize, Failed>
         ensures bound { ReadsAtMost result buf.new }
         ensures cause { HasCause self.old.faults self.new.faults result }
+        ensures file { self.new.file ≡ self.old.file }
+        ensures moved { IfOk result (λ n. self.new.at ≡ behind self.old.at n) }
+        ensures stays { OnErr result (self.new.at ≡ self.old.at) }
     {
         self.count = 0;
         match self.file.read_at(buf, self.at) {
@@ -71,10 +75,10 @@ impl<F: FileExt> Source for FileSource<F> {
 
     /// Looks at up to `most` bytes from the place on, and keeps them for the next read.
     fn look_ahead(&mut self, most: usize)
-        ensures faults { self.new.faults ≡ self.old.faults }
+        ensures same { self.new ≡ self.old }
     {
         self.count = 0;
-        if self.ahead.len() != most && self.ahead.resize(most, 0).is_err() {
+        if most == 0 || self.ahead.len() != most && self.ahead.resize(most, 0).is_err() {
             return;
         }
         if let Ok(n) = self.file.read_at(&mut self.ahead, self.at) {
@@ -82,11 +86,12 @@ impl<F: FileExt> Source for FileSource<F> {
         }
     }
 
-    /// Gives the room in which the bytes stand that were looked at.
+    /// Gives the room in which the bytes stand that were looked at, and goes on behind them.
     fn take_ahead(&mut self, room: &mut Vec<u8>, most: usize) -> Option<usize>
         ensures bound { IfSome result (λ n. (0 < n) × (n ≤ most) × (n ≤ vec_len room.new)) }
         ensures faults { self.new.faults ≡ self.old.faults }
-        ensures none { result ≡ None → room.new ≡ room.old }
+        ensures none { result ≡ None → (room.new ≡ room.old) × (self.new ≡ self.old) }
+        ensures taken { IfSome result (λ n. self.new ≡ record { file = self.old.file; at = behind self.old.at n; faults = self.old.faults }) }
     {
         let count = self.count;
         if count == 0 || most < count {
