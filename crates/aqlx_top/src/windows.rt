@@ -67,8 +67,6 @@ pub(crate) struct Windowed<'p> {
     pub layout: Layout<'p>,
     pub workers: usize,
     pub reader: LineBuffer,
-    /// How many bytes a read may bring.
-    pub room: usize,
     pub line: Vec<u8>,
     pub documents: DocumentReader,
     pub number: u64,
@@ -130,7 +128,6 @@ fn begin_windows<'p>(
 {
     let schedule = Schedule::new(alloc, plan)?;
     let with_tokens = asks_for_tokens(&schedule);
-    let room = room_for(workers);
     Ok(Windowed {
         plan,
         schedule,
@@ -139,8 +136,7 @@ fn begin_windows<'p>(
         with_tokens,
         layout: Layout::new(alloc, outputs)?,
         workers: workers as usize,
-        reader: LineBuffer::growing(alloc, ROOM, room)?,
-        room,
+        reader: LineBuffer::growing(alloc, ROOM, room_for(workers))?,
         line: Vec::new(alloc),
         documents: DocumentReader::new(alloc),
         number: 0,
@@ -166,7 +162,7 @@ fn room_behind(line: &[u8]) -> usize {
 /// How many bytes are looked at ahead: as many as a read may bring, where the last one brought all that it could.
 fn room_ahead(work: &Windowed<'_>) -> usize {
     if work.reader.was_filled() {
-        work.room
+        work.reader.most()
     } else {
         0
     }
@@ -375,8 +371,7 @@ fn answer_ready<R: Threads + Sync, S: Source, P: Pool>(
     ensures left { S.left corpus.new ≡ S.left corpus.old }
     ensures faults { S.faults corpus.new ≡ S.faults corpus.old }
 {
-    work.room = work.room.max(room_behind(&work.line));
-    work.reader.grow_to(work.room);
+    work.reader.grow_to(room_behind(&work.line));
     let ahead = room_ahead(work);
     let told = append_ready(
         rt,
@@ -412,8 +407,7 @@ fn take_document(alloc: Global, work: &mut Windowed<'_>) -> Result<Turn, OutOfMe
 {
     let good = put_document(alloc, &mut work.documents, &work.line, &mut work.window)?;
     if good {
-        work.room = work.room.max(room_behind(&work.line));
-        work.reader.grow_to(work.room);
+        work.reader.grow_to(room_behind(&work.line));
         work.bytes = work.bytes.saturating_add(work.line.len());
         Ok(Turn::Next)
     } else {

@@ -93,6 +93,12 @@ impl LineBuffer {
         self.most = self.most.max(most);
     }
 
+    /// How many bytes a read may bring, where one before it fills the buffer. What it says is about time alone, so no
+    /// clause speaks of it.
+    pub fn most(&self) -> usize {
+        self.most
+    }
+
     /// How many bytes were taken from the source in all.
     pub fn taken(&self) -> u64
         ensures count { result ≡ self.now.taken }
