@@ -1,5 +1,9 @@
 //! Runs by several workers: the bytes are those of one worker.
-use crate::setup::{DIGIT, NO_MATCH, NUMBERS, READ_FAULT, Setup, comes_to, repeated, run, usual};
+use crate::setup::{
+    DIGIT, NO_MATCH, NUMBERS, READ_FAULT, Setup, call, comes_to, repeated, run, sink_of, usual,
+};
+use aql_io::SureSource;
+use run_pool::Workers;
 use std::alloc::Global;
 use std::process::Abort;
 use std::test::Fail;
@@ -305,6 +309,56 @@ fn documents_of_every_size_give_the_same_lines(rt: HostRuntime) -> Result<(), Fa
         let mut text = long(alloc, *documents, *words)?;
         text.push_str("[]\n{\"text\":\"1\"}\n")?;
         is_as_alone(&rt, alloc, TOKENS, text.as_str(), 3, line)?;
+    }
+    Ok(())
+}
+
+/// So many documents of 2,000 letters and more with their numbers from 100,000 on, and a bad line behind them.
+fn numbered(alloc: Global, count: u32) -> Result<String, Fail> {
+    let letters = repeated(alloc, "x", 2_000)?;
+    let mut all = String::new(alloc);
+    for i in 0..count {
+        let number = i.saturating_add(100_000);
+        let line = format!(in alloc; "{{\"pad\":\"{letters}\",\"text\":\"{number}\"}}\n")?;
+        all.push_str(line.as_str())?;
+    }
+    all.push_str("[]\n")?;
+    Ok(all)
+}
+
+/// The lines of these documents.
+fn numbered_lines(alloc: Global, count: u32) -> Result<String, Fail> {
+    let mut all = String::new(alloc);
+    for i in 0..count {
+        let number = i.saturating_add(100_000);
+        let line = format!(in alloc;
+            "{{\"views\":{{\"P\":[{{\"num\":{{\"begin\":0,\"end\":6,\"text\":\"{number}\"}}}}]}}}}\n"
+        )?;
+        all.push_str(line.as_str())?;
+    }
+    Ok(all)
+}
+
+#[test]
+fn what_is_looked_ahead_is_read_once_and_in_order(rt: HostRuntime) -> Result<(), Fail> {
+    let alloc = rt.alloc();
+    // more than three reads bring
+    let count = 5_200;
+    let corpus = numbered(alloc, count)?;
+    let lines = numbered_lines(alloc, count)?;
+    for workers in &["1", "2", "4"] {
+        let words = ["run", "p.aql", "--workers", *workers];
+        let setup = Setup {
+            words: &words,
+            ..usual(NUMBERS, "")
+        };
+        let mut source = SureSource::new(Vec::from_slice(alloc, corpus.as_bytes())?);
+        let mut out = sink_of(alloc, 1 << 20, 1 << 20, &[])?;
+        let (code, err) = call(&rt, alloc, &setup, &mut source, &mut out, &mut Workers)?;
+        let line = b"aqlx: corpus line 5201 is not a document\n".as_slice();
+        assert_eq!(rt; err.bytes(), line, "{workers} workers");
+        assert_eq!(rt; code, 3, "{workers} workers");
+        assert!(rt; out.bytes() == lines.as_bytes(), "{workers} workers");
     }
     Ok(())
 }
