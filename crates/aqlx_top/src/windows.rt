@@ -51,8 +51,14 @@ const ROOM: usize = 2_097_152;
 /// threads are seldom started, and so few that they are still near the processor when they are looked at.
 const ROOM_EACH: usize = 1_048_576;
 
-/// How many bytes a later read may bring where lines are large, or workers are many: so many that each worker has some
-/// of the large ones.
+/// How many bytes for each worker a later read may bring where lines are large: so many that each worker has some of
+/// them.
+const LARGE_ROOM_EACH: usize = 2_097_152;
+
+/// How many bytes a later read may bring where lines are large, also for few workers.
+const LARGE_ROOM: usize = 8_388_608;
+
+/// How many bytes a read may bring at most.
 const MOST_ROOM: usize = 16_777_216;
 
 /// What a run keeps from line to line: lines that are pending, and behind them a window of documents whose
@@ -154,9 +160,15 @@ fn room_for(workers: u32) -> usize {
         .clamp(ROOM, MOST_ROOM)
 }
 
-/// How many bytes a read may bring at least behind a line: many behind a large one.
-fn room_behind(line: &[u8]) -> usize {
-    if line.len() >= LARGE { MOST_ROOM } else { ROOM }
+/// How many bytes a read may bring at least behind a line, for so many workers: many behind a large one.
+fn room_behind(line: &[u8], workers: usize) -> usize {
+    if line.len() >= LARGE {
+        workers
+            .saturating_mul(LARGE_ROOM_EACH)
+            .clamp(LARGE_ROOM, MOST_ROOM)
+    } else {
+        ROOM
+    }
 }
 
 /// How many bytes are looked at ahead: as many as a read may bring, where the last one brought all that it could.
@@ -371,7 +383,7 @@ fn answer_ready<R: Threads + Sync, S: Source, P: Pool>(
     ensures left { S.left corpus.new ≡ S.left corpus.old }
     ensures faults { S.faults corpus.new ≡ S.faults corpus.old }
 {
-    work.reader.grow_to(room_behind(&work.line));
+    work.reader.grow_to(room_behind(&work.line, work.workers));
     let ahead = room_ahead(work);
     let told = append_ready(
         rt,
@@ -407,7 +419,7 @@ fn take_document(alloc: Global, work: &mut Windowed<'_>) -> Result<Turn, OutOfMe
 {
     let good = put_document(alloc, &mut work.documents, &work.line, &mut work.window)?;
     if good {
-        work.reader.grow_to(room_behind(&work.line));
+        work.reader.grow_to(room_behind(&work.line, work.workers));
         work.bytes = work.bytes.saturating_add(work.line.len());
         Ok(Turn::Next)
     } else {

@@ -9,6 +9,7 @@ use Rattle.std.proofs.Crossing.{crosses}
 use Rattle.std.proofs.vec.Vec.TheSendSync as vec
 use Rattle.span_token.proofs.document.Document.TheSendSync as document
 use Rattle.std.proofs.sync.atomic.AtomicUsize.TheSendSync as word
+use Rattle.once_cell.proofs.race.once_box.OnceBox.TheSendSync as once
 use Rattle.corpus_json.proofs.write.layout.Layout.TheSendSync as layout
 use Rattle.scalar_ops.proofs.Crosses.{tools}
 use Rattle.plan_operators.specs.contracts.schedule.Schedule as Schedule
@@ -16,6 +17,7 @@ use Rattle.worker_pool.proofs.Crosses.{Plan-sync}
 use Rattle.run_pool.specs.declared.pool.Pool.{Ghosts}
 use Rattle.window_lines.specs.contracts.lines.Writing as Writing
 use Rattle.window_lines.specs.contracts.hands.Hand as Hand
+use Rattle.window_lines.specs.contracts.order.Order as Order
 use Rattle.window_lines.specs.contracts.ready.Ready as Ready
 
 -- what they share may be shared, with a pool that may be
@@ -28,9 +30,12 @@ one_captured_sync ν A a = search sendable depth 20
 Schedule-sync : (p : NamedLft) → IsSync (Schedule.the_row p)
 Schedule-sync p = search (Plan-sync, vec.the_sync, crosses, sendable) depth 60 fits 20000
 
+Order-sync : IsSync Order.the_row
+Order-sync = search (once.the_sync, vec.the_send, vec.the_sync, crosses, sendable) depth 60 fits 20000
+
 -- what threads share that answer lines, with a pool that may be shared
 pub Ready-sync : (a l p : NamedLft) (P : RattleType) (ghosts : Ghosts P.Denot) → IsSync P → IsSync (Ready.the_row a l p P ghosts)
-Ready-sync a l p P ghosts shared = search (Schedule-sync, layout.the_sync, word.the_sync, crosses, sendable) depth 60 fits 20000
+Ready-sync a l p P ghosts shared = search (Schedule-sync, Order-sync, layout.the_sync, word.the_sync, crosses, sendable) depth 60 fits 20000
 
 -- a hand may be sent: its tools, and room
 pub Hand-send : (p : NamedLft) → IsSend (Hand.the_row p)

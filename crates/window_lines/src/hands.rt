@@ -36,7 +36,7 @@ impl<'p> Model for Hands<'p> {
 /// What one thread keeps: its tools, room for a document, and what it answered last.
 #[derive(Drop)]
 pub(crate) struct Hand<'p> {
-    /// Whether it answers the first line, as the first hand does.
+    /// Whether it answers the first line, as the last hand does: its thread is the one that is started first.
     pub leads: bool,
     pub tools: Tools<'p>,
     pub room: Room,
@@ -90,8 +90,8 @@ fn hands_for<'p>(
     ensures tools { IfOk result (λ hands. HaveTools tables.now hands.items) }
 {
     let mut hands = Vec::with_capacity(alloc, number as usize)?;
-    for _ in 0..number {
-        let leads = hands.is_empty();
+    for n in 0..number {
+        let leads = n + 1 == number;
         hands.push(hand_for(alloc, tables, leads)?)?;
     }
     Ok(hands)

@@ -3,11 +3,30 @@
 ghost use Rattle.std.specs.Prelude.{◌<◌, ◌≤◌, ◌*◌, ℕ, length};
 
 use crate::feeds::{find_lf, line_begin};
+use once_cell::race::OnceBox;
 use span_token::OutOfMemory;
 use std::alloc::Global;
 
 /// Behind a line of so many bytes and more, lines are taken for large.
 const LARGE: usize = 16_384;
+
+/// Where lines are large, one of so many pieces is taken up in the order of the lines: so many that the order of the
+/// others is found before these are answered.
+const IN_ORDER: usize = 8;
+
+/// In which order the pieces of some bytes are taken up, by several threads.
+///
+/// It is that of the lines, but where a large line stands before them: then behind the first eighth come those of the
+/// other pieces in which lines begin, those with the most bytes first, so that seldom a thread has a large document left
+/// when all others are done. No clause rests on it: what is answered is put together by the places of the lines.
+#[derive(Drop)]
+pub(crate) struct Order {
+    alloc: Global,
+    /// How many pieces come first, in the order of the lines.
+    first: usize,
+    /// The numbers of those that come behind them, once somebody has found them.
+    behind: OnceBox<Vec<usize>>,
+}
 
 /// The lines that begin in a piece: how many bytes they have, and the number of the piece.
 #[derive(Clone, Copy, Debug)]
@@ -16,43 +35,75 @@ struct Share {
     piece: usize,
 }
 
-/// The numbers of the pieces of `bytes`, each of `size` bytes, in the order in which they are taken up.
-///
-/// It is that of the lines, but where the line `first` that stands before them is large: then behind the first half
-/// come those pieces of the second half in which lines begin, those with the most bytes first, so that seldom a thread
-/// has a large document left when all others are done. No clause rests on it: what is answered is put together by the
-/// places of the lines.
-pub(crate) fn order_of(
+impl Order {
+    /// The order of so many pieces, where the line `first` stands before them.
+    pub fn new(alloc: Global, first: &[u8], count: usize) -> Order {
+        let first = if first.len() < LARGE {
+            count
+        } else {
+            count / IN_ORDER
+        };
+        Order {
+            alloc,
+            first,
+            behind: OnceBox::new(alloc),
+        }
+    }
+
+    /// The number of the piece of `bytes` that is taken up when `taken` were, where there are `count`, each of `size`
+    /// bytes. `None` where these were all, or memory is wanting.
+    pub fn piece(&self, taken: usize, bytes: &[u8], size: usize, count: usize) -> Option<usize>
+        requires some { 0 < size }
+        requires begun { (n : ℕ) → n < count → n * size < length bytes.now }
+    {
+        if taken >= count {
+            return None;
+        }
+        if taken < self.first {
+            return Some(taken);
+        }
+        let behind = self.behind(bytes, size, count)?;
+        behind.get(taken - self.first).copied()
+    }
+
+    /// The numbers of the pieces that come behind the first ones, which the first caller finds; callers that come before
+    /// it has them find them, too. `None` where there are none, or memory is wanting.
+    pub fn behind(&self, bytes: &[u8], size: usize, count: usize) -> Option<&Vec<usize>>
+        requires some { 0 < size }
+        requires begun { (n : ℕ) → n < count → n * size < length bytes.now }
+    {
+        if self.first >= count {
+            return None;
+        }
+        if let Some(behind) = self.behind.get() {
+            return Some(behind);
+        }
+        let found = numbers_from(self.alloc, bytes, size, self.first * size).ok()?;
+        let found = Box::new(self.alloc, found).ok()?;
+        // where another one was faster, all go by what that one found
+        let _ = self.behind.set(found);
+        self.behind.get()
+    }
+}
+
+/// The numbers of the pieces in which lines begin from the place `from` on, those whose lines have the most bytes first.
+fn numbers_from(
     alloc: Global,
-    first: &[u8],
     bytes: &[u8],
     size: usize,
-    count: usize,
+    from: usize,
 ) -> Result<Vec<usize>, OutOfMemory>
     requires some { 0 < size }
-    requires begun { (n : ℕ) → n < count → n * size < length bytes.now }
+    requires within { from ≤ length bytes.now }
 {
-    if first.len() < LARGE || count < 2 {
-        return numbers_below(alloc, count);
-    }
-    let half = count / 2;
-    let mut order = numbers_below(alloc, half)?;
-    let Some(from) = line_begin(bytes, half * size) else {
-        return Ok(order);
+    let mut numbers = Vec::new(alloc);
+    let Some(from) = line_begin(bytes, from) else {
+        return Ok(numbers);
     };
     let mut shares = shares_of(alloc, bytes, size, from)?;
     shares.sort_unstable_by_key(|share| share.bytes);
     for share in shares.iter().rev() {
-        order.push(share.piece)?;
-    }
-    Ok(order)
-}
-
-/// The numbers from 0 on, as many as these.
-fn numbers_below(alloc: Global, count: usize) -> Result<Vec<usize>, OutOfMemory> {
-    let mut numbers = Vec::with_capacity(alloc, count)?;
-    for n in 0..count {
-        numbers.push(n)?;
+        numbers.push(share.piece)?;
     }
     Ok(numbers)
 }

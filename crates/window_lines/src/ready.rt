@@ -14,7 +14,7 @@ ghost use Rattle.window_lines.specs.Lines.{line_by, names_in, rows_by};
 use crate::answer::answer_line;
 use crate::feeds::{find_lf, line_begin};
 use crate::hands::{First, Hand, Hands, Part};
-use crate::order::order_of;
+use crate::order::Order;
 use crate::pending::Pending;
 use crate::stretch::stretch_count;
 use aql_io::Source;
@@ -61,9 +61,9 @@ struct Ready<'a, 'l, 'p, P: Pool> {
     size: usize,
     /// How many pieces there are.
     count: usize,
-    /// The numbers of pieces, in the order in which they are taken up.
-    order: &'a [usize],
-    /// The index in this order of the next piece that nobody answers yet.
+    /// In which order pieces are taken up.
+    order: &'a Order,
+    /// How many were taken up.
     next: &'a AtomicUsize,
     ghost of_plan: { layout.now ≡ names_in schedule.now },
     ghost some: { 0 < size },
@@ -118,7 +118,7 @@ pub fn append_ready<R: Threads + Sync, P: Pool, S: Source>(
     let next = AtomicUsize::new(0);
     let size = piece_size(bytes.len(), hands.hands.len());
     let count = stretch_count(bytes.len(), size);
-    let order = order_of(alloc, first, bytes, size, count)?;
+    let order = Order::new(alloc, first, count);
     let ready = Ready {
         alloc,
         pool,
@@ -129,7 +129,7 @@ pub fn append_ready<R: Threads + Sync, P: Pool, S: Source>(
         bytes,
         size,
         count,
-        order: order.as_slice(),
+        order: &order,
         next: &next,
     };
     answer_in_threads(rt, &ready, &mut hands.hands, corpus, ahead);
@@ -163,7 +163,7 @@ fn answer_in_threads<R: Threads + Sync, P: Pool, S: Source>(
     ensures left { S.left corpus.new ≡ S.left corpus.old }
     ensures faults { S.faults corpus.new ≡ S.faults corpus.old }
 {
-    let threads = hands.len().min(ready.order.len());
+    let threads = hands.len().min(ready.count);
     if threads < 2 || ready.bytes.len() < MANY {
         answer_alone(rt, ready, hands);
     } else {
@@ -172,7 +172,8 @@ fn answer_in_threads<R: Threads + Sync, P: Pool, S: Source>(
 }
 
 /// Lets the hands answer in so many threads, of which this one starts all others: a system may put a thread that a new
-/// thread starts onto the same processor, where the two wait for each other. This one looks ahead before it answers.
+/// thread starts onto the same processor, where the two wait for each other. Before this one answers, it finds the order of
+/// what comes later, and looks ahead.
 #[cycle(threads)]
 fn answer_by<R: Threads + Sync, P: Pool, S: Source>(
     rt: &R,
@@ -194,6 +195,7 @@ fn answer_by<R: Threads + Sync, P: Pool, S: Source>(
     ensures faults { S.faults corpus.new ≡ S.faults corpus.old }
 {
     if threads < 2 || hands.len() < 2 {
+        let _ = ready.order.behind(ready.bytes, ready.size, ready.count);
         corpus.look_ahead(ahead);
         answer_alone(rt, ready, hands);
         return;
@@ -253,7 +255,8 @@ fn put_back<'p>(hands: &mut Vec<Hand<'p>>, hand: Hand<'p>)
     let _ = hands.push(hand);
 }
 
-/// Lets the hands answer in this thread: the first one, and all others find nothing left.
+/// Lets the hands answer in this thread, one after another: the first one, and the others find nothing left but the first
+/// line.
 fn answer_alone<R: Threads + Sync, P: Pool>(
     rt: &R,
     ready: &Ready<'_, '_, '_, P>,
@@ -339,12 +342,11 @@ impl<'a, 'l, 'p, P: Pool> Ready<'a, 'l, 'p, P> {
         ensures parts { AreParts (line_by self.now.schedule.now) self.now.bytes.now hand.new.parts.items }
         ensures as_found { P.means pool.new ≡ P.means pool.old }
     {
-        'pieces: for _ in 0..self.order.len() {
-            let next = self.next.fetch_add(1, Ordering::Relaxed);
-            if next >= self.order.len() {
+        'pieces: for _ in 0..self.count {
+            let taken = self.next.fetch_add(1, Ordering::Relaxed);
+            let Some(n) = self.order.piece(taken, self.bytes, self.size, self.count) else {
                 return;
-            }
-            let n = self.order[next];
+            };
             if n >= self.count {
                 return;
             }
@@ -480,7 +482,7 @@ impl<'a, 'l, 'p, P: Pool> Ready<'a, 'l, 'p, P> {
 
     /// Lets nobody take another piece, since nothing that stands behind a bad line is written.
     fn stop(&self) {
-        self.next.store(self.order.len(), Ordering::Relaxed);
+        self.next.store(self.count, Ordering::Relaxed);
     }
 }
 
@@ -499,11 +501,12 @@ fn append_answered<P: Pool>(
         ((is_bad_line ready.now.first.now ≡ true) × (pending.new ≡ pending.old))
         (λ taken. IsAnswered (line_by ready.now.schedule.now) ready.now.first.now ready.now.bytes.now taken pending.old pending.new)) }
 {
-    match hands[0].first {
+    let leader = hands.len() - 1;
+    match hands[leader].first {
         First::Unknown => Err(OutOfMemory),
         First::Bad => Ok(None),
         First::Good => {
-            append_head(&mut hands[0], pending)?;
+            append_head(&mut hands[leader], pending)?;
             let taken = append_parts(ready, hands, pending)?;
             Ok(Some(taken))
         }
