@@ -53,10 +53,10 @@ const ROOM_EACH: usize = 1_048_576;
 
 /// How many bytes for each worker a later read may bring where lines are large: so many that each worker has some of
 /// them.
-const LARGE_ROOM_EACH: usize = 2_097_152;
+const LARGE_ROOM_EACH: usize = 3_145_728;
 
 /// How many bytes a later read may bring where lines are large, also for few workers.
-const LARGE_ROOM: usize = 8_388_608;
+const LARGE_ROOM: usize = 12_582_912;
 
 /// How many bytes a read may bring at most.
 const MOST_ROOM: usize = 16_777_216;
