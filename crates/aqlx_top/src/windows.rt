@@ -51,11 +51,11 @@ const ROOM: usize = 2_097_152;
 /// threads are seldom started, and so few that they are still near the processor when they are looked at.
 const ROOM_EACH: usize = 1_048_576;
 
-/// How many bytes for each worker a later read may bring where lines are large: so many that each worker has some of
-/// them.
+/// How many bytes for each worker a later read may bring where lines are large, within the next two bounds: so many
+/// that each worker has some of them.
 const LARGE_ROOM_EACH: usize = 3_145_728;
 
-/// How many bytes a later read may bring where lines are large, also for few workers.
+/// How many bytes a later read may bring at least where lines are large.
 const LARGE_ROOM: usize = 12_582_912;
 
 /// How many bytes a read may bring at most.

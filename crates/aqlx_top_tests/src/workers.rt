@@ -342,7 +342,7 @@ fn numbered_lines(alloc: Global, count: u32) -> Result<String, Fail> {
 #[test]
 fn what_is_looked_ahead_is_read_once_and_in_order(rt: HostRuntime) -> Result<(), Fail> {
     let alloc = rt.alloc();
-    // more than three reads bring
+    // 10,540,403 bytes: more than 2, 4 and 4 MiB, which the first three reads of four workers bring
     let count = 5_200;
     let corpus = numbered(alloc, count)?;
     let lines = numbered_lines(alloc, count)?;

@@ -10,8 +10,8 @@ use std::alloc::Global;
 /// Behind a line of so many bytes and more, lines are taken for large.
 const LARGE: usize = 16_384;
 
-/// Where lines are large, one of so many pieces is taken up in the order of the lines: so many that the order of the
-/// others is found before these are answered.
+/// Where lines are large, one piece of so many is taken up in the order of the lines: enough that the order of the
+/// others is mostly found before these are answered.
 const IN_ORDER: usize = 8;
 
 /// In which order the pieces of some bytes are taken up, by several threads.
@@ -23,7 +23,7 @@ const IN_ORDER: usize = 8;
 pub(crate) struct Order {
     alloc: Global,
     /// How many pieces come first, in the order of the lines.
-    first: usize,
+    in_order: usize,
     /// The numbers of those that come behind them, once somebody has found them.
     behind: OnceBox<Vec<usize>>,
 }
@@ -38,14 +38,14 @@ struct Share {
 impl Order {
     /// The order of so many pieces, where the line `first` stands before them.
     pub fn new(alloc: Global, first: &[u8], count: usize) -> Order {
-        let first = if first.len() < LARGE {
+        let in_order = if first.len() < LARGE || count < IN_ORDER {
             count
         } else {
             count / IN_ORDER
         };
         Order {
             alloc,
-            first,
+            in_order,
             behind: OnceBox::new(alloc),
         }
     }
@@ -59,26 +59,26 @@ impl Order {
         if taken >= count {
             return None;
         }
-        if taken < self.first {
+        if taken < self.in_order {
             return Some(taken);
         }
         let behind = self.behind(bytes, size, count)?;
-        behind.get(taken - self.first).copied()
+        behind.get(taken - self.in_order).copied()
     }
 
-    /// The numbers of the pieces that come behind the first ones, which the first caller finds; callers that come before
-    /// it has them find them, too. `None` where there are none, or memory is wanting.
+    /// The numbers of the pieces behind those that come first. Who calls first finds them; who calls while they are
+    /// looked for finds them too, and all go by what was there first. `None` where there are none, or memory is wanting.
     pub fn behind(&self, bytes: &[u8], size: usize, count: usize) -> Option<&Vec<usize>>
         requires some { 0 < size }
         requires begun { (n : ℕ) → n < count → n * size < length bytes.now }
     {
-        if self.first >= count {
+        if self.in_order >= count {
             return None;
         }
         if let Some(behind) = self.behind.get() {
             return Some(behind);
         }
-        let found = numbers_from(self.alloc, bytes, size, self.first * size).ok()?;
+        let found = numbers_from(self.alloc, bytes, size, self.in_order * size).ok()?;
         let found = Box::new(self.alloc, found).ok()?;
         // where another one was faster, all go by what that one found
         let _ = self.behind.set(found);

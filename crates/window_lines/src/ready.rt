@@ -63,7 +63,7 @@ struct Ready<'a, 'l, 'p, P: Pool> {
     count: usize,
     /// In which order pieces are taken up.
     order: &'a Order,
-    /// How many were taken up.
+    /// How many were taken up; `count` and more where nobody is to take another one.
     next: &'a AtomicUsize,
     ghost of_plan: { layout.now ≡ names_in schedule.now },
     ghost some: { 0 < size },
@@ -195,6 +195,7 @@ fn answer_by<R: Threads + Sync, P: Pool, S: Source>(
     ensures faults { S.faults corpus.new ≡ S.faults corpus.old }
 {
     if threads < 2 || hands.len() < 2 {
+        // found here, nobody has to find it later
         let _ = ready.order.behind(ready.bytes, ready.size, ready.count);
         corpus.look_ahead(ahead);
         answer_alone(rt, ready, hands);
@@ -251,13 +252,38 @@ fn put_back<'p>(hands: &mut Vec<Hand<'p>>, hand: Hand<'p>)
     ensures answered { (piece : Doc → List ℕ) (first bytes : List ℕ) → HaveAnswered piece first bytes hands.old.items → HasAnswered piece first bytes hand.entry
         → HaveAnswered piece first bytes hands.new.items }
 {
-    // its room is there; without room the others would do
+    // its room is there, since it was just taken out
     let _ = hands.push(hand);
 }
 
-/// Lets the hands answer in this thread, one after another: the first one, and the others find nothing left but the first
-/// line.
+/// Lets the hands answer in this thread: the last one, which leads, answers all, and the others find nothing left.
 fn answer_alone<R: Threads + Sync, P: Pool>(
+    rt: &R,
+    ready: &Ready<'_, '_, '_, P>,
+    hands: &mut Vec<Hand<'_>>,
+)
+    requires some { 0 < vec_len hands.old }
+    requires as_found { P.means ready.now.pool.now ≡ rows_by }
+    requires tools { HaveTools ready.now.schedule.now.lists hands.old.items }
+    ensures some { 0 < vec_len hands.new }
+    ensures few { vec_len hands.new ≤ vec_len hands.old }
+    ensures tools { HaveTools ready.now.schedule.now.lists hands.new.items }
+    ensures answered { HaveAnswered (line_by ready.now.schedule.now) ready.now.first.now ready.now.bytes.now hands.new.items }
+{
+    if hands.len() < 2 {
+        answer_by_each(rt, ready, hands);
+        return;
+    }
+    let Some(mut last) = hands.pop() else {
+        return;
+    };
+    ready.answer(&mut last);
+    answer_by_each(rt, ready, hands);
+    put_back(hands, last);
+}
+
+/// Lets one hand after the other answer what is left.
+fn answer_by_each<R: Threads + Sync, P: Pool>(
     rt: &R,
     ready: &Ready<'_, '_, '_, P>,
     hands: &mut Vec<Hand<'_>>,
