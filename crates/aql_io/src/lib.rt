@@ -3,8 +3,8 @@
 //! A `Source` gives bytes in order, a `Sink` takes them, and `Files` gives bytes of named files at a
 //! place. Contracts see the bytes of each where it tells them, and the number of its faults: it rises
 //! by one in a call that answers `Failed`, and in no other. The objects in memory tell their bytes
-//! and fail exactly where they are told to; the real ones tell nothing but their faults. Stands on
-//! std, and on `span_token` for the answer to want of memory.
+//! and fail exactly where they are told to; the real ones tell their faults alone, and a file that is
+//! read at places its place. Stands on std, and on `span_token` for the answer to want of memory.
 #![tactic(auto)]
 
 mod calls;

@@ -128,8 +128,10 @@ fn a_file_is_read_from_a_place_on_and_looked_ahead_in(rt: HostRuntime) -> Result
     source.look_ahead(4);
     takes_ahead(&rt, alloc, &mut source, 3, None)?;
     takes_ahead(&rt, alloc, &mut source, 8, Some("efgh"))?;
+    takes_ahead(&rt, alloc, &mut source, 8, None)?;
     source.look_ahead(4);
     gives(&rt, &mut source, 1, &[Some("i")]);
+    takes_ahead(&rt, alloc, &mut source, 8, None)?;
     source.look_ahead(4);
     takes_ahead(&rt, alloc, &mut source, 8, Some("j"))?;
     source.look_ahead(4);
