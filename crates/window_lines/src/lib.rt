@@ -15,6 +15,7 @@ mod hands;
 mod lines;
 mod order;
 mod pending;
+mod put;
 mod ready;
 mod stretch;
 mod window;

@@ -16,6 +16,7 @@ use crate::feeds::{find_lf, line_begin};
 use crate::hands::{First, Hand, Hands, Part};
 use crate::order::Order;
 use crate::pending::Pending;
+use crate::put::append_part_at;
 use crate::stretch::stretch_count;
 use aql_io::Source;
 use corpus_json::{LINE_LIMIT, Layout};
@@ -569,58 +570,4 @@ fn append_parts<P: Pool>(
         taken.lines += end.lines;
     }
     Ok(taken)
-}
-
-/// Puts a part with some line that begins at a place behind what is pending, and tells where it ends and how
-/// many lines it has. `None`, and nothing is put, where there is no such part.
-fn append_part_at(
-    hands: &mut [Hand<'_>],
-    at: usize,
-    pending: &mut Pending,
-) -> Result<Option<Answered>, OutOfMemory>
-    ensures long { length hands.new ≡ length hands.old }
-    ensures tools { (lists : Lists) → HaveTools lists hands.old → HaveTools lists hands.new }
-    ensures put { (piece : Doc → List ℕ) (first bytes : List ℕ) → HaveAnswered piece first bytes hands.old
-        → IfOk result (λ told. HaveAnswered piece first bytes hands.new × IsPutFrom piece bytes at told pending.old pending.new) }
-{
-    for k in 0..hands.len() {
-        if let Some(end) = append_part_of(&mut hands[k], at, pending)? {
-            return Ok(Some(end));
-        }
-    }
-    Ok(None)
-}
-
-/// The same of one hand.
-fn append_part_of(
-    hand: &mut Hand<'_>,
-    at: usize,
-    pending: &mut Pending,
-) -> Result<Option<Answered>, OutOfMemory>
-    ensures tools { hand.new.tools ≡ hand.old.tools }
-    ensures put { (piece : Doc → List ℕ) (first bytes : List ℕ) → HasAnswered piece first bytes hand.old
-        → IfOk result (λ told. HasAnswered piece first bytes hand.new × IsPutFrom piece bytes at told pending.old pending.new) }
-{
-    for k in 0..hand.parts.len() {
-        if hand.parts[k].from == at && at < hand.parts[k].to {
-            let end = append_part(&mut hand.parts[k], pending)?;
-            return Ok(Some(end));
-        }
-    }
-    Ok(None)
-}
-
-/// Puts a part behind what is pending, and tells where it ends and how many lines it has. Nothing is left of it.
-fn append_part(part: &mut Part, pending: &mut Pending) -> Result<Answered, OutOfMemory>
-    ensures { (piece : Doc → List ℕ) (bytes : List ℕ) → IsPart piece bytes part.old
-        → IfOk result (λ end. IsPart piece bytes part.new × IsPutFrom piece bytes part.old.from (Some end) pending.old pending.new) }
-{
-    let end = Answered {
-        bytes: part.to,
-        lines: part.count,
-    };
-    part.to = part.from;
-    part.count = 0;
-    pending.take_text(&mut part.text)?;
-    Ok(end)
 }

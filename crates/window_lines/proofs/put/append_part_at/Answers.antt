@@ -1,7 +1,7 @@
 use Rattle.std.proofs.Common.{rules, ◌≡◌, ◌∙◌}
 use Rattle.std.proofs.lemmas.List.Elements.{All-set}
 use Rattle.window_lines.specs.Hands.{HasAnswered}
-use Rattle.window_lines.proofs.ready.append_part_at.Goals as goal
+use Rattle.window_lines.proofs.put.append_part_at.Goals as goal
 
 pub returns-in_err-end-clause-tools : goal.returns-in_err-end-clause-tools
 returns-in_err-end-clause-tools c = λ lists have.

@@ -2,7 +2,7 @@ use Rattle.std.proofs.Common.{◌≡◌, ℕ, List, length}
 use Rattle.span_token.specs.Documents.{Doc}
 use Rattle.scalar_ops.specs.Tables.{Lists}
 use Rattle.window_lines.specs.Hands.{HaveAnswered, HaveTools}
-use Rattle.window_lines.proofs.ready.append_part_at.Given as goal
+use Rattle.window_lines.proofs.put.append_part_at.Given as goal
 
 abbrev pub invariant-loop-k : goal.invariant-loop-k
 invariant-loop-k l = record {
