@@ -1,4 +1,4 @@
-ghost use Rattle.std.specs.Prelude.{◌≡◌, ◌≤◌, ◌↔◌, Some, IsErr, IfOk, is_some, length, min};
+ghost use Rattle.std.specs.Prelude.{◌≡◌, ◌≤◌, ◌↔◌, false, Some, IsErr, IfOk, is_some, length, min};
 ghost use Rattle.std.specs.Io.{ReadsAtMost};
 ghost use Rattle.std.specs.Io.KnownBytes.{ReadConsumes};
 ghost use Rattle.aql_io.specs.Causes.{HasCause};
@@ -55,6 +55,8 @@ impl Source for MemSource {
 
     ghost faults = { λ s. s.calls.faults };
 
+    ghost looks = { λ _. false };
+
     /// Gives the next bytes: as many as `buf` has room for, a piece has and are left.
     fn read(&mut self, buf: &mut [u8]) -> Result<usize, Failed>
         ensures bound { ReadsAtMost result buf.new }
@@ -74,4 +76,12 @@ impl Source for MemSource {
         self.at += n;
         Ok(n)
     }
+
+    /// Shows nothing.
+    fn look(&self, _at: usize, _buf: &mut [u8]) -> usize {
+        0
+    }
+
+    /// Passes nothing, since nothing is shown.
+    fn pass(&mut self, _count: usize) {}
 }

@@ -1,4 +1,4 @@
-ghost use Rattle.std.specs.Prelude.{◌≡◌, None};
+ghost use Rattle.std.specs.Prelude.{◌≡◌, false, None};
 ghost use Rattle.std.specs.Io.{ReadsAtMost};
 ghost use Rattle.std.specs.Io.KnownBytes.{ReadConsumes};
 ghost use Rattle.aql_io.specs.Causes.{HasCause};
@@ -40,6 +40,8 @@ impl<R: Read> Source for RealSource<R> {
 
     ghost faults = { λ s. s.faults };
 
+    ghost looks = { λ _. false };
+
     /// Gives what one read of the reader gives.
     fn read(&mut self, buf: &mut [u8]) -> Result<usize, Failed>
         ensures bound { ReadsAtMost result buf.new }
@@ -51,4 +53,12 @@ impl<R: Read> Source for RealSource<R> {
             Err(_) => Err(self.faults.fail()),
         }
     }
+
+    /// Shows nothing.
+    fn look(&self, _at: usize, _buf: &mut [u8]) -> usize {
+        0
+    }
+
+    /// Passes nothing, since nothing is shown.
+    fn pass(&mut self, _count: usize) {}
 }

@@ -1,6 +1,6 @@
-ghost use Rattle.std.specs.Prelude.{◌≡◌, ◌<◌, ◌≤◌, ℕ, List, Option, IfSome, MatchOption, is_some, take, vec_len};
+ghost use Rattle.std.specs.Prelude.{◌≡◌, ◌<◌, ◌≤◌, ℕ, Bool, true, List, Option, IfSome, drop, is_some, length, option_map, take};
 ghost use Rattle.std.specs.Io.{ReadsAtMost};
-ghost use Rattle.std.specs.Io.KnownBytes.{Consumes, ReadConsumes};
+ghost use Rattle.std.specs.Io.KnownBytes.{ReadConsumes};
 ghost use Rattle.aql_io.specs.Causes.{HasCause};
 
 use crate::Failed;
@@ -8,11 +8,14 @@ use crate::Failed;
 /// What gives bytes in order, each once.
 ///
 /// `left` is the bytes that are still to come, or None where the source doesn't tell them, which
-/// never changes. `faults` counts the calls that failed; it never falls, and stops at 2^64 - 1.
+/// never changes. `faults` counts the calls that failed; it never falls, and stops at 2^64 - 1. `looks` says whether what is
+/// left can be looked at before it is read.
 pub trait Source {
     ghost left: { Self → Option (List ℕ) };
 
     ghost faults: { Self → ℕ };
+
+    ghost looks: { Self → Bool };
 
     /// Fills the front of `buf` with the next bytes and answers how many they are.
     ///
@@ -24,32 +27,21 @@ pub trait Source {
         ensures told { is_some (left self.new) ≡ is_some (left self.old) }
         ensures cause { HasCause (faults self.old) (faults self.new) result };
 
-    /// Lets the source make ready what the next read brings, up to `most` bytes, where it can without taking any. A source
-    /// that can't does nothing.
+    /// Fills the front of `buf` with what stands `at` bytes behind the next one, and answers how many bytes these are: none
+    /// where fewer are left, or where the source can't tell.
     ///
-    /// Nothing is read by it: what is left stays, and no call fails.
-    fn look_ahead(&mut self, most: usize)
-        ensures left { left self.new ≡ left self.old }
-        ensures faults { faults self.new ≡ faults self.old }
-    {
-        let _most = most;
-    }
+    /// Nothing is read by it, and several threads may look at once.
+    fn look(&self, at: usize, buf: &mut [u8]) -> usize
+        ensures bound { result ≤ length buf.new }
+        ensures able { 0 < result → looks self.now ≡ true }
+        ensures bytes { IfSome (left self.now) (λ bytes. take result (drop at bytes) ≡ take result buf.new) };
 
-    /// Takes what was made ready, as a read does: it then stands at the front of `room`, for which another one may stand, so
-    /// that it needn't be copied. Answers how many bytes these are, and `None`, taking none, where nothing is ready, or more
-    /// than `most` bytes.
-    fn take_ahead(&mut self, room: &mut Vec<u8>, most: usize) -> Option<usize>
-        ensures bound { IfSome result (λ n. (0 < n) × (n ≤ most) × (n ≤ vec_len room.new)) }
-        ensures bytes { MatchOption result
-            ((left self.new ≡ left self.old) × (room.new ≡ room.old))
-            (λ n. Consumes (left self.old) (left self.new) (take n room.new.items)) }
-        ensures told { is_some (left self.new) ≡ is_some (left self.old) }
-        ensures faults { faults self.new ≡ faults self.old }
-    {
-        let _room = room;
-        let _most = most;
-        None
-    }
+    /// Takes the next `count` bytes, as reads do that give them: they were looked at where they stand.
+    fn pass(&mut self, count: usize)
+        requires able { 0 < count → looks self.old ≡ true }
+        requires there { IfSome (left self.old) (λ bytes. count ≤ length bytes) }
+        ensures left { left self.new ≡ option_map (drop count) (left self.old) }
+        ensures faults { faults self.new ≡ faults self.old };
 }
 
 /// A borrowed source is a source: what is read through the loan is gone from the owner.
@@ -58,15 +50,17 @@ impl<S: Source> Source for &mut S {
 
     ghost faults = { λ s. S.faults s.now };
 
+    ghost looks = { λ s. S.looks s.now };
+
     fn read(&mut self, buf: &mut [u8]) -> Result<usize, Failed> {
         Source::read(&mut **self, buf)
     }
 
-    fn look_ahead(&mut self, most: usize) {
-        Source::look_ahead(&mut **self, most);
+    fn look(&self, at: usize, buf: &mut [u8]) -> usize {
+        Source::look(&**self, at, buf)
     }
 
-    fn take_ahead(&mut self, room: &mut Vec<u8>, most: usize) -> Option<usize> {
-        Source::take_ahead(&mut **self, room, most)
+    fn pass(&mut self, count: usize) {
+        Source::pass(&mut **self, count);
     }
 }

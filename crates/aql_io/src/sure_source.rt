@@ -1,4 +1,4 @@
-ghost use Rattle.std.specs.Prelude.{◌≡◌, Some, Ok, is_some, length, min};
+ghost use Rattle.std.specs.Prelude.{◌≡◌, Some, Ok, true, is_some, length, min};
 ghost use Rattle.std.specs.Io.{ReadsAtMost};
 ghost use Rattle.std.specs.Io.KnownBytes.{ReadConsumes};
 ghost use Rattle.aql_io.specs.Causes.{HasCause};
@@ -7,23 +7,21 @@ use crate::pieces::give;
 use crate::{Failed, Source};
 use std::marker::Model;
 
-/// A source in memory, which tells its bytes and never fails. It makes ready what it is asked to.
+/// A source in memory, which tells its bytes and never fails. What is left can be looked at.
 #[derive(Debug, Drop)]
 pub struct SureSource {
     bytes: Vec<u8>,
     at: usize,
-    /// How many of the next bytes are ready.
-    ready: usize,
 }
 
 impl Model for SureSource {
-    ghost use Rattle.std.specs.Prelude.{◌+◌, ◌≤◌, ℕ, List, drop, vec_len};
+    ghost use Rattle.std.specs.Prelude.{◌≤◌, ℕ, List, drop, vec_len};
 
     ghost Value = { List ℕ };
 
     ghost view = { λ s. drop s.at s.bytes.items };
 
-    ghost invariant = { λ s. s.at + s.ready ≤ vec_len s.bytes };
+    ghost invariant = { λ s. s.at ≤ vec_len s.bytes };
 }
 
 impl SureSource {
@@ -31,11 +29,7 @@ impl SureSource {
     pub fn new(bytes: Vec<u8>) -> SureSource
         ensures { result ≡ bytes.items }
     {
-        SureSource {
-            bytes,
-            at: 0,
-            ready: 0,
-        }
+        SureSource { bytes, at: 0 }
     }
 }
 
@@ -43,6 +37,8 @@ impl Source for SureSource {
     ghost left = { λ s. Some s };
 
     ghost faults = { λ _. 0 };
+
+    ghost looks = { λ _. true };
 
     /// Gives the next bytes: as many as `buf` has room for and are left.
     fn read(&mut self, buf: &mut [u8]) -> Result<usize, Failed>
@@ -52,26 +48,22 @@ impl Source for SureSource {
         ensures cause { HasCause 0 0 result }
         ensures sure { result ≡ Ok (min (length buf.old) (length self.old)) }
     {
-        self.ready = 0;
         let n = give(&self.bytes[self.at..], usize::MAX, buf);
         self.at += n;
         Ok(n)
     }
 
-    /// Makes ready as many bytes as are left, up to `most`.
-    fn look_ahead(&mut self, most: usize) {
-        self.ready = most.min(self.bytes.len() - self.at);
+    /// Looks at what stands there: as many bytes as `buf` has room for and are left.
+    fn look(&self, at: usize, buf: &mut [u8]) -> usize {
+        let rest = &self.bytes[self.at..];
+        if at > rest.len() {
+            return 0;
+        }
+        give(&rest[at..], usize::MAX, buf)
     }
 
-    /// Gives what is ready, where there is room for it.
-    fn take_ahead(&mut self, room: &mut Vec<u8>, most: usize) -> Option<usize> {
-        let ready = self.ready;
-        if ready == 0 || most < ready || room.len() < ready {
-            return None;
-        }
-        self.ready = 0;
-        let n = give(&self.bytes[self.at..], ready, room.as_mut_slice());
-        self.at += n;
-        Some(n)
+    /// Leaves out as many bytes.
+    fn pass(&mut self, count: usize) {
+        self.at += count;
     }
 }

@@ -83,60 +83,72 @@ fn a_sure_source_gives_all_and_then_its_end(rt: HostRuntime) -> Result<(), Fail>
     Ok(())
 }
 
-/// Asks of a source that was asked to make bytes ready for these bytes, None where none are ready, in a room of 8.
-fn takes_ahead<S: Source>(
-    rt: &impl Abort,
-    alloc: Global,
-    source: &mut S,
-    most: usize,
-    want: Option<&str>,
-) -> Result<(), AllocError> {
-    let mut room = vec![in alloc; 0; 8]?;
-    match source.take_ahead(&mut room, most) {
-        Some(count) => is_piece(rt, Some(&room[..count]), want),
-        None => is_piece(rt, None, want),
-    }
+/// Asks of a look at so many bytes behind the next one, with a buffer of `room` bytes, at most 8, for these bytes.
+fn shows<S: Source>(rt: &impl Abort, source: &S, at: usize, room: usize, want: &str) {
+    let mut buf = [0u8; 8];
+    let n = room.min(8);
+    let count = source.look(at, &mut buf[..n]);
+    is_piece(rt, Some(&buf[..count]), Some(want));
+}
+
+#[test]
+fn what_is_left_is_looked_at_where_it_stands(rt: HostRuntime) -> Result<(), Fail> {
+    let mut source = SureSource::new(b"abcdefghij".to_vec(rt.alloc())?);
+    shows(&rt, &source, 0, 3, "abc");
+    shows(&rt, &source, 4, 8, "efghij");
+    shows(&rt, &source, 10, 8, "");
+    shows(&rt, &source, 1_000, 8, "");
+    shows(&rt, &source, 2, 0, "");
+    source.pass(4);
+    shows(&rt, &source, 1, 2, "fg");
+    source.pass(0);
+    source.pass(1);
+    gives(&rt, &mut source, 3, &[Some("fgh")]);
+    shows(&rt, &source, 0, 8, "ij");
+    gives(&rt, &mut source, 8, &[Some("ij"), Some("")]);
+    shows(&rt, &source, 0, 8, "");
     Ok(())
 }
 
 #[test]
-fn what_is_made_ready_is_taken_once_and_by_a_read_too(rt: HostRuntime) -> Result<(), Fail> {
-    let alloc = rt.alloc();
-    let mut source = SureSource::new(b"abcdefghij".to_vec(alloc)?);
-    takes_ahead(&rt, alloc, &mut source, 8, None)?;
-    source.look_ahead(3);
-    takes_ahead(&rt, alloc, &mut source, 2, None)?;
-    takes_ahead(&rt, alloc, &mut source, 8, Some("abc"))?;
-    takes_ahead(&rt, alloc, &mut source, 8, None)?;
-    source.look_ahead(5);
-    gives(&rt, &mut source, 2, &[Some("de")]);
-    source.look_ahead(100);
-    takes_ahead(&rt, alloc, &mut source, 8, Some("fghij"))?;
-    source.look_ahead(100);
-    takes_ahead(&rt, alloc, &mut source, 8, None)?;
-    gives(&rt, &mut source, 8, &[Some("")]);
+fn a_source_of_pieces_shows_nothing(rt: HostRuntime) -> Result<(), Fail> {
+    let source = source_in_memory(rt.alloc(), 8, &[])?;
+    shows(&rt, &source, 0, 8, "");
+    let stream = RealSource::new(Cursor::new(b"abc".as_slice()));
+    shows(&rt, &stream, 0, 8, "");
     Ok(())
 }
 
 #[test]
-fn a_file_is_read_from_a_place_on_and_looked_ahead_in(rt: HostRuntime) -> Result<(), Fail> {
-    let alloc = rt.alloc();
+fn a_file_is_read_from_a_place_on_and_looked_at(rt: HostRuntime) -> Result<(), Fail> {
     fs::write(&rt, "looked.txt", b"abcdefghij")?;
-    let mut source = FileSource::new(alloc, fs::File::open(&rt, "looked.txt")?, 1);
+    let mut source = FileSource::new(fs::File::open(&rt, "looked.txt")?, 1);
+    shows(&rt, &source, 0, 3, "bcd");
     gives(&rt, &mut source, 3, &[Some("bcd")]);
-    takes_ahead(&rt, alloc, &mut source, 8, None)?;
-    source.look_ahead(4);
-    takes_ahead(&rt, alloc, &mut source, 3, None)?;
-    takes_ahead(&rt, alloc, &mut source, 8, Some("efgh"))?;
-    takes_ahead(&rt, alloc, &mut source, 8, None)?;
-    source.look_ahead(4);
+    shows(&rt, &source, 0, 8, "efghij");
+    shows(&rt, &source, 2, 3, "ghi");
+    shows(&rt, &source, 6, 3, "");
+    shows(&rt, &source, 60, 3, "");
+    source.pass(4);
     gives(&rt, &mut source, 1, &[Some("i")]);
-    takes_ahead(&rt, alloc, &mut source, 8, None)?;
-    source.look_ahead(4);
-    takes_ahead(&rt, alloc, &mut source, 8, Some("j"))?;
-    source.look_ahead(4);
-    takes_ahead(&rt, alloc, &mut source, 8, None)?;
+    shows(&rt, &source, 0, 8, "j");
+    source.pass(1);
+    shows(&rt, &source, 0, 8, "");
     gives(&rt, &mut source, 8, &[Some(""), Some("")]);
+    Ok(())
+}
+
+#[test]
+fn a_file_is_looked_at_far_behind_what_was_read(rt: HostRuntime) -> Result<(), Fail> {
+    let mut bytes = Vec::new(rt.alloc());
+    bytes.resize(200_000, b'-')?;
+    bytes.extend_from_slice(b"end")?;
+    fs::write(&rt, "far.txt", bytes.as_slice())?;
+    let mut source = FileSource::new(fs::File::open(&rt, "far.txt")?, 100_000);
+    shows(&rt, &source, 65_536, 1, "-");
+    shows(&rt, &source, 99_998, 8, "--end");
+    source.pass(70_000);
+    shows(&rt, &source, 29_999, 8, "-end");
     Ok(())
 }
 
@@ -170,15 +182,13 @@ impl FileExt for Faulty {
 fn a_look_that_fails_is_no_read_and_a_read_that_fails_takes_nothing(
     rt: HostRuntime,
 ) -> Result<(), Fail> {
-    let alloc = rt.alloc();
     let file = Faulty {
         fails: [2, 3],
         made: Cell::new(0),
     };
-    let mut source = FileSource::new(alloc, file, 0);
+    let mut source = FileSource::new(file, 0);
     gives(&rt, &mut source, 2, &[Some("ab")]);
-    source.look_ahead(4);
-    takes_ahead(&rt, alloc, &mut source, 8, None)?;
+    shows(&rt, &source, 0, 4, "");
     gives(
         &rt,
         &mut source,
@@ -191,6 +201,7 @@ fn a_look_that_fails_is_no_read_and_a_read_that_fails_takes_nothing(
 #[test]
 fn a_borrowed_source_takes_from_its_owner(rt: HostRuntime) -> Result<(), Fail> {
     let mut source = SureSource::new(b"abcdef".to_vec(rt.alloc())?);
+    shows(&rt, &&mut source, 4, 8, "ef");
     gives(&rt, &mut &mut source, 4, &[Some("abcd")]);
     gives(&rt, &mut source, 4, &[Some("ef")]);
     Ok(())

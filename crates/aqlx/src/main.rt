@@ -1,7 +1,7 @@
 //! The program `aqlx`: the top call over the real files, standard input, output and error.
 //!
 //! It ends with the status's code, or with 6 where memory is wanting. Where standard input is a regular file, it is read
-//! at places, so that several workers can have the next bytes made ready; else it is a stream. Stands on `aqlx_top` for all
+//! at places, so that several workers can look at what is left; else it is a stream. Stands on `aqlx_top` for all
 //! that it does and on `aql_io` for the real files and streams.
 #![tactic(auto)]
 
@@ -61,7 +61,7 @@ fn place_told(told: &str) -> Option<u64> {
 }
 
 /// Does what the words ask for, and gives the exit status.
-fn carry_out<R: Threads + Sync, F: Files, S: Source, O: Sink, E: Sink>(
+fn carry_out<R: Threads + Sync, F: Files, S: Source + Sync, O: Sink, E: Sink>(
     rt: &R,
     alloc: Global,
     words: &Vec<String>,
@@ -86,7 +86,7 @@ fn main(rt: HostRuntime) -> ExitCode {
     let mut err = RealSink::new(rt.stderr());
     match standard_file(&rt) {
         Some((file, place)) => {
-            let mut corpus = FileSource::new(alloc, file, place);
+            let mut corpus = FileSource::new(file, place);
             carry_out(
                 &rt,
                 alloc,

@@ -8,6 +8,7 @@ pub mod Handings
 pub mod ProgramLaws
 pub mod Begins
 pub mod Planning
+pub mod Passing
 pub mod Windowing
 pub mod Numbers
 pub mod Compiling

@@ -1,22 +1,19 @@
 -- What a run in windows means, while documents are behind what is pending.
-use Rattle.std.proofs.Common.{◌≡◌, ◌+◌, ◌<◌, ◌≤◌, ℕ, List, [], ◌∷◌, ◌++◌, All, true, false, map, length, take, drop, ap, ap₂, sym, subst, refl, ◌∙◌, append_assoc, append-nil, take-append-drop, length-append, arith, Option, Some, None, IfOk, IfSome, Result, Ok, Err, inl, inr}
+use Rattle.std.proofs.Common.{◌≡◌, ◌+◌, ◌<◌, ◌≤◌, ℕ, List, [], ◌∷◌, ◌++◌, true, false, map, ap, sym, subst, refl, ◌∙◌, append_assoc, append-nil, arith, Option, Some, None, IfOk, IfSome, OnErr, Bool, Result, Ok, Err, inl, inr}
 use Rattle.std.specs.Prelude.{◌⊎◌}
 use Rattle.std.specs.List.{flat_map}
 use Rattle.std.proofs.lemmas.Grind.{flat_map-append}
-use Rattle.std.proofs.Math.Seq.{take-nil}
-use Rattle.std.proofs.lemmas.List.Elements.{All-append}
 use Rattle.span_token.specs.Documents.{Doc}
 use Rattle.corpus_json.specs.declared.input.Input.{Input}
 use Rattle.corpus_json.specs.Documents.{documents, is_bad_line}
 use Rattle.corpus_json.specs.Inputs.{doc_of}
 use Rattle.corpus_json.specs.Limits.{corpus_limit}
-use Rattle.corpus_json.specs.Lines.{joined, HasNoLf}
-use Rattle.corpus_json.specs.Reading.{Reading, NextLine, past}
+use Rattle.corpus_json.specs.Reading.{Reading, NextLine}
 use Rattle.corpus_json.specs.declared.step.Step.{Step}
 use Rattle.corpus_json.specs.declared.step.Step.TheVariants.{Line, End}
 use Rattle.aqlx_top.specs.declared.status.Status.{Status}
 use Rattle.aqlx_top.specs.Devices.{SourceEnds, source_ends}
-use Rattle.aqlx_top.specs.Progress.{Stands, Finished, IsReadTo}
+use Rattle.aqlx_top.specs.Progress.{Stands, Finished}
 use Rattle.algebra.specs.Plans.{Parts}
 use Rattle.aqlx_top.specs.Endings.{InPart, written_for}
 use Rattle.aqlx_top.specs.Planned.{line_by}
@@ -25,10 +22,9 @@ use Rattle.aqlx_top.specs.Windows.{meant_by, Fits, HasAnswered, HasTaken, IsGive
 use Rattle.aqlx_top.specs.declared.run.Turn.{Turn}
 use Rattle.aqlx_top.specs.declared.run.Turn.TheVariants.{Next, Ended}
 use Rattle.aqlx_top.specs.declared.windows.Windowed.{Windowed}
+use Rattle.aqlx_top.proofs.Passing.{stands-passed}
 use Rattle.aqlx_top.proofs.Sinks.{appends_nothing}
-use Rattle.aqlx_top.proofs.Turns.{finished_in_part, part_of, joined_long, next_line_good, number_within, ended_bad, short_is, line_is_short, part_of_next, pending_for_bad}
-use Rattle.window_lines.specs.Answered.{AreAnswered}
-use Rattle.window_lines.specs.DocumentLaws.{pieces-append}
+use Rattle.aqlx_top.proofs.Turns.{finished_in_part, part_of, next_line_good, number_within, ended_bad, short_is, line_is_short, part_of_next, pending_for_bad}
 use Rattle.span_token.specs.declared.refusal.OutOfMemory.{OutOfMemory}
 
 -- more documents in the window
@@ -82,54 +78,6 @@ turned_with piece corpus before now reading next pending after number following 
 pub fits_own : (plan : Parts) (work : Windowed) → Fits plan work → Fits work.plan.now work
 fits_own plan work fits = subst (λ (p : Parts). Fits p work) (sym fits.plan_is) fits
 
--- no bytes are no lines
-no_lines : (bytes : List ℕ) (lines : List (List ℕ)) → bytes ≡ [] → bytes ≡ joined lines → lines ≡ []
-no_lines bytes [] none whole = refl
-no_lines bytes (line ∷ lines) none whole =
-    let long = joined_long (line ∷ lines) in
-    let same : length (joined (line ∷ lines)) ≡ 0 = ap length (sym whole ∙ none) in
-    absurd (omega (arith, long, same))
-
--- lines that were ready are looked at where they stand
-read_past : (left : Option (List ℕ)) (given : List ℕ) (lines more : List (List ℕ)) (ready : List ℕ) (taken n : ℕ) (last : Option Step)
-    → IsReadTo left given lines (record { ready = ready; taken = taken; last = last }) → (last ≡ None) ⊎ (ready ≡ []) → take n ready ≡ joined more → All HasNoLf more
-    → IsReadTo left given (lines ++ more) (past n (record { ready = ready; taken = taken; last = last }))
-read_past left given lines more ready taken n None read going whole no_lf = (
-  read.0
-      ∙ ap (λ (b : List ℕ). joined lines ++ b) (sym (take-append-drop n ready) ∙ ap (λ (b : List ℕ). b ++ drop n ready) whole)
-      ∙ sym (append_assoc (joined lines) (joined more) (drop n ready))
-      ∙ ap (λ (b : List ℕ). b ++ drop n ready) (sym (flat_map-append (λ (line : List ℕ). line ++ 10 ∷ []) lines more)),
-  All-append HasNoLf lines more read.1 no_lf,
-)
-read_past left given lines more ready taken n (Some last) read (inl going) whole no_lf = absurd (let e : Some last ≡ None = going in cc)
-read_past left given lines more ready taken n (Some last) read (inr none) whole no_lf =
-    let nothing : take n ready ≡ [] = ap (take n) none ∙ take-nil n in
-    let empty = no_lines (take n ready) more nothing whole in
-    (read.0, read.1 ∙ sym (append-nil lines) ∙ ap (λ (ls : List (List ℕ)). lines ++ ls) (sym empty), read.2, read.3)
-
--- lines that were ready are answered, and what is written for them is pending
-stands_past : (piece : Doc → List ℕ) (corpus : SourceEnds) (before now : Option (List ℕ)) (reading : Reading) (pending : List ℕ) (number n count : ℕ) (text : List ℕ)
-    → Stands piece corpus before now reading pending number → (reading.last ≡ None) ⊎ (reading.ready ≡ []) → AreAnswered piece (take n reading.ready) count text
-    → Stands piece corpus before now (past n reading) (pending ++ text) (number + count)
-stands_past piece corpus before now reading pending number n count text s going a =
-    record {
-      given = s.given;
-      lines = s.lines ++ a.lines;
-      sent = s.sent;
-      taken = s.taken;
-      unfailed = s.unfailed;
-      counted = s.counted;
-      within = s.within;
-      read = read_past corpus.left_after s.given s.lines a.lines reading.ready reading.taken n reading.last s.read going a.whole a.no_lf;
-      good = All-append (λ (each : List ℕ). is_bad_line each ≡ false) s.lines a.lines s.good a.good;
-      gained = s.gained;
-      wrote =
-          sym (append_assoc s.sent pending text)
-          ∙ ap₂ (λ (bs cs : List ℕ). bs ++ cs) s.wrote a.written
-          ∙ sym (pieces-append piece s.lines a.lines s.good);
-      numbered = ap₂ (λ (i j : ℕ). i + j) s.numbered a.counted ∙ sym (length-append s.lines a.lines);
-    }
-
 -- a reading that gave a line goes on, or has nothing ready
 line_kind : (left_now left_next : Option (List ℕ)) (faults_now faults_next : ℕ) (ready : List ℕ) (taken : ℕ) (last : Option Step) (now : Reading) (line : List ℕ)
     → IfSome last (λ step. step ≡ End) → NextLine left_now left_next faults_now faults_next (record { ready = ready; taken = taken; last = last }) now line Line
@@ -174,47 +122,55 @@ module _ (piece : Doc → List ℕ) (left_before left_now left_next : Option (Li
         (finished_with piece corpus before now (meant_by piece pending window) (meant_by piece after.pending after.window.items) _ (sym kept)
         (ended_bad piece left_before left_now left_next faults_before faults_now faults_next before now reading mid.reader (meant_by piece pending window) line number mid.number s next bad (short_is line short) counts))
 
-    answered_turned : HasAnswered piece mid after → Stands piece corpus before now after.reader (meant_by piece after.pending after.window.items) after.number
-    answered_turned is =
+    answered_turned : (looks : Bool) (left_after : Option (List ℕ)) → HasAnswered piece looks left_next left_after mid after
+        → Stands piece (source_ends left_before left_after faults_before faults_next) before now after.reader (meant_by piece after.pending after.window.items) after.number
+    answered_turned looks left_after is =
         let put = is.put in
         let alone : meant_by piece pending window ≡ pending = meant_alone piece pending window (sym there ∙ is.empty_before) in
         let first : Stands piece corpus before now mid.reader (mid.pending ++ written_for piece (mid.line.items ∷ [])) mid.number =
         stands_with piece corpus before now mid.reader _ _ mid.number (ap (λ (b : List ℕ). b ++ written_for piece (mid.line.items ∷ [])) (alone ∙ sym same)) (looked_at put.good) in
-        let all = stands_past piece corpus before now mid.reader _ mid.number is.taken.bytes is.taken.lines put.text first (line_kind left_now left_next faults_now faults_next reading.ready reading.taken reading.last mid.reader mid.line.items going next) put.answered in
-        let few = number_within piece left_before left_next faults_before faults_next before now (past is.taken.bytes mid.reader) _ (mid.number + is.taken.lines) all in
+        let kind = line_kind left_now left_next faults_now faults_next reading.ready reading.taken reading.last mid.reader mid.line.items going next in
+        let all = stands-passed piece left_before left_next left_after faults_before faults_next before now looks mid.reader after.reader _ mid.number is.taken.bytes is.taken.lines is.ahead put.bytes put.text
+        first kind is.going put.within is.allowed put.there put.answered is.passed in
+        let few = number_within piece left_before left_after faults_before faults_next before now after.reader _ (mid.number + is.taken.lines) all in
         let counted = is.counted (omega (arith, few)) in
-        rw (is.rest, counted)
-        (stands_with piece corpus before now (past is.taken.bytes mid.reader) _ _ (mid.number + is.taken.lines) (sym put.put ∙ sym (meant_alone piece after.pending after.window.items is.empty)) all)
+        rw counted
+        (stands_with piece (source_ends left_before left_after faults_before faults_next) before now after.reader _ _ (mid.number + is.taken.lines) (sym put.put ∙ sym (meant_alone piece after.pending after.window.items is.empty)) all)
 
     -- what a line that was given comes to
-    pub given_turned : (turn : Turn) → IsGiven piece mid after turn → Turned piece corpus before now after.reader (meant_by piece after.pending after.window.items) after.number (Ok turn)
-    given_turned turn (inl is) = taken_turned turn is
-    given_turned turn (inr is) = rw is.0 (answered_turned is.1)
+    given_turned : (looks : Bool) (left_after : Option (List ℕ)) (turn : Turn) → IsGiven piece looks left_next left_after mid after turn
+        → Turned piece (source_ends left_before left_after faults_before faults_next) before now after.reader (meant_by piece after.pending after.window.items) after.number (Ok turn)
+    given_turned looks left_after turn (inl is) =
+        subst (λ (l : Option (List ℕ)). Turned piece (source_ends left_before l faults_before faults_next) before now after.reader (meant_by piece after.pending after.window.items) after.number (Ok turn)) (sym is.1)
+        (taken_turned turn is.0)
+    given_turned looks left_after turn (inr is) = rw is.0 (answered_turned looks left_after is.1)
 
     -- and where memory is wanting for it
-    pub given_result : (result : Result Turn OutOfMemory) → IfOk result (IsGiven piece mid after) → Turned piece corpus before now after.reader (meant_by piece after.pending after.window.items) after.number result
-    given_result (Ok turn) is = given_turned turn is
-    given_result (Err none) is =
-        part_of_next piece left_before left_now left_next faults_before faults_now faults_next before now reading mid.reader (meant_by piece pending window) mid.line.items number s next
+    pub given_result : (looks : Bool) (left_after : Option (List ℕ)) (result : Result Turn OutOfMemory) → IfOk result (IsGiven piece looks left_next left_after mid after) → OnErr result (left_after ≡ left_next)
+        → Turned piece (source_ends left_before left_after faults_before faults_next) before now after.reader (meant_by piece after.pending after.window.items) after.number result
+    given_result looks left_after (Ok turn) is stays = given_turned looks left_after turn is
+    given_result looks left_after (Err none) is stays =
+        subst (λ (l : Option (List ℕ)). InPart piece (source_ends left_before l faults_before faults_next) before now) (sym stays)
+        (part_of_next piece left_before left_now left_next faults_before faults_now faults_next before now reading mid.reader (meant_by piece pending window) mid.line.items number s next)
 
 -- the reader goes on behind it
-pub given_going : (piece : Doc → List ℕ) (mid after : Windowed) (turn : Turn) → IsGiven piece mid after turn → turn ≡ Next → IfSome mid.reader.last (λ step. step ≡ End) → IfSome after.reader.last (λ step. step ≡ End)
-given_going piece mid after Next (inl is) next going = rw is.reader going
-given_going piece mid after (Ended status) (inl is) next going = let e : Ended status ≡ Next = next in absurd (cc)
-given_going piece mid after turn (inr is) next going = rw is.1.rest going
+pub given_going : (piece : Doc → List ℕ) (looks : Bool) (left_before left_now : Option (List ℕ)) (mid after : Windowed) (turn : Turn) → IsGiven piece looks left_before left_now mid after turn → turn ≡ Next → IfSome mid.reader.last (λ step. step ≡ End) → IfSome after.reader.last (λ step. step ≡ End)
+given_going piece looks left_before left_now mid after Next (inl is) next going = let same = is.0.reader in rw same going
+given_going piece looks left_before left_now mid after (Ended status) (inl is) next going = let e : Ended status ≡ Next = next in absurd (cc)
+given_going piece looks left_before left_now mid after turn (inr is) next going = let passed = is.1.passed in rw passed.reading going
 
 -- and the number of lines rises
-pub given_rises : (piece : Doc → List ℕ) (mid after : Windowed) (turn : Turn) (number : ℕ) → IsGiven piece mid after turn → turn ≡ Next → mid.number ≡ number + 1 → number < after.number
-given_rises piece mid after Next number (inl is) next counts = let same = is.number in omega (arith, same, counts)
-given_rises piece mid after (Ended status) number (inl is) next counts = let e : Ended status ≡ Next = next in absurd (cc)
-given_rises piece mid after turn number (inr is) next counts = let risen = is.1.risen in omega (arith, risen, counts)
+pub given_rises : (piece : Doc → List ℕ) (looks : Bool) (left_before left_now : Option (List ℕ)) (mid after : Windowed) (turn : Turn) (number : ℕ) → IsGiven piece looks left_before left_now mid after turn → turn ≡ Next → mid.number ≡ number + 1 → number < after.number
+given_rises piece looks left_before left_now mid after Next number (inl is) next counts = let same = is.0.number in omega (arith, same, counts)
+given_rises piece looks left_before left_now mid after (Ended status) number (inl is) next counts = let e : Ended status ≡ Next = next in absurd (cc)
+given_rises piece looks left_before left_now mid after turn number (inr is) next counts = let risen = is.1.risen in omega (arith, risen, counts)
 
-pub going_result : (piece : Doc → List ℕ) (mid after : Windowed) (result : Result Turn OutOfMemory) → IfOk result (IsGiven piece mid after) → IfSome mid.reader.last (λ step. step ≡ End)
+pub going_result : (piece : Doc → List ℕ) (looks : Bool) (left_before left_now : Option (List ℕ)) (mid after : Windowed) (result : Result Turn OutOfMemory) → IfOk result (IsGiven piece looks left_before left_now mid after) → IfSome mid.reader.last (λ step. step ≡ End)
     → IfOk result (λ came. came ≡ Next → IfSome after.reader.last (λ step. step ≡ End))
-going_result piece mid after (Ok turn) is going = λ next. given_going piece mid after turn is next going
-going_result piece mid after (Err none) is going = tt
+going_result piece looks left_before left_now mid after (Ok turn) is going = λ next. given_going piece looks left_before left_now mid after turn is next going
+going_result piece looks left_before left_now mid after (Err none) is going = tt
 
-pub rises_result : (piece : Doc → List ℕ) (mid after : Windowed) (result : Result Turn OutOfMemory) (number : ℕ) → IfOk result (IsGiven piece mid after) → mid.number ≡ number + 1
+pub rises_result : (piece : Doc → List ℕ) (looks : Bool) (left_before left_now : Option (List ℕ)) (mid after : Windowed) (result : Result Turn OutOfMemory) (number : ℕ) → IfOk result (IsGiven piece looks left_before left_now mid after) → mid.number ≡ number + 1
     → IfOk result (λ came. came ≡ Next → number < after.number)
-rises_result piece mid after (Ok turn) number is counts = λ next. given_rises piece mid after turn number is next counts
-rises_result piece mid after (Err none) number is counts = tt
+rises_result piece looks left_before left_now mid after (Ok turn) number is counts = λ next. given_rises piece looks left_before left_now mid after turn number is next counts
+rises_result piece looks left_before left_now mid after (Err none) number is counts = tt

@@ -1,11 +1,13 @@
 -- A run in windows of documents. Only private clauses cite this.
-use Rattle.std.specs.Prelude.{◌≡◌, ◌⊎◌, ℕ, ◌+◌, ◌<◌, ◌≤◌, ◌*◌, ◌^◌, Bool, true, false, not, List, [], ◌∷◌, ◌++◌, length, map}
+use Rattle.std.specs.Prelude.{◌≡◌, ◌⊎◌, ℕ, ◌+◌, ◌-◌, ◌<◌, ◌≤◌, ◌*◌, ◌^◌, Bool, true, false, not, List, [], ◌∷◌, ◌++◌, length, map, Option, None}
 use Rattle.std.specs.List.{flat_map}
 use Rattle.span_token.specs.Documents.{Doc}
 use Rattle.corpus_json.specs.declared.input.Input.{Input}
 use Rattle.corpus_json.specs.Documents.{documents, is_bad_line}
 use Rattle.corpus_json.specs.Inputs.{doc_of}
-use Rattle.corpus_json.specs.Reading.{past}
+use Rattle.corpus_json.specs.Limits.{corpus_limit}
+use Rattle.corpus_json.specs.Reading.{Passed}
+use Rattle.line_sight.specs.Seen.{shown_by}
 use Rattle.algebra.specs.Plans.{Parts}
 use Rattle.window_lines.specs.declared.ready.Answered.{Answered}
 use Rattle.window_lines.specs.Answered.{IsAnswered}
@@ -48,11 +50,14 @@ abbrev pub HasTaken : Windowed → Windowed → Turn → Type 0
 HasTaken before now Next = IsPut before now true
 HasTaken before now (Ended status) = IsPut before now false × (status ≡ Corpus (BadLine before.number))
 
--- what is written for the line that was given, and for those that were ready, is pending
-pub record HasAnswered (piece : Doc → List ℕ) (before now : Windowed) : Type 0 where
+-- what is written for the line that was given, and for those behind it, ready or left of the corpus, is pending
+pub record HasAnswered (piece : Doc → List ℕ) (looks : Bool) (left_before left_now : Option (List ℕ)) (before now : Windowed) : Type 0 where
+  pub ahead : ℕ
+  pub going : 0 < ahead → before.reader.last ≡ None
   pub taken : Answered
-  pub put : IsAnswered piece before.line.items before.reader.ready taken before.pending now.pending
-  pub rest : now.reader ≡ past taken.bytes before.reader
+  pub put : IsAnswered piece before.line.items (shown_by looks before.reader.ready left_before ahead) taken before.pending now.pending
+  pub passed : Passed left_before left_now before.reader now.reader taken.bytes
+  pub allowed : ahead ≤ corpus_limit - before.reader.taken
   pub risen : before.number ≤ now.number
   pub counted : before.number + taken.lines < 2 ^ 64 → now.number ≡ before.number + taken.lines
   pub empty_before : before.window.items ≡ []
@@ -67,6 +72,7 @@ pub record IsAsBefore (before now : Windowed) : Type 0 where
   pub number : now.number ≡ before.number
   pub most : now.most ≡ before.most
 
--- one or the other
-abbrev pub IsGiven : (Doc → List ℕ) → Windowed → Windowed → Turn → Type 0
-IsGiven piece before now turn = HasTaken before now turn ⊎ ((turn ≡ Next) × HasAnswered piece before now)
+-- one or the other, and nothing of the corpus is passed where the line was put into the window
+abbrev pub IsGiven : (Doc → List ℕ) → Bool → Option (List ℕ) → Option (List ℕ) → Windowed → Windowed → Turn → Type 0
+IsGiven piece looks left_before left_now before now turn =
+    (HasTaken before now turn × (left_now ≡ left_before)) ⊎ ((turn ≡ Next) × HasAnswered piece looks left_before left_now before now)

@@ -39,13 +39,13 @@ use std::thread::Threads;
 /// order and once, with a plan whose text `plan` may write; of one that keeps none no clause says how often. The
 /// program's pool is `Workers`; a sound pool's lines are those that the program means.
 ///
-/// With `--workers N`, N from 2 on, and a plain pool, `run` answers the lines that are ready by N workers, each in a
-/// thread of its own but for one, and holds what one read brought and, where the corpus can be looked ahead in, as much
-/// again, or a window of large documents, and its lines; no byte of what is written depends on N. All other calls start
-/// no thread. No clause says of threads that there are any.
+/// With `--workers N`, N from 2 on, and a plain pool, `run` answers the lines that are ready, and those behind them that
+/// the corpus shows, by N workers, each in a thread of its own but for one, and holds what one read brought, or a window
+/// of large documents, and what is written for them; no byte of what is written depends on N. All other calls start no
+/// thread. No clause says of threads that there are any.
 ///
 /// Meaning: `Outcome`, `specs/Outcome.antt`; docs/FORMATS.md, "Exit status and standard error".
-pub fn aqlx<R: Threads + Sync, F: Files, S: Source, O: Sink, E: Sink, P: Pool>(
+pub fn aqlx<R: Threads + Sync, F: Files, S: Source + Sync, O: Sink, E: Sink, P: Pool>(
     rt: &R,
     alloc: Global,
     words: &Vec<String>,
@@ -69,7 +69,7 @@ pub fn aqlx<R: Threads + Sync, F: Files, S: Source, O: Sink, E: Sink, P: Pool>(
 }
 
 /// Does what the words ask for, and tells how it ended.
-fn carry_out<R: Threads + Sync, F: Files, S: Source, O: Sink, P: Pool>(
+fn carry_out<R: Threads + Sync, F: Files, S: Source + Sync, O: Sink, P: Pool>(
     rt: &R,
     alloc: Global,
     words: &Vec<String>,
@@ -98,7 +98,7 @@ fn carry_out<R: Threads + Sync, F: Files, S: Source, O: Sink, P: Pool>(
 }
 
 /// Does what is asked for.
-fn follow<R: Threads + Sync, F: Files, S: Source, O: Sink, P: Pool>(
+fn follow<R: Threads + Sync, F: Files, S: Source + Sync, O: Sink, P: Pool>(
     rt: &R,
     alloc: Global,
     asked: Asked<'_>,
@@ -132,7 +132,7 @@ fn follow<R: Threads + Sync, F: Files, S: Source, O: Sink, P: Pool>(
 }
 
 /// Reads a program file and runs its program.
-fn run_file<R: Threads + Sync, F: Files, S: Source, O: Sink, P: Pool>(
+fn run_file<R: Threads + Sync, F: Files, S: Source + Sync, O: Sink, P: Pool>(
     rt: &R,
     alloc: Global,
     workers: u32,
@@ -160,7 +160,7 @@ fn run_file<R: Threads + Sync, F: Files, S: Source, O: Sink, P: Pool>(
 }
 
 /// Runs the program that a file's bytes hold.
-fn run_text<R: Threads + Sync, S: Source, O: Sink, P: Pool>(
+fn run_text<R: Threads + Sync, S: Source + Sync, O: Sink, P: Pool>(
     rt: &R,
     alloc: Global,
     workers: u32,

@@ -1,12 +1,12 @@
-//! A run by workers: each answers lines that are ready by itself, and a few large documents are evaluated in
-//! windows, by all workers together.
+//! A run by workers: each answers lines that are ready, or left of the corpus, by itself, and a few large documents are
+//! evaluated in windows, by all workers together.
 
-ghost use Rattle.std.specs.Prelude.{◌≡◌, ◌≢◌, ◌<◌, ◌≤◌, ◌+◌, ◌*◌, ◌^◌, ◌++◌, ℕ, [], ◌∷◌, false, true, not, IfOk, OnOk, OnErr, Option, List, MatchResult, None, length, map};
+ghost use Rattle.std.specs.Prelude.{◌≡◌, ◌≢◌, ◌<◌, ◌≤◌, ◌+◌, ◌-◌, ◌*◌, ◌^◌, ◌++◌, ℕ, [], ◌∷◌, false, true, not, IfOk, OnOk, OnErr, Option, List, MatchResult, None, length, map};
 ghost use Rattle.algebra.specs.Plans.{Parts};
 ghost use Rattle.aql_io.specs.Causes.{Rose};
 ghost use Rattle.corpus_json.specs.Documents.{documents, is_bad_line};
 ghost use Rattle.corpus_json.specs.Inputs.{doc_of};
-ghost use Rattle.corpus_json.specs.Limits.{line_limit};
+ghost use Rattle.corpus_json.specs.Limits.{corpus_limit, line_limit};
 ghost use Rattle.run_pool.specs.Lines.{rows_by};
 ghost use Rattle.span_token.specs.Documents.{Doc};
 ghost use Rattle.aqlx_top.specs.Devices.{SourceEnds, source_ends, sink_ends, source_between, sink_between};
@@ -40,26 +40,31 @@ const MOST_DOCUMENTS: u32 = 64;
 /// How many bytes of lines make a window full.
 const MOST_BYTES: usize = 4_194_304;
 
-/// Lines of so many bytes are large: they go into a window, where few are ready behind them.
+/// Lines of so many bytes are large: they go into a window, where few are left behind them.
 const LARGE: usize = 65_536;
 
-/// How many bytes the first read of the corpus may bring: more than a pipe holds, so that a read that brings as
-/// many comes from a file, which is never waited for.
+/// Lines of so many bytes go into a window, however many stand behind them: all workers evaluate such a document together.
+const LONG: usize = 4_194_304;
+
+/// How many bytes a read of the corpus may bring: more than a pipe holds, so that a read that brings as many comes from a
+/// file, which is never waited for.
 const ROOM: usize = 2_097_152;
 
-/// How many bytes for each worker a later read may bring, where one before it brought all that it could: so many that
-/// threads are seldom started, and so few that they are still near the processor when they are looked at.
-const ROOM_EACH: usize = 1_048_576;
+/// The same where the corpus shows what is left: but for the line with which a turn begins, lines are looked at.
+const ROOM_SHOWN: usize = 65_536;
 
-/// How many bytes for each worker a later read may bring where lines are large, within the next two bounds: so many
-/// that each worker has some of them.
-const LARGE_ROOM_EACH: usize = 3_145_728;
+/// Bytes behind those that are ready are looked at where so many are left, and else read: few of them pay for no threads.
+const WORTH: usize = 1_048_576;
 
-/// How many bytes a later read may bring at least where lines are large.
-const LARGE_ROOM: usize = 12_582_912;
+/// Where so many bytes for each worker are left, most large lines are short enough that there is one for each of them.
+const EACH: usize = 1_048_576;
 
-/// How many bytes a read may bring at most.
-const MOST_ROOM: usize = 16_777_216;
+/// Up to how many bytes behind those that are ready are answered in one turn, so that a worker that is through seldom
+/// waits for the others.
+const AHEAD: usize = 33_554_432;
+
+/// The same where lines are large, since it takes long until all workers are through.
+const AHEAD_LARGE: usize = 67_108_864;
 
 /// What a run keeps from line to line: lines that are pending, and behind them a window of documents whose
 /// lines aren't made yet, which has at most `most` documents and so many bytes of lines.
@@ -84,7 +89,7 @@ pub(crate) struct Windowed<'p> {
 
 /// Runs a plan over a corpus as `run` does, with the documents evaluated by so many workers, each alone or in
 /// windows. The pool answers what is found and keeps no list, so documents may be handed to parts of it.
-pub(crate) fn run_in_windows<R: Threads + Sync, S: Source, O: Sink, P: Pool>(
+pub(crate) fn run_in_windows<R: Threads + Sync, S: Source + Sync, O: Sink, P: Pool>(
     rt: &R,
     alloc: Global,
     workers: u32,
@@ -107,7 +112,12 @@ pub(crate) fn run_in_windows<R: Threads + Sync, S: Source, O: Sink, P: Pool>(
     ensures means { P.means pool.new ≡ P.means pool.old }
     ensures told { P.told pool.new ≡ P.told pool.old }
 {
-    let mut work = begin_windows(alloc, workers, plan, outputs)?;
+    let room = if shows_byte(corpus, WORTH) {
+        ROOM_SHOWN
+    } else {
+        ROOM
+    };
+    let mut work = begin_windows(alloc, workers, plan, outputs, room)?;
     'lines: loop {
         match send_between(out, &mut work) {
             Ok(()) => {}
@@ -125,8 +135,10 @@ fn begin_windows<'p>(
     workers: u32,
     plan: &'p Plan,
     outputs: &'p [Output],
+    room: usize,
 ) -> Result<Windowed<'p>, OutOfMemory>
     requires some { 1 ≤ workers }
+    requires room { 0 < room }
     requires outputs { outputs.now ≡ names_in plan.now }
     ensures fits { IfOk result (Fits plan.now) }
     ensures reader { IfOk result (λ work. work.reader ≡ record { ready = []; taken = 0; last = None }) }
@@ -142,7 +154,7 @@ fn begin_windows<'p>(
         with_tokens,
         layout: Layout::new(alloc, outputs)?,
         workers: workers as usize,
-        reader: LineBuffer::growing(alloc, ROOM, room_for(workers))?,
+        reader: LineBuffer::with_room(alloc, room)?,
         line: Vec::new(alloc),
         documents: DocumentReader::new(alloc),
         number: 0,
@@ -153,31 +165,27 @@ fn begin_windows<'p>(
     })
 }
 
-/// How many bytes a read may bring for so many workers, where lines aren't large.
-fn room_for(workers: u32) -> usize {
-    (workers as usize)
-        .saturating_mul(ROOM_EACH)
-        .clamp(ROOM, MOST_ROOM)
+/// How many bytes behind those that are ready may be answered: none where few are left, or where the corpus can't be
+/// looked at.
+fn room_ahead<S: Source>(work: &Windowed<'_>, corpus: &S) -> usize
+    ensures within { result ≤ corpus_limit - work.now.reader.taken }
+    ensures going { 0 < result → work.now.reader.last ≡ None }
+{
+    if !shows_byte(corpus, WORTH) {
+        return 0;
+    }
+    let most = if work.line.len() < LARGE {
+        AHEAD
+    } else {
+        AHEAD_LARGE
+    };
+    most.min(work.reader.may_take())
 }
 
-/// How many bytes a read may bring at least behind a line, for so many workers: many behind a large one.
-fn room_behind(line: &[u8], workers: usize) -> usize {
-    if line.len() >= LARGE {
-        workers
-            .saturating_mul(LARGE_ROOM_EACH)
-            .clamp(LARGE_ROOM, MOST_ROOM)
-    } else {
-        ROOM
-    }
-}
-
-/// How many bytes are looked at ahead: as many as a read may bring, where the last one brought all that it could.
-fn room_ahead(work: &Windowed<'_>) -> usize {
-    if work.reader.was_filled() {
-        work.reader.most()
-    } else {
-        0
-    }
+/// Whether the corpus shows the byte that stands so many behind the next one.
+fn shows_byte<S: Source>(corpus: &S, at: usize) -> bool {
+    let mut byte = [0u8];
+    corpus.look(at, &mut byte) > 0
 }
 
 /// How many documents a window may have, so that the nodes of the plan on them are fewer than 2^32.
@@ -221,9 +229,9 @@ fn is_to_send(work: &Windowed<'_>) -> bool
     work.window.is_empty() && (work.pending.has_many(PIECE) || !work.reader.has_line())
 }
 
-/// Looks at the next line and at those that are ready, and evaluates the window where it is due: so it is
+/// Looks at the next line and at those behind it, and evaluates the window where it is due: so it is
 /// empty at the end of the run.
-fn turn_in_window<R: Threads + Sync, S: Source, P: Pool>(
+fn turn_in_window<R: Threads + Sync, S: Source + Sync, P: Pool>(
     rt: &R,
     alloc: Global,
     work: &mut Windowed<'_>,
@@ -256,8 +264,8 @@ fn turn_in_window<R: Threads + Sync, S: Source, P: Pool>(
     }
 }
 
-/// Looks at the next line, and puts its document into the window, or answers it and those that are ready.
-fn take_line<R: Threads + Sync, S: Source, P: Pool>(
+/// Looks at the next line, and puts its document into the window, or answers it and those behind it.
+fn take_line<R: Threads + Sync, S: Source + Sync, P: Pool>(
     rt: &R,
     alloc: Global,
     work: &mut Windowed<'_>,
@@ -291,8 +299,8 @@ fn take_line<R: Threads + Sync, S: Source, P: Pool>(
     }
 }
 
-/// Puts the document of the line that was given into the window, or answers that line and those that are ready.
-fn take_given<R: Threads + Sync, S: Source, P: Pool>(
+/// Puts the document of the line that was given into the window, or answers that line and those behind it.
+fn take_given<R: Threads + Sync, S: Source + Sync, P: Pool>(
     rt: &R,
     alloc: Global,
     work: &mut Windowed<'_>,
@@ -304,21 +312,21 @@ fn take_given<R: Threads + Sync, S: Source, P: Pool>(
     requires untold { P.told pool.now ≡ None }
     requires below { length work.old.window.items < work.old.most }
     requires line { length work.old.line.items ≤ line_limit }
-    ensures given { IfOk result (IsGiven (line_by work.old.plan.now) work.old work.new) }
+    ensures given { IfOk result (IsGiven (line_by work.old.plan.now) (S.looks corpus.old) (S.left corpus.old) (S.left corpus.new) work.old work.new) }
     ensures fits { IfOk result (λ _. (plan : Parts) → Fits plan work.old → Fits plan work.new) }
-    ensures left { S.left corpus.new ≡ S.left corpus.old }
+    ensures err { OnErr result (S.left corpus.new ≡ S.left corpus.old) }
     ensures faults { S.faults corpus.new ≡ S.faults corpus.old }
 {
-    if is_for_window(work) {
+    if is_for_window(work, corpus) {
         take_document(alloc, work)
     } else {
         answer_or_take(rt, alloc, work, pool, corpus)
     }
 }
 
-/// Answers the line that was given and those that are ready, or puts the document of that one into the window
+/// Answers the line that was given and those behind it, or puts the document of that one into the window
 /// where it can't.
-fn answer_or_take<R: Threads + Sync, S: Source, P: Pool>(
+fn answer_or_take<R: Threads + Sync, S: Source + Sync, P: Pool>(
     rt: &R,
     alloc: Global,
     work: &mut Windowed<'_>,
@@ -331,9 +339,9 @@ fn answer_or_take<R: Threads + Sync, S: Source, P: Pool>(
     requires below { length work.old.window.items < work.old.most }
     requires line { length work.old.line.items ≤ line_limit }
     requires empty { work.old.window.items ≡ [] }
-    ensures given { IfOk result (IsGiven (line_by work.old.plan.now) work.old work.new) }
+    ensures given { IfOk result (IsGiven (line_by work.old.plan.now) (S.looks corpus.old) (S.left corpus.old) (S.left corpus.new) work.old work.new) }
     ensures fits { IfOk result (λ _. (plan : Parts) → Fits plan work.old → Fits plan work.new) }
-    ensures left { S.left corpus.new ≡ S.left corpus.old }
+    ensures err { OnErr result (S.left corpus.new ≡ S.left corpus.old) }
     ensures faults { S.faults corpus.new ≡ S.faults corpus.old }
 {
     if answer_ready(rt, alloc, work, pool, corpus)? {
@@ -343,13 +351,20 @@ fn answer_or_take<R: Threads + Sync, S: Source, P: Pool>(
     }
 }
 
-/// Whether the line that was given belongs into the window: where one is begun, or the line is large, and fewer
-/// are ready behind it than there are workers.
-fn is_for_window(work: &Windowed<'_>) -> bool
+/// Whether the line that was given belongs into the window: where one is begun, or the line is large, and there isn't work for
+/// all workers behind it.
+fn is_for_window<S: Source>(work: &Windowed<'_>, corpus: &S) -> bool
     ensures { result ≡ false → work.now.window.items ≡ [] }
 {
-    !work.window.is_empty()
-        || work.line.len() >= LARGE && !has_lines(work.reader.ready(), work.workers)
+    !work.window.is_empty() || work.line.len() >= LARGE && !has_many(work, corpus)
+}
+
+/// Whether there is work for all workers behind a large line: as many lines are ready as there are workers, or many bytes are
+/// left.
+fn has_many<S: Source>(work: &Windowed<'_>, corpus: &S) -> bool {
+    work.line.len() < LONG
+        && (has_lines(work.reader.ready(), work.workers)
+            || shows_byte(corpus, EACH.saturating_mul(work.workers)))
 }
 
 /// Whether so many lines are there with their LF.
@@ -364,9 +379,9 @@ fn has_lines(bytes: &[u8], number: usize) -> bool {
     true
 }
 
-/// Answers the line that was given and those that are ready, as far as none is bad. False where that one is
+/// Answers the line that was given and those behind it, as far as none is bad. False where that one is
 /// bad: then nothing is answered.
-fn answer_ready<R: Threads + Sync, S: Source, P: Pool>(
+fn answer_ready<R: Threads + Sync, S: Source + Sync, P: Pool>(
     rt: &R,
     alloc: Global,
     work: &mut Windowed<'_>,
@@ -377,14 +392,13 @@ fn answer_ready<R: Threads + Sync, S: Source, P: Pool>(
     requires as_found { P.means pool.now ≡ rows_by }
     requires untold { P.told pool.now ≡ None }
     requires empty { work.old.window.items ≡ [] }
-    ensures answered { IfOk result (λ answered. answered ≡ true → HasAnswered (line_by work.old.plan.now) work.old work.new) }
-    ensures none { IfOk result (λ answered. answered ≡ false → IsAsBefore work.old work.new) }
+    ensures answered { IfOk result (λ answered. answered ≡ true → HasAnswered (line_by work.old.plan.now) (S.looks corpus.old) (S.left corpus.old) (S.left corpus.new) work.old work.new) }
+    ensures none { IfOk result (λ answered. answered ≡ false → IsAsBefore work.old work.new × (S.left corpus.new ≡ S.left corpus.old)) }
     ensures fits { IfOk result (λ _. (plan : Parts) → Fits plan work.old → Fits plan work.new) }
-    ensures left { S.left corpus.new ≡ S.left corpus.old }
+    ensures err { OnErr result (S.left corpus.new ≡ S.left corpus.old) }
     ensures faults { S.faults corpus.new ≡ S.faults corpus.old }
 {
-    work.reader.grow_to(room_behind(&work.line, work.workers));
-    let ahead = room_ahead(work);
+    let ahead = room_ahead(work, corpus);
     let told = append_ready(
         rt,
         alloc,
@@ -401,7 +415,7 @@ fn answer_ready<R: Threads + Sync, S: Source, P: Pool>(
     )?;
     match told {
         Some(taken) => {
-            work.reader.skip(taken.bytes);
+            work.reader.pass(corpus, taken.bytes);
             work.number = work.number.saturating_add(taken.lines);
             Ok(true)
         }
@@ -419,7 +433,6 @@ fn take_document(alloc: Global, work: &mut Windowed<'_>) -> Result<Turn, OutOfMe
 {
     let good = put_document(alloc, &mut work.documents, &work.line, &mut work.window)?;
     if good {
-        work.reader.grow_to(room_behind(&work.line, work.workers));
         work.bytes = work.bytes.saturating_add(work.line.len());
         Ok(Turn::Next)
     } else {

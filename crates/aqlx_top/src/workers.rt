@@ -19,7 +19,7 @@ use std::thread::Threads;
 
 /// Runs a plan over a corpus by a pool and by so many workers: one evaluates line by line, and several at once
 /// where the pool answers what is found and keeps no list, each document being handed to it or to a part of it.
-pub(crate) fn run_by<R: Threads + Sync, S: Source, O: Sink, P: Pool>(
+pub(crate) fn run_by<R: Threads + Sync, S: Source + Sync, O: Sink, P: Pool>(
     rt: &R,
     alloc: Global,
     workers: u32,

@@ -198,7 +198,7 @@ pub(crate) fn run_by<R: Threads + Sync, P: Pool>(
 }
 
 /// Makes the call over this source and this sink: its exit status, and what stands on standard error.
-pub(crate) fn call<R: Threads + Sync, S: Source, O: Sink, P: Pool>(
+pub(crate) fn call<R: Threads + Sync, S: Source + Sync, O: Sink, P: Pool>(
     rt: &R,
     alloc: Global,
     setup: &Setup<'_>,

@@ -2,11 +2,11 @@
 ghost use Rattle.std.specs.Prelude.{Some};
 
 use crate::setup::{NUMBERS, Setup, call, repeated, sink_of, source_of, usual};
-use aql_io::{Failed, MemSink, MemSource, Sink, Source};
+use aql_io::{Failed, MemSink, Sink, Source, SureSource};
 use run_pool::Workers;
 use std::alloc::Global;
-use std::cell::Cell;
 use std::process::Abort;
+use std::sync::atomic::{AtomicUsize, Ordering};
 use std::test::Fail;
 use std::thread::Threads;
 
@@ -14,7 +14,7 @@ use std::thread::Threads;
 #[derive(Drop)]
 struct Shown<'a> {
     inner: MemSink,
-    length: &'a Cell<usize>,
+    length: &'a AtomicUsize,
 }
 
 impl Sink for Shown<'_> {
@@ -26,7 +26,8 @@ impl Sink for Shown<'_> {
 
     fn write(&mut self, piece: &[u8]) -> Result<usize, Failed> {
         let taken = self.inner.write(piece)?;
-        self.length.set(self.inner.bytes().len());
+        self.length
+            .store(self.inner.bytes().len(), Ordering::Relaxed);
         Ok(taken)
     }
 
@@ -37,20 +38,30 @@ impl Sink for Shown<'_> {
 
 /// A source that keeps what the sink held at each of its reads.
 #[derive(Drop)]
-struct Looking<'a> {
-    inner: MemSource,
-    length: &'a Cell<usize>,
+struct Looking<'a, S: Source> {
+    inner: S,
+    length: &'a AtomicUsize,
     seen: Vec<usize>,
 }
 
-impl Source for Looking<'_> {
-    ghost left = { λ s. Some s.inner.left };
+impl<S: Source> Source for Looking<'_, S> {
+    ghost left = { λ s. S.left s.inner };
 
-    ghost faults = { λ s. s.inner.calls.faults };
+    ghost faults = { λ s. S.faults s.inner };
+
+    ghost looks = { λ s. S.looks s.inner };
 
     fn read(&mut self, buf: &mut [u8]) -> Result<usize, Failed> {
-        let _kept = self.seen.push(self.length.get());
+        let _kept = self.seen.push(self.length.load(Ordering::Relaxed));
         self.inner.read(buf)
+    }
+
+    fn look(&self, at: usize, buf: &mut [u8]) -> usize {
+        self.inner.look(at, buf)
+    }
+
+    fn pass(&mut self, count: usize) {
+        self.inner.pass(count);
     }
 }
 
@@ -60,9 +71,20 @@ fn seen_at_reads<R: Threads + Sync>(
     alloc: Global,
     setup: &Setup<'_>,
 ) -> Result<Vec<usize>, Fail> {
-    let length = Cell::new(0usize);
+    let source = source_of(alloc, setup)?;
+    seen_at_reads_of(rt, alloc, setup, source)
+}
+
+/// The same, of this source.
+fn seen_at_reads_of<R: Threads + Sync, S: Source + Sync + Drop>(
+    rt: &R,
+    alloc: Global,
+    setup: &Setup<'_>,
+    inner: S,
+) -> Result<Vec<usize>, Fail> {
+    let length = AtomicUsize::new(0);
     let mut source = Looking {
-        inner: source_of(alloc, setup)?,
+        inner,
         length: &length,
         seen: Vec::new(alloc),
     };
@@ -146,5 +168,27 @@ fn output_begins_before_a_million_bytes_of_ten_thousand_documents_are_read(
     let read_before = seen.iter().take_while(|length| **length == 0).count();
     assert!(rt; read_before.saturating_sub(1).saturating_mul(piece) < 1_000_000);
     assert_eq!(rt; read_before, 1);
+    Ok(())
+}
+
+#[test]
+fn several_workers_look_at_what_a_corpus_shows_and_read_little_of_it(
+    rt: HostRuntime,
+) -> Result<(), Fail> {
+    let alloc = rt.alloc();
+    let corpus = padded(alloc, 20_000)?;
+    let mut reads = [0usize; 2];
+    for k in 0..2 {
+        let words = ["run", "p.aql", "--workers", ["1", "4"][k]];
+        let setup = Setup {
+            words: &words,
+            ..usual(NUMBERS, corpus.as_str())
+        };
+        let source = SureSource::new(corpus.as_bytes().to_vec(alloc)?);
+        reads[k] = seen_at_reads_of(&rt, alloc, &setup, source)?.len();
+    }
+    // one worker reads all of it, and of several the first line and the end
+    assert!(rt; reads[0] > 50, "one worker");
+    assert!(rt; 0 < reads[1] && reads[1] < 5, "several");
     Ok(())
 }

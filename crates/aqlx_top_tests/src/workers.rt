@@ -313,12 +313,14 @@ fn documents_of_every_size_give_the_same_lines(rt: HostRuntime) -> Result<(), Fa
     Ok(())
 }
 
-/// So many documents of 2,000 letters and more with their numbers from 100,000 on, and a bad line behind them.
-fn numbered(alloc: Global, count: u32) -> Result<String, Fail> {
-    let letters = repeated(alloc, "x", 2_000)?;
+/// So many documents of this padding and more with their numbers from 100,000 on, and a bad line behind them; the document
+/// of number `long` has a hundred times as much.
+fn numbered(alloc: Global, count: u32, padding: &str, long: u32) -> Result<String, Fail> {
+    let much = repeated(alloc, padding, 100)?;
     let mut all = String::new(alloc);
     for i in 0..count {
         let number = i.saturating_add(100_000);
+        let letters = if i == long { much.as_str() } else { padding };
         let line = format!(in alloc; "{{\"pad\":\"{letters}\",\"text\":\"{number}\"}}\n")?;
         all.push_str(line.as_str())?;
     }
@@ -339,26 +341,34 @@ fn numbered_lines(alloc: Global, count: u32) -> Result<String, Fail> {
     Ok(all)
 }
 
+/// How many documents there are, of how many letters each, and which of them is a hundred times as long: 10 MB of short
+/// lines, more than a read brings, and 17 MB of large ones, with a line of 8 MB among them that goes into a window.
+const LOOKED_AT: [(u32, usize, u32); 2] = [(5_200, 2_000, 5_300), (110, 80_000, 60)];
+
 #[test]
-fn what_is_looked_ahead_is_read_once_and_in_order(rt: HostRuntime) -> Result<(), Fail> {
+fn what_is_looked_at_is_answered_once_and_in_order(rt: HostRuntime) -> Result<(), Fail> {
     let alloc = rt.alloc();
-    // 10,540,403 bytes: more than 2, 4 and 4 MiB, which the first three reads of four workers bring
-    let count = 5_200;
-    let corpus = numbered(alloc, count)?;
-    let lines = numbered_lines(alloc, count)?;
-    for workers in &["1", "2", "4"] {
-        let words = ["run", "p.aql", "--workers", *workers];
-        let setup = Setup {
-            words: &words,
-            ..usual(NUMBERS, "")
-        };
-        let mut source = SureSource::new(Vec::from_slice(alloc, corpus.as_bytes())?);
-        let mut out = sink_of(alloc, 1 << 20, 1 << 20, &[])?;
-        let (code, err) = call(&rt, alloc, &setup, &mut source, &mut out, &mut Workers)?;
-        let line = b"aqlx: corpus line 5201 is not a document\n".as_slice();
-        assert_eq!(rt; err.bytes(), line, "{workers} workers");
-        assert_eq!(rt; code, 3, "{workers} workers");
-        assert!(rt; out.bytes() == lines.as_bytes(), "{workers} workers");
+    for (count, length, long) in LOOKED_AT {
+        let padding = repeated(alloc, "x", length)?;
+        let corpus = numbered(alloc, count, &padding, long)?;
+        let lines = numbered_lines(alloc, count)?;
+        let told = format!(in alloc;
+            "aqlx: corpus line {} is not a document\n",
+            count.saturating_add(1)
+        )?;
+        for workers in &["1", "2", "4"] {
+            let words = ["run", "p.aql", "--workers", *workers];
+            let setup = Setup {
+                words: &words,
+                ..usual(NUMBERS, "")
+            };
+            let mut source = SureSource::new(Vec::from_slice(alloc, corpus.as_bytes())?);
+            let mut out = sink_of(alloc, 1 << 20, 1 << 20, &[])?;
+            let (code, err) = call(&rt, alloc, &setup, &mut source, &mut out, &mut Workers)?;
+            assert_eq!(rt; err.bytes(), told.as_bytes(), "{workers} workers");
+            assert_eq!(rt; code, 3, "{workers} workers");
+            assert!(rt; out.bytes() == lines.as_bytes(), "{workers} workers");
+        }
     }
     Ok(())
 }

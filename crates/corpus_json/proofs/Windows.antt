@@ -1,13 +1,13 @@
 -- The part of a buffer that is ready, as its ends move.
-use Rattle.std.proofs.Common.{◌≡◌, ◌≢◌, ℕ, ◌+◌, ◌-◌, ◌≤◌, List, [], ◌∷◌, ◌++◌, length, take, drop, sym, ap, ◌∙◌, arith, Option, Some, None, take-append-drop, slice_range}
-use Rattle.std.proofs.lemmas.List.{drop-drop, drop-take, length-take-le, length-take}
+use Rattle.std.proofs.Common.{◌≡◌, ◌≢◌, ℕ, ◌+◌, ◌-◌, ◌≤◌, List, [], ◌∷◌, ◌++◌, length, take, drop, refl, sym, ap, subst, ◌∙◌, arith, Option, Some, None, option_map, take-append-drop, slice_range}
+use Rattle.std.proofs.lemmas.List.{drop-drop, drop-take, length-drop, length-take-le, length-take}
 use Rattle.std.specs.Io.KnownBytes.{Consumes}
 use Rattle.corpus_json.specs.declared.step.Step.{Step}
 use Rattle.corpus_json.specs.declared.step.Step.TheVariants.{Long}
 use Rattle.corpus_json.specs.Limits.{corpus_limit}
 use Rattle.corpus_json.specs.Moves.{MovesWhole, IsTooMany}
 use Rattle.corpus_json.specs.Pieces.{TakesLine, TakesTooMany, Fills}
-use Rattle.corpus_json.specs.Reading.{Reading, settled, past}
+use Rattle.corpus_json.specs.Reading.{Passed, Reading, settled}
 
 -- nothing is ready between equal ends
 pub slice_range-none : (bytes : List ℕ) (to : ℕ) → slice_range bytes to to ≡ []
@@ -21,17 +21,27 @@ slice_range-past bytes from to n within =
     ∙ drop-take n (to - (from + n)) (drop from bytes)
     ∙ ap (take (to - (from + n))) (drop-drop n from bytes)
 
--- the first bytes that are ready are left out
-pub skipped : (bytes : List ℕ) (from to taken n : ℕ) (last : Option Step) (before : Reading)
+-- where none is passed, what is left stays
+drop-none : (left : Option (List ℕ)) (k : ℕ) → k ≡ 0 → left ≡ option_map (drop k) left
+drop-none None k zero = refl
+drop-none (Some bytes) k zero = ap (λ (i : ℕ). Some (drop i bytes)) (sym zero)
+
+-- the first bytes that are ready are passed
+pub passed-ready : (left : Option (List ℕ)) (bytes : List ℕ) (from to taken n : ℕ) (last : Option Step) (before : Reading)
     → record { ready = slice_range bytes from to; taken = taken; last = last } ≡ before
-    → from ≤ to
-    → n ≤ length before.ready
-    → record { ready = slice_range bytes (from + n) to; taken = taken; last = last } ≡ past n before
-skipped bytes from to taken n last before is in_order within =
-    let size : length (slice_range bytes from to) ≡ length before.ready = ap (λ (r : Reading). length r.ready) is in
-    let fits : from + n ≤ to = omega (arith, within, in_order, size, length-take (to - from) (drop from bytes)) in
-    ap (λ (r : List ℕ). let now : Reading = record { ready = r; taken = taken; last = last } in now) (sym (slice_range-past bytes from to n fits))
-    ∙ ap (past n) is
+    → to ≤ length bytes
+    → from + n ≤ to
+    → Passed left left before record { ready = slice_range bytes (from + n) to; taken = taken; last = last } n
+passed-ready left bytes from to taken n last before is within fits =
+    let size = length-take-le (to - from) (drop from bytes) (omega (arith, within, fits, length-drop from bytes)) in
+    let none : n - length (slice_range bytes from to) ≡ 0 = omega (arith, size, fits) in
+    subst (λ (r : Reading). Passed left left r record { ready = slice_range bytes (from + n) to; taken = taken; last = last } n) is
+    (record {
+      left = drop-none left (n - length (slice_range bytes from to)) none;
+      reading =
+          ap (λ (r : List ℕ). let now : Reading = record { ready = r; taken = taken; last = last } in now) (sym (slice_range-past bytes from to n fits))
+          ∙ ap (λ (k : ℕ). let now : Reading = record { ready = drop n (slice_range bytes from to); taken = k; last = last } in now) (omega (arith, none));
+    })
 
 -- a piece that an LF ends is taken out of what is ready
 pub takes-whole : (bytes : List ℕ) (from to taken n : ℕ) (last : Option Step) (before : Reading) (line_before line_now : List ℕ)

@@ -1,5 +1,5 @@
 -- What a reader of lines took and gave, and what each of its answers says.
-use Rattle.std.specs.Prelude.{◌≡◌, ◌≢◌, ℕ, ◌+◌, ◌<◌, ◌≤◌, List, [], ◌∷◌, ◌++◌, length, drop, Option, None, Some, MatchOption, ◌⊎◌}
+use Rattle.std.specs.Prelude.{◌≡◌, ◌≢◌, ℕ, ◌+◌, ◌-◌, ◌<◌, ◌≤◌, List, [], ◌∷◌, ◌++◌, length, drop, Option, None, Some, MatchOption, option_map, ◌⊎◌}
 use Rattle.std.specs.Io.KnownBytes.{Consumes, IsAtEnd}
 use Rattle.aql_io.specs.Causes.{Rose}
 use Rattle.corpus_json.specs.declared.step.Step.{Step}
@@ -17,9 +17,10 @@ pub record Reading : Type 0 where
 abbrev pub settled : ℕ → Step → Reading
 settled taken step = record { ready = []; taken = taken; last = Some step }
 
--- the reading with so many of the bytes that are ready left out
-abbrev pub past : ℕ → Reading → Reading
-past count reading = record { ready = drop count reading.ready; taken = reading.taken; last = reading.last }
+-- so many bytes are passed, of those that are ready and then of those that are left of the source, which are taken by that
+pub record Passed (left_before left_now : Option (List ℕ)) (before now : Reading) (count : ℕ) : Type 0 where
+  pub left : left_now ≡ option_map (drop (count - length before.ready)) left_before
+  pub reading : now ≡ record { ready = drop count before.ready; taken = before.taken + (count - length before.ready); last = before.last }
 
 -- the bytes begin with the line and its LF, and go on with what the reading has ready
 pub record EndsAtLf (bytes line : List ℕ) (now : Reading) : Type 0 where

@@ -1,4 +1,4 @@
-ghost use Rattle.std.specs.Prelude.{IsTrue, ◌↔◌, ◌≡◌, ◌<◌, ◌≤◌, ℕ, [], None, List, Option, Contains, Some, Ok, IfOk, OnErr, IfSome, is_some, length, vec_len, take, min, MatchResult, MatchOption, ◌-◌};
+ghost use Rattle.std.specs.Prelude.{IsTrue, ◌↔◌, ◌≡◌, ◌<◌, ◌≤◌, ℕ, [], None, List, Option, Contains, Some, Ok, true, IfOk, OnErr, IfSome, is_some, length, vec_len, take, min, MatchResult, MatchOption, ◌+◌, ◌-◌};
 ghost use Rattle.std.specs.Io.KnownBytes.{Consumes, Keeps, IsAtEnd};
 ghost use Rattle.aql_io.specs.Causes.{HasCause};
 ghost use Rattle.corpus_json.specs.Given.{GoesOn, HasGiven};
@@ -6,7 +6,7 @@ ghost use Rattle.corpus_json.specs.Limits.{line_limit, corpus_limit};
 ghost use Rattle.corpus_json.specs.Lines.{HasNoLf, FirstLfAt};
 ghost use Rattle.corpus_json.specs.Moves.{MovesPiece};
 ghost use Rattle.corpus_json.specs.Pieces.{TakesPiece, Fills, step_after};
-ghost use Rattle.corpus_json.specs.Reading.{past, NextLine, Took};
+ghost use Rattle.corpus_json.specs.Reading.{NextLine, Passed, Took};
 ghost use Rattle.corpus_json.specs.Window.{IsPastLastLf};
 
 use crate::Step;
@@ -22,12 +22,10 @@ const ROOM: usize = 65_536;
 
 /// The bytes that were taken from a source of lines and not given yet.
 ///
-/// It reads ahead by one buffer, which grows where it is told to, and holds no source: each call is given it.
+/// It reads ahead by one buffer, and holds no source: each call is given it.
 #[derive(Debug, Drop)]
 pub struct LineBuffer {
     bytes: Vec<u8>,
-    /// To how many bytes the buffer grows.
-    most: usize,
     from: usize,
     to: usize,
     past_last_lf: usize,
@@ -62,41 +60,15 @@ impl LineBuffer {
         ensures new { IfOk result (λ buffer. buffer ≡ record { ready = []; taken = 0; last = None }) }
         ensures given { IfOk result (λ buffer. (left : Option (List ℕ)) (faults : ℕ) → HasGiven left left faults faults buffer []) }
     {
-        LineBuffer::growing(alloc, room, room)
-    }
-
-    /// A buffer that took nothing yet, for reads of up to `room` bytes, and of up to `most` once one fills it.
-    /// Where memory is wanting for more room, it stays.
-    pub fn growing(alloc: Global, room: usize, most: usize) -> Result<LineBuffer, OutOfMemory>
-        requires some { 0 < room }
-        ensures new { IfOk result (λ buffer. buffer ≡ record { ready = []; taken = 0; last = None }) }
-        ensures given { IfOk result (λ buffer. (left : Option (List ℕ)) (faults : ℕ) → HasGiven left left faults faults buffer []) }
-    {
         let bytes = vec![in alloc; 0; room]?;
         Ok(LineBuffer {
             bytes,
-            most,
             from: 0,
             to: 0,
             past_last_lf: 0,
             taken: 0,
             last: None,
         })
-    }
-
-    /// Lets a read bring up to `most` bytes, where one before it fills the buffer: no fewer than it may so far.
-    ///
-    /// It changes no line, so no clause speaks of it.
-    pub fn grow_to(&mut self, most: usize)
-        ensures { self.new ≡ self.old }
-    {
-        self.most = self.most.max(most);
-    }
-
-    /// How many bytes a read may bring, where one before it fills the buffer. What it says is about time alone, so no
-    /// clause speaks of it.
-    pub fn most(&self) -> usize {
-        self.most
     }
 
     /// How many bytes were taken from the source in all.
@@ -128,12 +100,37 @@ impl LineBuffer {
         &self.bytes[self.from..self.to]
     }
 
-    /// Leaves out the first `count` bytes that are ready: they were looked at where they stand (`ready`).
-    pub fn skip(&mut self, count: usize)
-        requires within { count ≤ length self.old.ready }
-        ensures rest { self.new ≡ past count self.old }
+    /// How many bytes may be taken besides: none once an answer stays.
+    pub fn may_take(&self) -> usize
+        ensures within { result ≤ corpus_limit - self.now.taken }
+        ensures going { 0 < result → self.now.last ≡ None }
     {
-        self.from += count;
+        match self.last {
+            Some(_) => 0,
+            None => left_below(self.taken),
+        }
+    }
+
+    /// Passes the first `count` bytes of those that are ready and, behind them, of those that are left of the source: they
+    /// were looked at where they stand (`ready`, `Source::look`).
+    ///
+    /// Meaning: `Passed`, `specs/Reading.antt`.
+    pub fn pass<S: Source>(&mut self, source: &mut S, count: usize)
+        requires able { length self.old.ready < count → S.looks source.old ≡ true }
+        requires there { length self.old.ready < count → IfSome (S.left source.old) (λ bytes. count ≤ length self.old.ready + length bytes) }
+        requires below { count - length self.old.ready ≤ corpus_limit - self.old.taken }
+        ensures passed { Passed (S.left source.old) (S.left source.new) self.old self.new count }
+        ensures faults { S.faults source.new ≡ S.faults source.old }
+    {
+        let ready = self.to - self.from;
+        if count <= ready {
+            self.from += count;
+        } else {
+            let more = count - ready;
+            self.from = self.to;
+            source.pass(more);
+            self.taken += more as u64;
+        }
     }
 
     /// Whether the last read brought as many bytes as it could, so that more may be there already. A read
@@ -222,7 +219,6 @@ impl LineBuffer {
         ensures read { Fills (S.left source.old) (S.left source.new) (S.faults source.old) (S.faults source.new) self.old self.new result }
         ensures told { is_some (S.left source.new) ≡ is_some (S.left source.old) }
     {
-        let grown = if self.was_filled() { self.most } else { 0 };
         self.from = 0;
         self.to = 0;
         self.past_last_lf = 0;
@@ -231,7 +227,7 @@ impl LineBuffer {
             self.last = Some(Step::Limit);
             return Some(Step::Limit);
         }
-        match read_room(source, &mut self.bytes, grown, most) {
+        match read_room(source, &mut self.bytes, most) {
             Ok(0) => {
                 self.last = Some(Step::End);
                 Some(Step::End)
@@ -321,14 +317,8 @@ fn left_below(taken: u64) -> usize
     left as usize
 }
 
-/// Takes up to `most` bytes from the source to the front of `room`: what it made ready, in another room, or what one read
-/// brings into this one, which is made as large as `grown` bytes before where it can.
-fn read_room<S: Source>(
-    source: &mut S,
-    room: &mut Vec<u8>,
-    grown: usize,
-    most: usize,
-) -> Result<usize, Failed>
+/// Reads once to the front of `room`, up to `most` bytes.
+fn read_room<S: Source>(source: &mut S, room: &mut Vec<u8>, most: usize) -> Result<usize, Failed>
     requires room { 0 < vec_len room.old }
     requires some { 1 ≤ most }
     ensures bound { IfOk result (λ n. (n ≤ most) × (n ≤ vec_len room.new)) }
@@ -339,24 +329,8 @@ fn read_room<S: Source>(
     ensures told { is_some (S.left source.new) ≡ is_some (S.left source.old) }
     ensures cause { HasCause (S.faults source.old) (S.faults source.new) result }
 {
-    match source.take_ahead(room, most) {
-        Some(n) => Ok(n),
-        None => {
-            grow(room, grown);
-            let most = room.len().min(most);
-            read_most(source, room.as_mut_slice(), most)
-        }
-    }
-}
-
-/// Makes room for `most` bytes, where there is less and memory for it.
-fn grow(bytes: &mut Vec<u8>, most: usize)
-    ensures { vec_len bytes.old ≤ vec_len bytes.new }
-{
-    if bytes.len() < most {
-        // the room that is there does, where no more can be had
-        let _ = bytes.resize(most, 0);
-    }
+    let most = room.len().min(most);
+    read_most(source, room.as_mut_slice(), most)
 }
 
 /// Reads once into the first `most` bytes of `buf`.

@@ -1,6 +1,6 @@
-ghost use Rattle.std.specs.Prelude.{◌≤◌};
+ghost use Rattle.std.specs.Prelude.{◌≤◌, None, true, length};
 
-use aql_io::{MemSource, Source, SureSource};
+use aql_io::{Failed, MemSource, Source, SureSource};
 use corpus_json::{LineBuffer, LineReader, Next, Step};
 use span_token::OutOfMemory;
 use std::alloc::Global;
@@ -124,43 +124,82 @@ fn a_line_may_have_16777216_bytes_and_not_one_more(rt: HostRuntime) -> Result<()
     Ok(())
 }
 
-/// How many bytes a buffer for reads of 4 bytes, which grows to 8 and is let grow to `most`, took before the read with
-/// this number fails, of a source that gives at most `piece` bytes in a read.
-fn taken_before(alloc: Global, most: usize, piece: usize, failing: u64) -> Result<u64, OutOfMemory>
-    requires { 1 ≤ piece }
-{
-    let bytes = vec![in alloc; b'\n'; 100]?;
-    let mut source = MemSource::new(bytes, piece, [failing].to_vec(alloc)?);
-    let mut lines = LineBuffer::growing(alloc, 4, 8)?;
-    lines.grow_to(most);
-    let mut line = Vec::new(alloc);
-    for _ in 0..100 {
-        if lines.next_line(&mut source, &mut line)? == Step::Failed {
-            return Ok(lines.taken());
-        }
+/// A source that tells no bytes beforehand and shows what is left of them.
+#[derive(Drop)]
+struct Open {
+    bytes: &'static [u8],
+}
+
+impl Source for Open {
+    ghost left = { λ _. None };
+
+    ghost faults = { λ _. 0 };
+
+    ghost looks = { λ _. true };
+
+    fn read(&mut self, buf: &mut [u8]) -> Result<usize, Failed> {
+        let n = copied(self.bytes, 0, buf);
+        self.bytes = self.bytes.get(n..).unwrap_or(b"");
+        Ok(n)
     }
-    Ok(0)
+
+    fn look(&self, at: usize, buf: &mut [u8]) -> usize {
+        copied(self.bytes, at, buf)
+    }
+
+    fn pass(&mut self, count: usize) {
+        self.bytes = self.bytes.get(count..).unwrap_or(b"");
+    }
+}
+
+/// Copies what stands at a place to the front of `buf`, and answers how many bytes these are.
+fn copied(bytes: &[u8], at: usize, buf: &mut [u8]) -> usize
+    ensures { result ≤ length buf.new }
+{
+    let rest = bytes.get(at..).unwrap_or(b"");
+    let n = rest.len().min(buf.len());
+    buf[..n].copy_from_slice(&rest[..n]);
+    n
+}
+
+/// What a buffer has ready and has taken, after it passed so many bytes more.
+fn passed(lines: &mut LineBuffer, source: &mut Open, count: usize) -> (usize, u64) {
+    if count <= lines.may_take() {
+        lines.pass(source, count);
+    }
+    (lines.ready().len(), lines.taken())
+}
+
+/// Checks that this is the next line of a buffer over a source.
+fn expect_line<R: Abort>(
+    rt: &R,
+    alloc: Global,
+    lines: &mut LineBuffer,
+    source: &mut Open,
+    wanted: &str,
+) -> Result<(), OutOfMemory> {
+    let mut line = Vec::new(alloc);
+    let step = lines.next_line(source, &mut line)?;
+    assert_eq!(rt; (step, line.as_slice()), (Step::Line, wanted.as_bytes()));
+    Ok(())
 }
 
 #[test]
-fn a_buffer_grows_with_reads_that_fill_it(rt: HostRuntime) -> Result<(), Fail> {
+fn what_was_looked_at_is_passed_where_it_stands(rt: HostRuntime) -> Result<(), Fail> {
     let alloc = rt.alloc();
-    // 4 bytes and then 16 or 8, where the source gives so many; else 4 bytes, and then 5 each time, which don't fill 16
-    for (most, piece, failing, wanted) in [
-        (16, 99, 2, 4),
-        (16, 99, 3, 20),
-        (16, 99, 4, 36),
-        (8, 99, 3, 12),
-        (2, 99, 4, 20),
-        (16, 5, 2, 4),
-        (16, 5, 4, 14),
-    ] {
-        assert_eq!(rt;
-            taken_before(alloc, most, piece, failing)?,
-            wanted,
-            "up to {most} bytes, pieces of {piece}, where the read {failing} fails"
-        );
-    }
+    let mut source = Open {
+        bytes: b"ab\nc\nde\nfg\nhi\nj",
+    };
+    let mut lines = LineBuffer::with_room(alloc, 8)?;
+    // the first read brings `ab`, `c` and `de`
+    expect_line(&rt, alloc, &mut lines, &mut source, "ab")?;
+    assert_eq!(rt; passed(&mut lines, &mut source, 2), (3, 8), "c");
+    // `de` is ready, and `fg` is left of the source
+    assert_eq!(rt; passed(&mut lines, &mut source, 6), (0, 11), "de and fg");
+    expect_line(&rt, alloc, &mut lines, &mut source, "hi")?;
+    expect_line(&rt, alloc, &mut lines, &mut source, "j")?;
+    // nothing may be taken behind the end
+    assert_eq!(rt; passed(&mut lines, &mut source, 1), (0, 15), "the end");
     Ok(())
 }
 

@@ -9,16 +9,16 @@ use Rattle.std.proofs.Crossing.{crosses}
 use Rattle.std.proofs.vec.Vec.TheSendSync as vec
 use Rattle.span_token.proofs.document.Document.TheSendSync as document
 use Rattle.std.proofs.sync.atomic.AtomicUsize.TheSendSync as word
-use Rattle.once_cell.proofs.race.once_box.OnceBox.TheSendSync as once
 use Rattle.corpus_json.proofs.write.layout.Layout.TheSendSync as layout
+use Rattle.line_sight.proofs.Crosses.{Seen-sync, Sight-send}
 use Rattle.scalar_ops.proofs.Crosses.{tools}
 use Rattle.plan_operators.specs.contracts.schedule.Schedule as Schedule
 use Rattle.worker_pool.proofs.Crosses.{Plan-sync}
 use Rattle.run_pool.specs.declared.pool.Pool.{Ghosts}
+use Rattle.aql_io.specs.declared.source.Source.{Ghosts as Sources}
 use Rattle.window_lines.specs.contracts.lines.Writing as Writing
 use Rattle.window_lines.specs.contracts.hands.Hand as Hand
-use Rattle.window_lines.specs.contracts.order.Order as Order
-use Rattle.window_lines.specs.contracts.ready.Ready as Ready
+use Rattle.window_lines.specs.contracts.pieces.Ready as Ready
 
 -- what they share may be shared, with a pool that may be
 pub Writing-sync : (a l d : NamedLft) (P : RattleType) (ghosts : Ghosts P.Denot) → IsSync P → IsSync (Writing.the_row a l d P ghosts)
@@ -30,16 +30,13 @@ one_captured_sync ν A a = search sendable depth 20
 Schedule-sync : (p : NamedLft) → IsSync (Schedule.the_row p)
 Schedule-sync p = search (Plan-sync, vec.the_sync, crosses, sendable) depth 60 fits 20000
 
-Order-sync : IsSync Order.the_row
-Order-sync = search (once.the_sync, vec.the_send, vec.the_sync, crosses, sendable) depth 60 fits 20000
-
--- what threads share that answer lines, with a pool that may be shared
-pub Ready-sync : (a l p : NamedLft) (P : RattleType) (ghosts : Ghosts P.Denot) → IsSync P → IsSync (Ready.the_row a l p P ghosts)
-Ready-sync a l p P ghosts shared = search (Schedule-sync, Order-sync, layout.the_sync, word.the_sync, crosses, sendable) depth 60 fits 20000
+-- what threads share that answer lines, with a pool and a source that may be shared
+pub Ready-sync : (a l p : NamedLft) (P S : RattleType) (ghosts : Ghosts P.Denot) (sources : Sources S.Denot) → IsSync P → IsSync S → IsSync (Ready.the_row a l p P S ghosts sources)
+Ready-sync a l p P S ghosts sources shared shown = search (Schedule-sync, Seen-sync, layout.the_sync, word.the_sync, crosses, sendable) depth 60 fits 20000
 
 -- a hand may be sent: its tools, and room
 pub Hand-send : (p : NamedLft) → IsSend (Hand.the_row p)
-Hand-send p = search (tools, vec.the_send, crosses, sendable) depth 60 fits 20000
+Hand-send p = search (tools, Sight-send, vec.the_send, crosses, sendable) depth 60 fits 20000
 
 -- two captures of a closure
 pub two_captured_send : (ν : Sym) (A B : RattleType) → IsSend A → IsSend B → IsSend (TupleAt ν (A ∷ B ∷ []))

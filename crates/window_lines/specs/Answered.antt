@@ -1,10 +1,11 @@
 -- Lines of the corpus that are answered: read, and written for.
-use Rattle.std.specs.Prelude.{◌≡◌, ℕ, ◌≤◌, false, List, [], ◌∷◌, ◌++◌, length, take, All}
+use Rattle.std.specs.Prelude.{◌≡◌, ℕ, ◌≤◌, false, List, [], ◌∷◌, ◌++◌, length, All}
 use Rattle.std.specs.List.{flat_map}
 use Rattle.span_token.specs.Documents.{Doc}
 use Rattle.corpus_json.specs.Documents.{documents, is_bad_line}
 use Rattle.corpus_json.specs.Lines.{joined, HasNoLf}
 use Rattle.window_lines.specs.declared.ready.Answered.{Answered}
+use Rattle.line_sight.specs.Seen.{Shown, StandsAt}
 
 -- none of the lines is bad
 abbrev pub AreGood : List (List ℕ) → Type 0
@@ -23,12 +24,14 @@ pub record AreAnswered (piece : Doc → List ℕ) (bytes : List ℕ) (count : �
   pub counted : count ≡ length lines
   pub written : text ≡ answer_to piece lines
 
--- the first line isn't bad, and what is written for it, and for lines that stand at the beginning of the bytes behind it, is
--- put behind what was there
-pub record IsAnswered (piece : Doc → List ℕ) (first bytes : List ℕ) (taken : Answered) (before after : List ℕ) : Type 0 where
+-- the first line isn't bad, and what is written for it, and for lines that stand at the beginning of what is seen behind it,
+-- is put behind what was there
+pub record IsAnswered (piece : Doc → List ℕ) (first : List ℕ) (shown : Shown) (taken : Answered) (before after : List ℕ) : Type 0 where
   pub good : is_bad_line first ≡ false
-  pub within : taken.bytes ≤ length bytes
+  pub within : taken.bytes ≤ shown.most
   pub few : taken.lines ≤ taken.bytes
+  pub bytes : List ℕ
+  pub there : StandsAt shown 0 taken.bytes bytes
   pub text : List ℕ
-  pub answered : AreAnswered piece (take taken.bytes bytes) taken.lines text
+  pub answered : AreAnswered piece bytes taken.lines text
   pub put : after ≡ (before ++ answer_to piece (first ∷ [])) ++ text

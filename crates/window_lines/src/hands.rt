@@ -6,6 +6,7 @@ ghost use Rattle.window_lines.specs.Hands.{HaveTools};
 use crate::answer::Room;
 use crate::pending::LARGE;
 use algebra::Plan;
+use line_sight::Sight;
 use scalar_ops::{Tables, Tools};
 use span_token::OutOfMemory;
 use std::alloc::Global;
@@ -33,13 +34,14 @@ impl<'p> Model for Hands<'p> {
     ghost invariant = { λ hands. (0 < vec_len hands.hands) × (vec_len hands.hands < 2 ^ 32) × HaveTools hands.tables.now hands.hands.items };
 }
 
-/// What one thread keeps: its tools, room for a document, and what it answered last.
+/// What one thread keeps: its tools, room for a document, what it looked at, and what it answered last.
 #[derive(Drop)]
 pub(crate) struct Hand<'p> {
     /// Whether it answers the first line, as the last hand does: its thread is the one that is started first.
     pub leads: bool,
     pub tools: Tools<'p>,
     pub room: Room,
+    pub sight: Sight,
     pub first: First,
     /// What is written for the first line, where it is good.
     pub head: Vec<u8>,
@@ -59,7 +61,7 @@ pub(crate) enum First {
     Good,
 }
 
-/// What is written for the lines that stand from one place of some bytes to another, and their number.
+/// What is written for the lines that stand from one place to another, and their number.
 #[derive(Drop)]
 pub(crate) struct Part {
     pub from: usize,
@@ -105,6 +107,7 @@ fn hand_for<'p>(alloc: Global, tables: &'p Tables, leads: bool) -> Result<Hand<'
         leads,
         tools: Tools::new(alloc, tables)?,
         room: Room::new(alloc),
+        sight: Sight::new(alloc),
         first: First::Unknown,
         head: Vec::new(alloc),
         parts: Vec::new(alloc),

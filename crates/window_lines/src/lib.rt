@@ -10,11 +10,10 @@
 mod answer;
 mod answers;
 mod documents;
-mod feeds;
 mod hands;
 mod lines;
-mod order;
 mod pending;
+mod pieces;
 mod put;
 mod ready;
 mod stretch;

@@ -4,6 +4,7 @@ ghost use Rattle.std.specs.Prelude.{◌≡◌, ℕ, List, Some, IfOk, length};
 ghost use Rattle.span_token.specs.Documents.{Doc};
 ghost use Rattle.scalar_ops.specs.Tables.{Lists};
 ghost use Rattle.window_lines.specs.Hands.{HasAnswered, HaveAnswered, HaveTools, IsPart, IsPutFrom};
+ghost use Rattle.line_sight.specs.Seen.{Shown};
 
 use crate::Answered;
 use crate::hands::{Hand, Part};
@@ -19,8 +20,8 @@ pub(crate) fn append_part_at(
 ) -> Result<Option<Answered>, OutOfMemory>
     ensures long { length hands.new ≡ length hands.old }
     ensures tools { (lists : Lists) → HaveTools lists hands.old → HaveTools lists hands.new }
-    ensures put { (piece : Doc → List ℕ) (first bytes : List ℕ) → HaveAnswered piece first bytes hands.old
-        → IfOk result (λ told. HaveAnswered piece first bytes hands.new × IsPutFrom piece bytes at told pending.old pending.new) }
+    ensures put { (piece : Doc → List ℕ) (first : List ℕ) (shown : Shown) → HaveAnswered piece first shown hands.old
+        → IfOk result (λ told. HaveAnswered piece first shown hands.new × IsPutFrom piece shown at told pending.old pending.new) }
 {
     for k in 0..hands.len() {
         if let Some(end) = append_part_of(&mut hands[k], at, pending)? {
@@ -37,8 +38,8 @@ fn append_part_of(
     pending: &mut Pending,
 ) -> Result<Option<Answered>, OutOfMemory>
     ensures tools { hand.new.tools ≡ hand.old.tools }
-    ensures put { (piece : Doc → List ℕ) (first bytes : List ℕ) → HasAnswered piece first bytes hand.old
-        → IfOk result (λ told. HasAnswered piece first bytes hand.new × IsPutFrom piece bytes at told pending.old pending.new) }
+    ensures put { (piece : Doc → List ℕ) (first : List ℕ) (shown : Shown) → HasAnswered piece first shown hand.old
+        → IfOk result (λ told. HasAnswered piece first shown hand.new × IsPutFrom piece shown at told pending.old pending.new) }
 {
     for k in 0..hand.parts.len() {
         if hand.parts[k].from == at && at < hand.parts[k].to {
@@ -51,8 +52,8 @@ fn append_part_of(
 
 /// Puts a part behind what is pending, and tells where it ends and how many lines it has. Nothing is left of it.
 fn append_part(part: &mut Part, pending: &mut Pending) -> Result<Answered, OutOfMemory>
-    ensures { (piece : Doc → List ℕ) (bytes : List ℕ) → IsPart piece bytes part.old
-        → IfOk result (λ end. IsPart piece bytes part.new × IsPutFrom piece bytes part.old.from (Some end) pending.old pending.new) }
+    ensures { (piece : Doc → List ℕ) (shown : Shown) → IsPart piece shown part.old
+        → IfOk result (λ end. IsPart piece shown part.new × IsPutFrom piece shown part.old.from (Some end) pending.old pending.new) }
 {
     let end = Answered {
         bytes: part.to,

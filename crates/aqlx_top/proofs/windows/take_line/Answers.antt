@@ -44,17 +44,18 @@ returns-in-Limit-clause-turned g c = λ plan left faults before now own s.
 pub returns-in-Line-clause-turned : goal.returns-in-Line-clause-turned
 returns-in-Line-clause-turned g c = λ plan left faults before now own s.
     let next = rw c.in-Line.is at c.in_ok-next_line.ensures.answer in
-    rw (c.take_given.ensures.left, c.take_given.ensures.faults)
+    rw c.take_given.ensures.faults
     (more.given_result (line_by plan) left (g.S.Source.left c.args.corpus.now) (g.S.Source.left c.next_line.new.source) faults (g.S.Source.faults c.args.corpus.now) (g.S.Source.faults c.next_line.new.source) before now
-    c.args.work.now.reader c.args.work.now.pending c.args.work.now.window.items c.args.work.now.number _ c.take_given.new.work s c.requires.going next c.taken-taken.ensures.below refl refl refl c.take_given.result (rw own at c.take_given.ensures.given))
+    c.args.work.now.reader c.args.work.now.pending c.args.work.now.window.items c.args.work.now.number _ c.take_given.new.work s c.requires.going next c.taken-taken.ensures.below refl refl refl
+    (g.S.Source.looks c.next_line.new.source) (g.S.Source.left c.take_given.new.corpus) c.take_given.result (rw own at c.take_given.ensures.given) c.take_given.ensures.err)
 
 pub returns-in-Line-clause-counts : goal.returns-in-Line-clause-counts
 returns-in-Line-clause-counts g c =
-    more.rises_result (line_by c.args.work.now.plan.now) _ c.take_given.new.work c.take_given.result c.args.work.now.number c.take_given.ensures.given refl
+    more.rises_result (line_by c.args.work.now.plan.now) (g.S.Source.looks c.next_line.new.source) (g.S.Source.left c.next_line.new.source) (g.S.Source.left c.take_given.new.corpus) _ c.take_given.new.work c.take_given.result c.args.work.now.number c.take_given.ensures.given refl
 
 pub returns-in-Line-clause-going : goal.returns-in-Line-clause-going
 returns-in-Line-clause-going g c =
     let next = rw c.in-Line.is at c.in_ok-next_line.ensures.answer in
-    more.going_result (line_by c.args.work.now.plan.now) _ c.take_given.new.work c.take_given.result c.take_given.ensures.given
+    more.going_result (line_by c.args.work.now.plan.now) (g.S.Source.looks c.next_line.new.source) (g.S.Source.left c.next_line.new.source) (g.S.Source.left c.take_given.new.corpus) _ c.take_given.new.work c.take_given.result c.take_given.ensures.given
     (law.goes_on (g.S.Source.left c.args.corpus.now) (g.S.Source.left c.next_line.new.source) (g.S.Source.faults c.args.corpus.now) (g.S.Source.faults c.next_line.new.source)
     c.args.work.now.reader.ready c.args.work.now.reader.taken c.args.work.now.reader.last c.next_line.new.self c.next_line.new.line.items c.requires.going next)

@@ -17,4 +17,4 @@ returns-clause-answered g c =
     let old = c.args.hands.now in
     let now = c.share_out.new.hands in
     let long : length now ≡ old.len = search rules in
-    subst (HaveAnswered (line_by c.args.ready.now.schedule.now) c.args.ready.now.first.now c.args.ready.now.bytes.now) (sym (take_at now (drop (length now) old.items) old.len long)) c.share_out.ensures.answered
+    subst (HaveAnswered (line_by c.args.ready.now.schedule.now) c.args.ready.now.first.now c.args.ready.now.seen) (sym (take_at now (drop (length now) old.items) old.len long)) c.share_out.ensures.answered

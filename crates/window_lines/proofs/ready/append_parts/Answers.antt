@@ -11,12 +11,12 @@ returns-in_default-clause-tools g c = λ lists have. c.append_part_at.ensures.to
 
 pub returns-in_default-clause-taken : goal.returns-in_default-clause-taken
 returns-in_default-clause-taken g c =
-    let put = rw c.in_default.is at c.in_ok-end.ensures.put (line_by c.args.ready.now.schedule.now) c.args.ready.now.first.now c.args.ready.now.bytes.now c.pieces.invariant.answered in
+    let put = rw c.in_default.is at c.in_ok-end.ensures.put (line_by c.args.ready.now.schedule.now) c.args.ready.now.first.now c.args.ready.now.seen c.pieces.invariant.answered in
     rw put.1 c.pieces.invariant.taken
 
 pub overflow_add-taken : goal.overflow_add-taken
 overflow_add-taken g c =
-    let put = rw c.in-Some.is at c.in_ok-end.ensures.put (line_by c.args.ready.now.schedule.now) c.args.ready.now.first.now c.args.ready.now.bytes.now c.pieces.invariant.answered in
+    let put = rw c.in-Some.is at c.in_ok-end.ensures.put (line_by c.args.ready.now.schedule.now) c.args.ready.now.first.now c.args.ready.now.seen c.pieces.invariant.answered in
     let few = put.1.few in
     let so_far = c.pieces.invariant.taken.few in
     let within = put.1.within in
@@ -26,7 +26,7 @@ overflow_add-taken g c =
 pub pieces-preserved : goal.pieces-preserved
 pieces-preserved g c =
     let piece = line_by c.args.ready.now.schedule.now in
-    let bytes = c.args.ready.now.bytes.now in
+    let bytes = c.args.ready.now.seen in
     let put = rw c.in-Some.is at c.in_ok-end.ensures.put piece c.args.ready.now.first.now bytes c.pieces.invariant.answered in
     record {
       long = c.append_part_at.ensures.long ∙ c.pieces.invariant.long;

@@ -8,6 +8,6 @@ abbrev pub invariant-pieces : goal.invariant-pieces
 invariant-pieces g l = record {
   long : length l.hands ≡ length l.initial.hands;
   tools : (lists : Lists) → HaveTools lists l.initial.hands → HaveTools lists l.hands;
-  answered : HaveAnswered (line_by l.ready.schedule.now) l.ready.first.now l.ready.bytes.now l.hands;
-  taken : IsAnsweredBehind (line_by l.ready.schedule.now) l.ready.bytes.now l.taken l.initial.pending l.pending;
+  answered : HaveAnswered (line_by l.ready.schedule.now) l.ready.first.now l.ready.seen l.hands;
+  taken : IsAnsweredBehind (line_by l.ready.schedule.now) l.ready.seen l.taken l.initial.pending l.pending;
 }

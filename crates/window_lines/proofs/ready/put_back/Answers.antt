@@ -15,5 +15,5 @@ returns-clause-tools c = λ lists all own.
     all_put (λ hand. hand.tools ≡ lists) c.args.hands.now.items c.push.new.self.items c.args.hand (is_ok c.push.result) c.push.ensures.items all own
 
 pub returns-clause-answered : goal.returns-clause-answered
-returns-clause-answered c = λ piece first bytes all own.
-    all_put (HasAnswered piece first bytes) c.args.hands.now.items c.push.new.self.items c.args.hand (is_ok c.push.result) c.push.ensures.items all own
+returns-clause-answered c = λ piece first shown all own.
+    all_put (HasAnswered piece first shown) c.args.hands.now.items c.push.new.self.items c.args.hand (is_ok c.push.result) c.push.ensures.items all own

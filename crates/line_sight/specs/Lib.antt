@@ -1,0 +1,2 @@
+-- What threads see of the lines that they answer
+pub mod Seen

@@ -1,0 +1,304 @@
+//! One thread that answers lines, piece by piece.
+
+ghost use Rattle.std.specs.Prelude.{◌≡◌, ◌<◌, ◌*◌, ◌++◌, ◌∷◌, [], ℕ, true, false, IfOk, OnOk};
+ghost use Rattle.corpus_json.specs.Documents.{is_bad_line};
+ghost use Rattle.line_sight.specs.Seen.{Sees};
+ghost use Rattle.window_lines.specs.declared.hands.First.TheVariants as declared_first;
+ghost use Rattle.window_lines.specs.Answered.{answer_to};
+ghost use Rattle.window_lines.specs.Hands.{AreParts, HasAnswered, IsHead, IsPart};
+ghost use Rattle.window_lines.specs.Lines.{line_by, names_in, rows_by};
+
+use crate::answer::answer_line;
+use crate::hands::{First, Hand, Part};
+use aql_io::Source;
+use corpus_json::{LINE_LIMIT, Layout};
+use line_sight::{Seen, Sight};
+use plan_operators::Schedule;
+use run_pool::Pool;
+use span_token::OutOfMemory;
+use std::alloc::Global;
+use std::mem;
+use std::sync::atomic::{AtomicUsize, Ordering};
+
+/// Lines of so many bytes and more are left to the caller, since they may be evaluated by all threads together.
+const LONG: usize = 4_194_304;
+
+/// What the threads share that answer lines.
+#[derive(Drop)]
+pub(crate) struct Ready<'a, 'l, 'p, P: Pool, S: Source> {
+    pub alloc: Global,
+    /// The pool of which each thread makes a part for itself.
+    pub pool: &'a P,
+    pub schedule: &'a Schedule<'p>,
+    pub with_tokens: bool,
+    pub layout: &'a Layout<'l>,
+    pub first: &'a [u8],
+    pub seen: Seen<'a, S>,
+    /// The size of a piece: to it belong the lines that begin in so many bytes.
+    pub size: usize,
+    /// How many pieces there are.
+    pub count: usize,
+    /// How many were taken up; `count` and more where nobody is to take another one.
+    pub next: &'a AtomicUsize,
+    /// How many bytes of output lines there are, and how many are enough.
+    pub written: &'a AtomicUsize,
+    pub enough: usize,
+    ghost of_plan: { layout.now ≡ names_in schedule.now },
+    ghost some: { 0 < size },
+    ghost begun: { (n : ℕ) → n < count → n * size < seen.most },
+}
+
+impl<'a, 'l, 'p, P: Pool, S: Source> Ready<'a, 'l, 'p, P, S> {
+    /// Answers pieces until none is left, by a part of the pool; the hand that leads answers the first line before.
+    pub fn answer(&self, hand: &mut Hand<'_>)
+        requires as_found { P.means self.now.pool.now ≡ rows_by }
+        requires tools { hand.old.tools ≡ self.now.schedule.now.lists }
+        ensures tools { hand.new.tools ≡ self.now.schedule.now.lists }
+        ensures answered { HasAnswered (line_by self.now.schedule.now) self.now.first.now self.now.seen hand.new }
+    {
+        hand.clear();
+        let mut pool = self.pool.part(self.alloc);
+        let first = if hand.leads {
+            self.answer_first(hand, &mut pool)
+        } else {
+            First::Unknown
+        };
+        self.answer_pieces(hand, &mut pool);
+        hand.first = first;
+    }
+
+    /// Answers the first line, and tells what came of it.
+    fn answer_first(&self, hand: &mut Hand<'_>, pool: &mut P) -> First
+        requires tools { hand.old.tools ≡ self.now.schedule.now.lists }
+        requires as_found { P.means pool.old ≡ rows_by }
+        ensures good { result ≡ declared_first.Good → IsHead (line_by self.now.schedule.now) self.now.first.now hand.new.head.items }
+        ensures bad { result ≡ declared_first.Bad → is_bad_line self.now.first.now ≡ true }
+        ensures tools { hand.new.tools ≡ hand.old.tools }
+        ensures parts { hand.new.parts ≡ hand.old.parts }
+        ensures as_found { P.means pool.new ≡ P.means pool.old }
+    {
+        let mut text = hand.text(self.alloc);
+        let answered = self.answer_one(self.first, hand, pool, &mut text);
+        let old = mem::replace(&mut hand.head, text);
+        hand.keep(old);
+        match answered {
+            Ok(true) => First::Good,
+            Ok(false) => First::Bad,
+            Err(OutOfMemory) => First::Unknown,
+        }
+    }
+
+    /// Answers one piece after another that nobody answers yet.
+    fn answer_pieces(&self, hand: &mut Hand<'_>, pool: &mut P)
+        requires tools { hand.old.tools ≡ self.now.schedule.now.lists }
+        requires as_found { P.means pool.old ≡ rows_by }
+        requires parts { AreParts (line_by self.now.schedule.now) self.now.seen hand.old.parts.items }
+        ensures tools { hand.new.tools ≡ hand.old.tools }
+        ensures head { hand.new.head ≡ hand.old.head }
+        ensures parts { AreParts (line_by self.now.schedule.now) self.now.seen hand.new.parts.items }
+        ensures as_found { P.means pool.new ≡ P.means pool.old }
+    {
+        'pieces: for _ in 0..self.count {
+            let n = self.next.fetch_add(1, Ordering::Relaxed);
+            if n >= self.count {
+                return;
+            }
+            // where memory is wanting, nothing behind this piece can be put, and the next turn begins with it
+            if self.answer_piece(n, hand, pool).is_err() {
+                self.stop();
+                return;
+            }
+        }
+    }
+
+    /// Answers the lines that begin in the piece of number `n`; a piece in the middle of a line has none.
+    fn answer_piece(&self, n: usize, hand: &mut Hand<'_>, pool: &mut P) -> Result<(), OutOfMemory>
+        requires there { n < self.now.count }
+        requires tools { hand.old.tools ≡ self.now.schedule.now.lists }
+        requires as_found { P.means pool.old ≡ rows_by }
+        requires parts { AreParts (line_by self.now.schedule.now) self.now.seen hand.old.parts.items }
+        ensures tools { hand.new.tools ≡ hand.old.tools }
+        ensures head { hand.new.head ≡ hand.old.head }
+        ensures parts { AreParts (line_by self.now.schedule.now) self.now.seen hand.new.parts.items }
+        ensures as_found { P.means pool.new ≡ P.means pool.old }
+    {
+        let begin = n.saturating_mul(self.size);
+        // what was looked at lies beside the hand meanwhile, and comes back with its room
+        let mut sight = mem::replace(&mut hand.sight, Sight::new(self.alloc));
+        let answered = self.answer_from(begin, &mut sight, hand, pool);
+        hand.sight = sight;
+        answered
+    }
+
+    /// Answers the lines that begin in the piece that begins at this place.
+    fn answer_from(
+        &self,
+        begin: usize,
+        sight: &mut Sight,
+        hand: &mut Hand<'_>,
+        pool: &mut P,
+    ) -> Result<(), OutOfMemory>
+        requires there { begin < self.now.seen.most }
+        requires tools { hand.old.tools ≡ self.now.schedule.now.lists }
+        requires as_found { P.means pool.old ≡ rows_by }
+        requires parts { AreParts (line_by self.now.schedule.now) self.now.seen hand.old.parts.items }
+        ensures tools { hand.new.tools ≡ hand.old.tools }
+        ensures head { hand.new.head ≡ hand.old.head }
+        ensures parts { AreParts (line_by self.now.schedule.now) self.now.seen hand.new.parts.items }
+        ensures as_found { P.means pool.new ≡ P.means pool.old }
+    {
+        let until = begin + self.size.min(self.seen.most - begin);
+        if !self.go_to_line(begin, until, sight)? {
+            return Ok(());
+        }
+        let from = sight.at();
+        let mut part = Part {
+            from,
+            to: from,
+            count: 0,
+            text: hand.text(self.alloc),
+        };
+        self.answer_lines(until, sight, hand, pool, &mut part)?;
+        self.note_written(part.text.len());
+        hand.parts.push(part)?;
+        Ok(())
+    }
+
+    /// Goes to the first place from `begin` on at which a line begins: the first byte's, or one behind an LF. False where
+    /// none begins in the piece.
+    fn go_to_line(&self, begin: usize, until: usize, sight: &mut Sight) -> Result<bool, OutOfMemory>
+        requires there { begin < self.now.seen.most }
+        ensures sees { IfOk result (λ there. there ≡ true → Sees self.now.seen sight.new) }
+    {
+        if begin == 0 {
+            sight.go_to(0);
+            return Ok(true);
+        }
+        sight.go_to(begin - 1);
+        match sight.find_line(&self.seen, self.size, until)? {
+            Some(n) => {
+                sight.pass_line(n);
+                Ok(true)
+            }
+            None => Ok(false),
+        }
+    }
+
+    /// Answers the lines behind the part that begin before the place `until`, up to a bad one.
+    fn answer_lines(
+        &self,
+        until: usize,
+        sight: &mut Sight,
+        hand: &mut Hand<'_>,
+        pool: &mut P,
+        part: &mut Part,
+    ) -> Result<(), OutOfMemory>
+        requires tools { hand.old.tools ≡ self.now.schedule.now.lists }
+        requires as_found { P.means pool.old ≡ rows_by }
+        requires sees { Sees self.now.seen sight.old }
+        requires at { sight.old.at ≡ part.old.to }
+        requires part { IsPart (line_by self.now.schedule.now) self.now.seen part.old }
+        ensures tools { hand.new.tools ≡ hand.old.tools }
+        ensures head { hand.new.head ≡ hand.old.head }
+        ensures parts { hand.new.parts ≡ hand.old.parts }
+        ensures as_found { P.means pool.new ≡ P.means pool.old }
+        ensures part { OnOk result (IsPart (line_by self.now.schedule.now) self.now.seen part.new) }
+    {
+        'lines: while part.to < until {
+            if !self.answer_next(until, sight, hand, pool, part)? {
+                return Ok(());
+            }
+        }
+        Ok(())
+    }
+
+    /// Answers the line behind the part, where it has its LF and isn't bad or long. Where it isn't answered, no piece behind
+    /// it is to be.
+    fn answer_next(
+        &self,
+        until: usize,
+        sight: &mut Sight,
+        hand: &mut Hand<'_>,
+        pool: &mut P,
+        part: &mut Part,
+    ) -> Result<bool, OutOfMemory>
+        requires tools { hand.old.tools ≡ self.now.schedule.now.lists }
+        requires as_found { P.means pool.old ≡ rows_by }
+        requires sees { Sees self.now.seen sight.old }
+        requires at { sight.old.at ≡ part.old.to }
+        requires part { IsPart (line_by self.now.schedule.now) self.now.seen part.old }
+        ensures tools { hand.new.tools ≡ hand.old.tools }
+        ensures head { hand.new.head ≡ hand.old.head }
+        ensures parts { hand.new.parts ≡ hand.old.parts }
+        ensures as_found { P.means pool.new ≡ P.means pool.old }
+        ensures part { OnOk result (IsPart (line_by self.now.schedule.now) self.now.seen part.new) }
+        ensures more { IfOk result (λ more. more ≡ true → (part.old.to < part.new.to) × Sees self.now.seen sight.new × (sight.new.at ≡ part.new.to)) }
+    {
+        let Some(n) = sight.find_line(&self.seen, LONG, until)? else {
+            self.stop();
+            return Ok(false);
+        };
+        if self.answer_one(sight.front(n), hand, pool, &mut part.text)? {
+            sight.pass_line(n);
+            part.to = sight.at();
+            part.count += 1;
+            Ok(true)
+        } else {
+            Ok(false)
+        }
+    }
+
+    /// Counts what is written for a piece, and lets nobody take another one where it is enough.
+    fn note_written(&self, bytes: usize) {
+        let before = self.written.fetch_add(bytes, Ordering::Relaxed);
+        if before >= self.enough || bytes >= self.enough - before {
+            self.stop();
+        }
+    }
+
+    /// Hands the document of a line to the part of the pool, and puts what is written for the line behind the
+    /// text. False, and nothing is put, where it is bad.
+    fn answer_one(
+        &self,
+        line: &[u8],
+        hand: &mut Hand<'_>,
+        pool: &mut P,
+        text: &mut Vec<u8>,
+    ) -> Result<bool, OutOfMemory>
+        requires tools { hand.old.tools ≡ self.now.schedule.now.lists }
+        requires as_found { P.means pool.old ≡ rows_by }
+        ensures good { IfOk result (λ good. good ≡ true → is_bad_line line.now ≡ false) }
+        ensures bad { IfOk result (λ good. good ≡ false → is_bad_line line.now ≡ true) }
+        ensures put { IfOk result (λ good. good ≡ true → text.new.items ≡ text.old.items ++ answer_to (line_by self.now.schedule.now) (line.now ∷ [])) }
+        ensures none { IfOk result (λ good. good ≡ false → text.new.items ≡ text.old.items) }
+        ensures tools { hand.new.tools ≡ hand.old.tools }
+        ensures head { hand.new.head ≡ hand.old.head }
+        ensures parts { hand.new.parts ≡ hand.old.parts }
+        ensures as_found { P.means pool.new ≡ P.means pool.old }
+    {
+        if line.len() > LINE_LIMIT {
+            self.stop();
+            return Ok(false);
+        }
+        let good = answer_line(
+            self.alloc,
+            self.schedule,
+            self.with_tokens,
+            self.layout,
+            &mut hand.tools,
+            &mut hand.room,
+            pool,
+            line,
+            text,
+        )?;
+        if !good {
+            self.stop();
+        }
+        Ok(good)
+    }
+
+    /// Lets nobody take another piece, since nothing behind it would be put, or enough is written.
+    fn stop(&self) {
+        self.next.store(self.count, Ordering::Relaxed);
+    }
+}
