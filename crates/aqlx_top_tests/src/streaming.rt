@@ -1,8 +1,8 @@
 //! Output isn't held back: a source that looks, at each of its reads, how much stands on the output.
-ghost use Rattle.std.specs.Prelude.{Some};
+ghost use Rattle.std.specs.Prelude.{Some, false, true};
 
 use crate::setup::{NUMBERS, Setup, call, repeated, sink_of, source_of, usual};
-use aql_io::{Failed, MemSink, Sink, Source, SureSource};
+use aql_io::{Failed, MemSink, MemSource, Sink, Source, SureSource};
 use run_pool::Workers;
 use std::alloc::Global;
 use std::process::Abort;
@@ -38,18 +38,18 @@ impl Sink for Shown<'_> {
 
 /// A source that keeps what the sink held at each of its reads.
 #[derive(Drop)]
-struct Looking<'a, S: Source> {
-    inner: S,
+struct Looking<'a> {
+    inner: MemSource,
     length: &'a AtomicUsize,
     seen: Vec<usize>,
 }
 
-impl<S: Source> Source for Looking<'_, S> {
-    ghost left = { λ s. S.left s.inner };
+impl Source for Looking<'_> {
+    ghost left = { λ s. Some s.inner.left };
 
-    ghost faults = { λ s. S.faults s.inner };
+    ghost faults = { λ s. s.inner.calls.faults };
 
-    ghost looks = { λ s. S.looks s.inner };
+    ghost looks = { λ _. false };
 
     fn read(&mut self, buf: &mut [u8]) -> Result<usize, Failed> {
         let _kept = self.seen.push(self.length.load(Ordering::Relaxed));
@@ -71,20 +71,9 @@ fn seen_at_reads<R: Threads + Sync>(
     alloc: Global,
     setup: &Setup<'_>,
 ) -> Result<Vec<usize>, Fail> {
-    let source = source_of(alloc, setup)?;
-    seen_at_reads_of(rt, alloc, setup, source)
-}
-
-/// The same, of this source.
-fn seen_at_reads_of<R: Threads + Sync, S: Source + Sync + Drop>(
-    rt: &R,
-    alloc: Global,
-    setup: &Setup<'_>,
-    inner: S,
-) -> Result<Vec<usize>, Fail> {
     let length = AtomicUsize::new(0);
     let mut source = Looking {
-        inner,
+        inner: source_of(alloc, setup)?,
         length: &length,
         seen: Vec::new(alloc),
     };
@@ -171,24 +160,67 @@ fn output_begins_before_a_million_bytes_of_ten_thousand_documents_are_read(
     Ok(())
 }
 
+/// A source that shows what is left, and counts its reads.
+#[derive(Drop)]
+struct Counted<'a> {
+    inner: SureSource,
+    reads: &'a AtomicUsize,
+}
+
+impl Source for Counted<'_> {
+    ghost left = { λ s. Some s.inner };
+
+    ghost faults = { λ _. 0 };
+
+    ghost looks = { λ _. true };
+
+    fn read(&mut self, buf: &mut [u8]) -> Result<usize, Failed> {
+        self.reads.fetch_add(1, Ordering::Relaxed);
+        self.inner.read(buf)
+    }
+
+    fn look(&self, at: usize, buf: &mut [u8]) -> usize {
+        self.inner.look(at, buf)
+    }
+
+    fn pass(&mut self, count: usize) {
+        self.inner.pass(count);
+    }
+}
+
+/// How often a run by so many workers reads a corpus that shows what is left.
+fn reads_by<R: Threads + Sync + Abort>(
+    rt: &R,
+    alloc: Global,
+    corpus: &str,
+    workers: &str,
+) -> Result<usize, Fail> {
+    let words = ["run", "p.aql", "--workers", workers];
+    let setup = Setup {
+        words: &words,
+        ..usual(NUMBERS, "")
+    };
+    let reads = AtomicUsize::new(0);
+    let mut source = Counted {
+        inner: SureSource::new(Vec::from_slice(alloc, corpus.as_bytes())?),
+        reads: &reads,
+    };
+    let mut out = sink_of(alloc, 1 << 20, 1 << 20, &[])?;
+    let (code, _err) = call(rt, alloc, &setup, &mut source, &mut out, &mut Workers)?;
+    assert_eq!(rt; code, 0, "{workers} workers");
+    Ok(reads.load(Ordering::Relaxed))
+}
+
 #[test]
 fn several_workers_look_at_what_a_corpus_shows_and_read_little_of_it(
     rt: HostRuntime,
 ) -> Result<(), Fail> {
     let alloc = rt.alloc();
     let corpus = padded(alloc, 20_000)?;
-    let mut reads = [0usize; 2];
-    for k in 0..2 {
-        let words = ["run", "p.aql", "--workers", ["1", "4"][k]];
-        let setup = Setup {
-            words: &words,
-            ..usual(NUMBERS, corpus.as_str())
-        };
-        let source = SureSource::new(corpus.as_bytes().to_vec(alloc)?);
-        reads[k] = seen_at_reads_of(&rt, alloc, &setup, source)?.len();
-    }
     // one worker reads all of it, and of several the first line and the end
-    assert!(rt; reads[0] > 50, "one worker");
-    assert!(rt; 0 < reads[1] && reads[1] < 5, "several");
+    let alone = reads_by(&rt, alloc, corpus.as_str(), "1")?;
+    assert!(rt; alone > 50, "{alone} reads by one worker");
+    let shared = reads_by(&rt, alloc, corpus.as_str(), "4")?;
+    assert!(rt; shared < 5, "{shared} reads by four");
     Ok(())
 }
