@@ -205,7 +205,7 @@ fn reads_by<R: Threads + Sync + Abort>(
         inner: SureSource::new(Vec::from_slice(alloc, corpus.as_bytes())?),
         reads: &reads,
     };
-    let mut out = sink_of(alloc, 1 << 20, 1 << 20, &[])?;
+    let mut out = sink_of(alloc, 1 << 21, 1 << 20, &[])?;
     let (code, _err) = call(rt, alloc, &setup, &mut source, &mut out, &mut Workers)?;
     assert_eq!(rt; code, 0, "{workers} workers");
     Ok(reads.load(Ordering::Relaxed))
