@@ -53,7 +53,8 @@ const ROOM: usize = 2_097_152;
 /// The same where the corpus shows what is left: but for the line with which a turn begins, lines are looked at.
 const ROOM_SHOWN: usize = 65_536;
 
-/// Bytes behind those that are ready are looked at where so many are left, and else read: few of them pay for no threads.
+/// Bytes behind those that are ready are looked at where more are shown, or were as the run began, and else read: few of them
+/// pay for no threads.
 const WORTH: usize = 1_048_576;
 
 /// Where so many bytes for each worker are left, most large lines are short enough that there is one for each of them.
@@ -77,6 +78,8 @@ pub(crate) struct Windowed<'p> {
     pub with_tokens: bool,
     pub layout: Layout<'p>,
     pub workers: usize,
+    /// Whether much of the corpus was shown as the run began: then lines are looked at, however little is left.
+    pub shows: bool,
     pub reader: LineBuffer,
     pub line: Vec<u8>,
     pub documents: DocumentReader,
@@ -112,12 +115,8 @@ pub(crate) fn run_in_windows<R: Threads + Sync, S: Source + Sync, O: Sink, P: Po
     ensures means { P.means pool.new ≡ P.means pool.old }
     ensures told { P.told pool.new ≡ P.told pool.old }
 {
-    let room = if shows_byte(corpus, WORTH) {
-        ROOM_SHOWN
-    } else {
-        ROOM
-    };
-    let mut work = begin_windows(alloc, workers, plan, outputs, room)?;
+    let shows = shows_byte(corpus, WORTH);
+    let mut work = begin_windows(alloc, workers, plan, outputs, shows)?;
     'lines: loop {
         match send_between(out, &mut work) {
             Ok(()) => {}
@@ -135,15 +134,15 @@ fn begin_windows<'p>(
     workers: u32,
     plan: &'p Plan,
     outputs: &'p [Output],
-    room: usize,
+    shows: bool,
 ) -> Result<Windowed<'p>, OutOfMemory>
     requires some { 1 ≤ workers }
-    requires room { 0 < room }
     requires outputs { outputs.now ≡ names_in plan.now }
     ensures fits { IfOk result (Fits plan.now) }
     ensures reader { IfOk result (λ work. work.reader ≡ record { ready = []; taken = 0; last = None }) }
     ensures nothing { IfOk result (λ work. (work.pending ≡ []) × (work.window.items ≡ []) × (work.number ≡ 0)) }
 {
+    let room = if shows { ROOM_SHOWN } else { ROOM };
     let schedule = Schedule::new(alloc, plan)?;
     let with_tokens = asks_for_tokens(&schedule);
     Ok(Windowed {
@@ -154,6 +153,7 @@ fn begin_windows<'p>(
         with_tokens,
         layout: Layout::new(alloc, outputs)?,
         workers: workers as usize,
+        shows,
         reader: LineBuffer::with_room(alloc, room)?,
         line: Vec::new(alloc),
         documents: DocumentReader::new(alloc),
@@ -165,13 +165,14 @@ fn begin_windows<'p>(
     })
 }
 
-/// How many bytes behind those that are ready may be answered: none where few are left, or where the corpus can't be
-/// looked at.
+/// How many bytes behind those that are ready may be answered: none where the corpus shows nothing, or little and little when
+/// the run began.
 fn room_ahead<S: Source>(work: &Windowed<'_>, corpus: &S) -> usize
     ensures within { result ≤ corpus_limit - work.now.reader.taken }
     ensures going { 0 < result → work.now.reader.last ≡ None }
 {
-    if !shows_byte(corpus, WORTH) {
+    let worth = if work.shows { 0 } else { WORTH };
+    if !shows_byte(corpus, worth) {
         return 0;
     }
     let most = if work.line.len() < LARGE {

@@ -2,7 +2,7 @@
 use crate::setup::{
     DIGIT, NO_MATCH, NUMBERS, READ_FAULT, Setup, call, comes_to, repeated, run, sink_of, usual,
 };
-use aql_io::SureSource;
+use aql_io::{MemSink, SureSource};
 use run_pool::Workers;
 use std::alloc::Global;
 use std::process::Abort;
@@ -133,8 +133,8 @@ fn joins_and_several_outputs_are_the_same_by_workers(rt: HostRuntime) -> Result<
     is_as_alone(&rt, alloc, PAIRS, text.as_str(), 0, "")
 }
 
-/// Documents of 5,800 equal digits and 11,000 letters, whose output lines have more than 262,144 bytes each, and a
-/// short one behind each.
+/// Documents of 5,800 equal digits and 11,000 letters, whose output lines have more than 262,144 bytes each, so that they are
+/// handed on without a copy, and a short one behind each.
 fn large_lines(alloc: Global) -> Result<String, Fail> {
     let letters = repeated(alloc, "x", 11_000)?;
     let mut all = String::new(alloc);
@@ -369,6 +369,55 @@ fn what_is_looked_at_is_answered_once_and_in_order(rt: HostRuntime) -> Result<()
             assert_eq!(rt; code, 3, "{workers} workers");
             assert!(rt; out.bytes() == lines.as_bytes(), "{workers} workers");
         }
+    }
+    Ok(())
+}
+
+/// 70 documents of 8,000 digits each, whose output lines have some 360,000 bytes each, and behind 40 of them one of 1,200,000
+/// letters: by then more than half is written of what ends a turn.
+fn much_to_write(alloc: Global) -> Result<String, Fail> {
+    let digits = repeated(alloc, "1", 8_000)?;
+    let letters = repeated(alloc, "x", 1_200_000)?;
+    let document = format!(in alloc; "{{\"text\":\"{digits}\"}}\n")?;
+    let mut all = repeated(alloc, document.as_str(), 40)?;
+    all.push_str("{\"text\":\"7")?;
+    all.push_str(letters.as_str())?;
+    all.push_str("\"}\n")?;
+    let rest = repeated(alloc, document.as_str(), 30)?;
+    all.push_str(rest.as_str())?;
+    Ok(all)
+}
+
+/// Runs over a corpus that shows what is left of it, and asserts that the run ends well.
+fn write_all<R: Threads + Sync + Abort>(
+    rt: &R,
+    alloc: Global,
+    corpus: &str,
+    workers: &str,
+    out: &mut MemSink,
+) -> Result<(), Fail> {
+    let words = ["run", "p.aql", "--workers", workers];
+    let setup = Setup {
+        words: &words,
+        ..usual(DIGITS, "")
+    };
+    let mut source = SureSource::new(Vec::from_slice(alloc, corpus.as_bytes())?);
+    let (code, err) = call(rt, alloc, &setup, &mut source, out, &mut Workers)?;
+    assert_eq!(rt; err.bytes(), b"".as_slice(), "{workers} workers");
+    assert_eq!(rt; code, 0, "{workers} workers");
+    Ok(())
+}
+
+#[test]
+fn a_turn_that_wrote_much_leaves_the_rest_to_the_next_ones(rt: HostRuntime) -> Result<(), Fail> {
+    let alloc = rt.alloc();
+    let corpus = much_to_write(alloc)?;
+    let mut alone = sink_of(alloc, 1 << 25, 1 << 20, &[])?;
+    write_all(&rt, alloc, corpus.as_str(), "1", &mut alone)?;
+    for workers in &["2", "4"] {
+        let mut out = sink_of(alloc, 1 << 25, 1 << 20, &[])?;
+        write_all(&rt, alloc, corpus.as_str(), workers, &mut out)?;
+        assert!(rt; out.bytes() == alone.bytes(), "{workers} workers");
     }
     Ok(())
 }

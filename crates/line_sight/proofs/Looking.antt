@@ -1,10 +1,11 @@
 -- What stands where, as bytes are looked at.
-use Rattle.std.proofs.Common.{◌≡◌, ℕ, zero, suc, ◌+◌, ◌-◌, ◌<◌, ◌≤◌, Bool, true, false, List, [], ◌∷◌, ◌++◌, length, take, drop, refl, sym, ap, ap₂, subst, ◌∙◌, arith, append_assoc, length-append, Option, Some, None, IfSome, slice_range, take-append-drop, take_all, take-take}
-use Rattle.std.proofs.Math.Seq.{drop-append-add, take-add, take-append-add, take-append_seam}
-use Rattle.std.proofs.lemmas.List.{drop-drop, drop-take, length-drop, length-take-le, take-append-le}
+use Rattle.std.proofs.Common.{◌≡◌, ℕ, zero, suc, ◌+◌, ◌-◌, ◌<◌, ◌≤◌, Bool, true, false, List, [], ◌∷◌, ◌++◌, length, take, drop, refl, sym, ap, ap₂, subst, ◌∙◌, arith, append_assoc, length-append, Option, Some, None, IfSome, slice_range, take-append-drop, take-take}
+use Rattle.std.proofs.Math.Seq.{drop-append-add, take-add, take-append_seam}
+use Rattle.std.proofs.lemmas.List.{drop-drop, drop-take, length-drop, length-take-le}
 use Rattle.std.proofs.lemmas.List.Elements.{All-append}
 use Rattle.corpus_json.specs.Lines.{FirstLfAt, HasNoLf, IsNotLf}
-use Rattle.line_sight.specs.Seen.{seen_by, Sees, Shown, StandIn}
+use Rattle.line_sight.specs.Seen.{seen_by, Sees, Shown, StandIn, StandsAt}
+use Rattle.line_sight.specs.SeenLaws.{if_told, stands-append, stands-none}
 
 -- what a source shows is seen behind what is ready
 pub left_seen : (looks : Bool) (ready : List ℕ) (left : Option (List ℕ)) (at n : ℕ) (new : List ℕ) → length ready ≤ at → (0 < n → looks ≡ true)
@@ -56,22 +57,9 @@ first-behind bytes k n within none lf =
 pub none-behind : (bytes : List ℕ) (k : ℕ) → HasNoLf (take k bytes) → HasNoLf (drop k bytes) → HasNoLf bytes
 none-behind bytes k front back = subst HasNoLf (take-append-drop k bytes) (All-append IsNotLf (take k bytes) (drop k bytes) front back)
 
--- what holds of all bytes, where they are told
-if_told : (P Q : List ℕ → Type 0) → ((whole : List ℕ) → P whole → Q whole) → (all : Option (List ℕ)) → IfSome all P → IfSome all Q
-if_told P Q gives None p = tt
-if_told P Q gives (Some whole) p = gives whole p
-
 -- nothing is seen at each place
 pub sees-none : (shown : Shown) (at : ℕ) → at ≤ shown.most → Sees shown record { at = at; bytes = [] }
-sees-none shown at within = record {
-  within = omega (arith, within);
-  front = λ k few inside. let none : k ≡ 0 = omega (arith, few) in ap (λ (i : ℕ). take i (drop at shown.ready)) none ∙ sym (ap (λ (i : ℕ). take i (let b : List ℕ = [] in b)) none);
-  there = nothing shown.all;
-}
-  where
-    nothing : (all : Option (List ℕ)) → IfSome all (λ whole. StandIn whole at [])
-    nothing None = tt
-    nothing (Some whole) = refl
+sees-none shown at within = record { within = omega (arith, within); stands = subst (λ (k : ℕ). StandsAt shown at k []) (let e : at ≡ at + 0 = omega arith in e) (stands-none shown at) }
 
 -- what stands behind the first bytes
 stands-behind : (at n : ℕ) (bytes : List ℕ) → n ≤ length bytes → (whole : List ℕ) → StandIn whole at bytes → StandIn whole (at + n) (drop n bytes)
@@ -89,19 +77,16 @@ sees-behind shown at n bytes few sees =
     let size = length-drop n bytes in
     record {
       within = omega (arith, within, few, size);
-      front = λ k inside fits.
-          ap (take k) (sym (drop-drop n at shown.ready))
-          ∙ sym (drop-take n k (drop at shown.ready))
-          ∙ ap (drop n) (sees.front (n + k) (omega (arith, inside, few, size)) (omega (arith, fits)))
-          ∙ drop-take n k bytes;
-      there = if_told (λ whole. StandIn whole at bytes) (λ whole. StandIn whole (at + n) (drop n bytes)) (stands-behind at n bytes few) shown.all sees.there;
+      stands = record {
+        long = refl;
+        front = λ k inside fits.
+            ap (take k) (sym (drop-drop n at shown.ready))
+            ∙ sym (drop-take n k (drop at shown.ready))
+            ∙ ap (drop n) (sees.stands.front (n + k) (omega (arith, inside, few, size)) (omega (arith, fits)))
+            ∙ drop-take n k bytes;
+        there = if_told (λ whole. StandIn whole at bytes) (λ whole. StandIn whole (at + n) (drop n bytes)) (stands-behind at n bytes few) shown.all sees.stands.there;
+      };
     }
-
--- a number that is one or the other
-by_size : {C : Type 0} (k m : ℕ) → (k ≤ m → C) → (m ≤ k → C) → C
-by_size zero m few more = few (omega arith)
-by_size (suc k) zero few more = more (omega arith)
-by_size (suc k) (suc m) few more = by_size k m (λ le. few (omega (arith, le))) (λ le. more (omega (arith, le)))
 
 -- a part goes on by some bytes
 range-more : (bytes : List ℕ) (from to n : ℕ) → from ≤ to → slice_range bytes from (to + n) ≡ slice_range bytes from to ++ take n (drop to bytes)
@@ -133,63 +118,25 @@ module _ (old new : List ℕ) (from to n : ℕ) (order : from ≤ to) (within : 
   pub more-than : 0 < n → length (slice_range old from to) < length (slice_range new from (to + n))
   more-than some = omega (arith, size-before, size-after, some)
 
-  -- where they stand, and those behind them
-  stands-more : (at : ℕ) (whole : List ℕ) → StandIn whole at (slice_range old from to) → take n (drop (at + (to - from)) whole) ≡ take n (drop to new)
-      → StandIn whole at (slice_range new from (to + n))
-  stands-more at whole before more =
-      ap (λ (k : ℕ). take k (drop at whole)) (size-after ∙ ap (λ (k : ℕ). k + n) (sym size-before))
-      ∙ take-add (length (slice_range old from to)) n (drop at whole)
-      ∙ ap₂ (λ (a b : List ℕ). a ++ b) before
-      (ap (take n) (drop-drop (length (slice_range old from to)) at whole ∙ ap (λ (k : ℕ). drop (at + k) whole) size-before) ∙ more)
-      ∙ sym longer-range
-
-  -- their first ones, and of those behind them
-  front-more : (at k : ℕ) (ready : List ℕ) → ((i : ℕ) → i ≤ length (slice_range old from to) → at + i ≤ length ready → take i (drop at ready) ≡ take i (slice_range old from to))
-      → ((i : ℕ) → i ≤ n → at + (to - from) + i ≤ length ready → take i (drop (at + (to - from)) ready) ≡ take i (drop to new))
-      → k ≤ length (slice_range new from (to + n)) → at + k ≤ length ready → take k (drop at ready) ≡ take k (slice_range new from (to + n))
-  front-more at k ready before more inside fits = by_size k (to - from) few-of many-of
-    where
-      whole : List ℕ
-      whole = slice_range new from (to + n)
-
-      held : List ℕ
-      held = slice_range old from to
-
-      few-of : k ≤ to - from → take k (drop at ready) ≡ take k whole
-      few-of few =
-          before k (omega (arith, few, size-before)) fits
-          ∙ sym (take-append-le k held (take n (drop to new)) (omega (arith, few, size-before)))
-          ∙ sym (ap (take k) longer-range)
-
-      many-of : to - from ≤ k → take k (drop at ready) ≡ take k whole
-      many-of many =
-          let j = k - (to - from) in
-          let of-k : k ≡ (to - from) + j = omega (arith, many) in
-          let of-held : k ≡ length held + j = omega (arith, many, size-before) in
-          let few : j ≤ n = omega (arith, inside, size-after, many) in
-          let first : take (to - from) (drop at ready) ≡ held =
-          before (to - from) (omega (arith, size-before)) (omega (arith, fits, many)) ∙ take_all (to - from) held (omega (arith, size-before)) in
-          let behind : take j (drop (to - from) (drop at ready)) ≡ take j (drop to new) =
-          ap (take j) (drop-drop (to - from) at ready) ∙ more j few (omega (arith, fits, many)) in
-          ap (λ (i : ℕ). take i (drop at ready)) of-k
-          ∙ take-add (to - from) j (drop at ready)
-          ∙ ap₂ (λ (a b : List ℕ). a ++ b) first behind
-          ∙ ap (λ (b : List ℕ). held ++ b) (sym (take-take j n (drop to new) few))
-          ∙ sym (take-append-add held (take n (drop to new)) j)
-          ∙ sym (ap₂ (λ (i : ℕ) (b : List ℕ). take i b) of-held longer-range)
-
   -- and all of them stand there
   pub sees-more : (shown : Shown) (at : ℕ) → Sees shown record { at = at; bytes = slice_range old from to } → at + (to - from) + n ≤ shown.most
       → ((k : ℕ) → k ≤ n → at + (to - from) + k ≤ length shown.ready → take k (drop (at + (to - from)) shown.ready) ≡ take k (drop to new))
       → IfSome shown.all (λ whole. take n (drop (at + (to - from)) whole) ≡ take n (drop to new)) → Sees shown record { at = at; bytes = slice_range new from (to + n) }
-  sees-more shown at sees most front is = record {
-    within = omega (arith, size-after, most);
-    front = λ k. front-more at k shown.ready sees.front front;
-    there = stands shown.all sees.there is;
-  }
-    where
-      stands : (all : Option (List ℕ)) → IfSome all (λ whole. StandIn whole at (slice_range old from to))
-          → IfSome all (λ whole. take n (drop (at + (to - from)) whole) ≡ take n (drop to new))
-          → IfSome all (λ whole. StandIn whole at (slice_range new from (to + n)))
-      stands None before more = tt
-      stands (Some whole) before more = stands-more at whole before more
+  sees-more shown at sees most front is =
+      let place = at + length (slice_range old from to) in
+      let here : place ≡ at + (to - from) = omega (arith, size-before) in
+      let tail : StandsAt shown place (place + n) (take n (drop to new)) = record {
+        long = omega (arith, size-more);
+        front = λ k few fits.
+            ap (λ (i : ℕ). take k (drop i shown.ready)) here ∙ front k (omega (arith, few, size-more)) (omega (arith, fits, here))
+            ∙ sym (take-take k n (drop to new) (omega (arith, few, size-more)));
+        there = if_told (λ whole. take n (drop (at + (to - from)) whole) ≡ take n (drop to new)) (λ whole. StandIn whole place (take n (drop to new)))
+            (λ whole same. ap₂ (λ (i k : ℕ). take i (drop k whole)) size-more here ∙ same) shown.all is;
+      } in
+      record {
+        within = omega (arith, size-after, most);
+        stands =
+            subst (λ (b : List ℕ). StandsAt shown at (at + length b) b) (sym longer-range)
+            (subst (λ (k : ℕ). StandsAt shown at k (slice_range old from to ++ take n (drop to new))) (omega (arith, size-more, length-append (slice_range old from to) (take n (drop to new))))
+            (stands-append shown at place (place + n) (slice_range old from to) (take n (drop to new)) sees.stands tail));
+      }

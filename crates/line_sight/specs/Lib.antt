@@ -1,2 +1,6 @@
--- What threads see of the lines that they answer
+-- Words of public clauses
+-- what threads see of the lines that they answer
 pub mod Seen
+-- Laws
+-- bytes that stand there, one thing behind another
+pub mod SeenLaws

@@ -21,11 +21,11 @@ shown_by looks ready left ahead = record { ready = ready; all = seen_by looks re
 abbrev pub StandIn : List ℕ → ℕ → List ℕ → Type 0
 StandIn whole from bytes = take (length bytes) (drop from whole) ≡ bytes
 
--- these bytes stand there from one place to another: in those that are ready, where these reach as far, and in all, where
--- these are told
+-- these bytes stand there from one place to another: in those that are ready, as far as these reach, and in all, where these
+-- are told
 pub record StandsAt (shown : Shown) (from to : ℕ) (bytes : List ℕ) : Type 0 where
   pub long : from + length bytes ≡ to
-  pub front : to ≤ length shown.ready → StandIn shown.ready from bytes
+  pub front : (k : ℕ) → k ≤ length bytes → from + k ≤ length shown.ready → take k (drop from shown.ready) ≡ take k bytes
   pub there : IfSome shown.all (λ whole. StandIn whole from bytes)
 
 -- what one thread looked at last, and its place
@@ -33,9 +33,7 @@ pub record Sighted : Type 0 where
   pub at : ℕ
   pub bytes : List ℕ
 
--- it stands there: each of its first bytes up to the last of those that are ready, and all of it in all bytes, where these are
--- told
+-- it stands there, and ends no further than may be looked at
 pub record Sees (shown : Shown) (sighted : Sighted) : Type 0 where
   pub within : sighted.at + length sighted.bytes ≤ shown.most
-  pub front : (k : ℕ) → k ≤ length sighted.bytes → sighted.at + k ≤ length shown.ready → take k (drop sighted.at shown.ready) ≡ take k sighted.bytes
-  pub there : IfSome shown.all (λ whole. StandIn whole sighted.at sighted.bytes)
+  pub stands : StandsAt shown sighted.at (sighted.at + length sighted.bytes) sighted.bytes

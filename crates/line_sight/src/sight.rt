@@ -87,9 +87,9 @@ impl Sight {
     }
 
     /// Looks on until the line is there that begins at the place, and answers how many bytes it has before its LF. `None`
-    /// where so many bytes were looked at, and more by one look at most, and none of them is an LF, and where no more can be
-    /// seen. Up to the place `until` much is looked at in each call, and behind it first few bytes and then more, since there
-    /// only this line may be wanted.
+    /// where these are `limit` and more, and where no more can be seen. Up to the place `until` much is looked at in each
+    /// call, and behind it first few bytes and then more, since there only this line may be wanted. After want of memory it
+    /// goes on from another place alone (`go_to`).
     pub fn find_line<S: Source>(
         &mut self,
         seen: &Seen<'_, S>,
@@ -100,12 +100,17 @@ impl Sight {
         ensures at { OnOk result (self.new.at ≡ self.old.at) }
         ensures sees { OnOk result (Sees seen.now self.new) }
         ensures found { IfOk result (λ found. IfSome found (FirstLfAt self.new.bytes)) }
+        ensures short { IfOk result (λ found. IfSome found (λ n. n < limit)) }
     {
         let mut searched = 0;
         'looks: loop {
             let found = find_lf(&self.room[self.from + searched..self.to]);
             if let Some(n) = found {
-                return Ok(Some(searched + n));
+                let long = searched + n;
+                if long >= limit {
+                    return Ok(None);
+                }
+                return Ok(Some(long));
             }
             searched = self.to - self.from;
             if searched >= limit || !self.look_on(seen, until)? {
@@ -141,9 +146,8 @@ impl Sight {
         ensures { OnOk result (self.new ≡ self.old) }
     {
         self.move_to_front();
-        let held = self.to - self.from;
         if self.room.len() - self.to < STEP {
-            grow(&mut self.room, self.to, held.max(STEP))?;
+            grow(&mut self.room, self.to, STEP)?;
         }
         Ok(())
     }

@@ -132,5 +132,7 @@ fn a_line_of_as_many_bytes_as_the_limit_is_not_looked_at_to_its_end(
     let mut sight = Sight::new(alloc);
     assert_eq!(rt; sight.find_line(&seen, 10, 0)?, None);
     assert_eq!(rt; sight.find_line(&seen, 11, 0)?, Some(10));
+    // it was looked at by now
+    assert_eq!(rt; sight.find_line(&seen, 10, 0)?, None);
     Ok(())
 }

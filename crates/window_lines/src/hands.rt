@@ -12,6 +12,9 @@ use span_token::OutOfMemory;
 use std::alloc::Global;
 use std::marker::Model;
 
+/// The most texts of which a thread keeps the room from turn to turn.
+const MOST_SPARE: usize = 64;
+
 /// What each of several threads keeps of its own for a plan, made once and used for all lines of a run.
 ///
 /// Contracts see the patterns and dictionaries of the plan.
@@ -46,6 +49,8 @@ pub(crate) struct Hand<'p> {
     /// What is written for the first line, where it is good.
     pub head: Vec<u8>,
     pub parts: Vec<Part>,
+    /// How many of the parts are put behind what is pending.
+    pub put: usize,
     /// Texts of parts that are used again.
     pub spare: Vec<Vec<u8>>,
 }
@@ -111,6 +116,7 @@ fn hand_for<'p>(alloc: Global, tables: &'p Tables, leads: bool) -> Result<Hand<'
         first: First::Unknown,
         head: Vec::new(alloc),
         parts: Vec::new(alloc),
+        put: 0,
         spare: Vec::new(alloc),
     })
 }
@@ -129,15 +135,16 @@ impl<'p> Hand<'p> {
             }
         }
         self.parts.clear();
+        self.put = 0;
     }
 
-    /// Keeps the room of a text, where it isn't large.
+    /// Keeps the room of a text, where it isn't large and few are kept.
     pub(crate) fn keep(&mut self, text: Vec<u8>)
         ensures tools { self.new.tools ≡ self.old.tools }
         ensures head { self.new.head ≡ self.old.head }
         ensures parts { self.new.parts ≡ self.old.parts }
     {
-        if text.capacity() <= LARGE {
+        if text.capacity() <= LARGE && self.spare.len() < MOST_SPARE {
             // room that can't be kept is made again
             let _ = self.spare.push(text);
         }

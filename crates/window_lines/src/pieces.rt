@@ -1,7 +1,8 @@
 //! One thread that answers lines, piece by piece.
 
-ghost use Rattle.std.specs.Prelude.{◌≡◌, ◌<◌, ◌*◌, ◌++◌, ◌∷◌, [], ℕ, true, false, IfOk, OnOk};
+ghost use Rattle.std.specs.Prelude.{◌≡◌, ◌<◌, ◌*◌, ◌++◌, ◌∷◌, [], ℕ, true, false, IfOk, IfSome, OnOk};
 ghost use Rattle.corpus_json.specs.Documents.{is_bad_line};
+ghost use Rattle.corpus_json.specs.Lines.{FirstLfAt};
 ghost use Rattle.line_sight.specs.Seen.{Sees};
 ghost use Rattle.window_lines.specs.declared.hands.First.TheVariants as declared_first;
 ghost use Rattle.window_lines.specs.Answered.{answer_to};
@@ -23,6 +24,9 @@ use std::sync::atomic::{AtomicUsize, Ordering};
 /// Lines of so many bytes and more are left to the caller, since they may be evaluated by all threads together.
 const LONG: usize = 4_194_304;
 
+/// The same once half of what is enough is written: all other threads would wait for such a line at the end of the turn.
+const LATE: usize = 1_048_576;
+
 /// What the threads share that answer lines.
 #[derive(Drop)]
 pub(crate) struct Ready<'a, 'l, 'p, P: Pool, S: Source> {
@@ -38,7 +42,7 @@ pub(crate) struct Ready<'a, 'l, 'p, P: Pool, S: Source> {
     pub size: usize,
     /// How many pieces there are.
     pub count: usize,
-    /// How many were taken up; `count` and more where nobody is to take another one.
+    /// The number of the piece that is taken up next; `count` and more where nobody is to take another one.
     pub next: &'a AtomicUsize,
     /// How many bytes of output lines there are, and how many are enough.
     pub written: &'a AtomicUsize,
@@ -82,9 +86,15 @@ impl<'a, 'l, 'p, P: Pool, S: Source> Ready<'a, 'l, 'p, P, S> {
         let old = mem::replace(&mut hand.head, text);
         hand.keep(old);
         match answered {
-            Ok(true) => First::Good,
+            Ok(true) => {
+                self.note_written(hand.head.len());
+                First::Good
+            }
             Ok(false) => First::Bad,
-            Err(OutOfMemory) => First::Unknown,
+            Err(OutOfMemory) => {
+                self.stop();
+                First::Unknown
+            }
         }
     }
 
@@ -212,7 +222,7 @@ impl<'a, 'l, 'p, P: Pool, S: Source> Ready<'a, 'l, 'p, P, S> {
         Ok(())
     }
 
-    /// Answers the line behind the part, where it has its LF and isn't bad or long. Where it isn't answered, no piece behind
+    /// Answers the line behind the part, where it isn't bad or left to a later turn. Where it isn't answered, no piece behind
     /// it is to be.
     fn answer_next(
         &self,
@@ -234,7 +244,7 @@ impl<'a, 'l, 'p, P: Pool, S: Source> Ready<'a, 'l, 'p, P, S> {
         ensures part { OnOk result (IsPart (line_by self.now.schedule.now) self.now.seen part.new) }
         ensures more { IfOk result (λ more. more ≡ true → (part.old.to < part.new.to) × Sees self.now.seen sight.new × (sight.new.at ≡ part.new.to)) }
     {
-        let Some(n) = sight.find_line(&self.seen, LONG, until)? else {
+        let Some(n) = self.find_next(until, sight)? else {
             self.stop();
             return Ok(false);
         };
@@ -246,6 +256,40 @@ impl<'a, 'l, 'p, P: Pool, S: Source> Ready<'a, 'l, 'p, P, S> {
         } else {
             Ok(false)
         }
+    }
+
+    /// Finds where the line ends that begins at the place, and answers how many bytes it has before its LF. `None` where it is
+    /// left to a later turn: it is too long, or its LF can't be seen.
+    fn find_next(&self, until: usize, sight: &mut Sight) -> Result<Option<usize>, OutOfMemory>
+        requires sees { Sees self.now.seen sight.old }
+        ensures at { OnOk result (sight.new.at ≡ sight.old.at) }
+        ensures sees { OnOk result (Sees self.now.seen sight.new) }
+        ensures found { IfOk result (λ found. IfSome found (FirstLfAt sight.new.bytes)) }
+    {
+        let limit = if self.has_written(self.enough / 2) {
+            LATE
+        } else {
+            LONG
+        };
+        let found = sight.find_line(&self.seen, limit, until)?;
+        if let Some(n) = found {
+            self.skip_line(sight.at(), n);
+        }
+        Ok(found)
+    }
+
+    /// Lets nobody take up a piece in the middle of a line of `n` bytes that begins at the place, since no line begins there.
+    /// Who took one up already finds that out by itself.
+    fn skip_line(&self, at: usize, n: usize) {
+        if n >= self.size {
+            let behind = at.saturating_add(n) / self.size;
+            let _ = self.next.fetch_max(behind, Ordering::Relaxed);
+        }
+    }
+
+    /// Whether so many bytes of output lines are there.
+    fn has_written(&self, bytes: usize) -> bool {
+        self.written.load(Ordering::Relaxed) >= bytes
     }
 
     /// Counts what is written for a piece, and lets nobody take another one where it is enough.

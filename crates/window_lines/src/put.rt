@@ -31,7 +31,7 @@ pub(crate) fn append_part_at(
     Ok(None)
 }
 
-/// The same of one hand.
+/// The same of one hand, whose parts stand in the order of the lines: only the next one may begin there.
 fn append_part_of(
     hand: &mut Hand<'_>,
     at: usize,
@@ -41,11 +41,11 @@ fn append_part_of(
     ensures put { (piece : Doc → List ℕ) (first : List ℕ) (shown : Shown) → HasAnswered piece first shown hand.old
         → IfOk result (λ told. HasAnswered piece first shown hand.new × IsPutFrom piece shown at told pending.old pending.new) }
 {
-    for k in 0..hand.parts.len() {
-        if hand.parts[k].from == at && at < hand.parts[k].to {
-            let end = append_part(&mut hand.parts[k], pending)?;
-            return Ok(Some(end));
-        }
+    let k = hand.put;
+    if k < hand.parts.len() && hand.parts[k].from == at && at < hand.parts[k].to {
+        let end = append_part(&mut hand.parts[k], pending)?;
+        hand.put = k + 1;
+        return Ok(Some(end));
     }
     Ok(None)
 }

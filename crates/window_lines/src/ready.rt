@@ -36,17 +36,14 @@ const PIECE: usize = 16_384;
 const PIECES: usize = 32;
 
 /// How many bytes a piece has, where what is left of the corpus can be seen: so many that few bytes are looked at twice,
-/// behind a piece and in the next one.
-const PIECE_AHEAD: usize = 262_144;
+/// behind a piece and in the next one, and so few that none waits long for the last ones.
+const PIECE_AHEAD: usize = 65_536;
 
 /// How many bytes of output lines are enough for one call: the pieces that are begun are answered, and no more.
-const ENOUGH: usize = 16_777_216;
+const ENOUGH: usize = 20_971_520;
 
-/// The same where lines are large, since it takes long until those that are begun are answered.
-const ENOUGH_LARGE: usize = 41_943_040;
-
-/// A line of so many bytes is large.
-const LARGE: usize = 65_536;
+/// The same for each thread, where they are many.
+const ENOUGH_EACH: usize = 5_242_880;
 
 /// How far lines that are ready were answered.
 #[derive(Clone, Copy, Debug)]
@@ -64,7 +61,7 @@ pub struct Answered {
 /// of what is left of the corpus are looked at, where it shows them: none is read by that. What is answered of all is told
 /// in bytes and in lines: where there are many, each thread of `hands` answers pieces of them by itself, which pays where
 /// there are more lines than threads, and otherwise one does, without a thread. What is answered ends before a bad line,
-/// before one of 4,194,304 bytes and more, and where much is to be written already. `None` where the first line is bad, and
+/// before one of 4,194,304 bytes and more, or of 1,048,576 where much is to be written already, and where more is. `None` where the first line is bad, and
 /// nothing is put then.
 ///
 /// Each document is handed to a part of the pool by the thread that evaluates it, and what the part answers is
@@ -119,11 +116,7 @@ pub fn append_ready<R: Threads + Sync, P: Pool, S: Source + Sync>(
         count: stretch_count(most, size),
         next: &next,
         written: &written,
-        enough: if first.len() < LARGE {
-            ENOUGH
-        } else {
-            ENOUGH_LARGE
-        },
+        enough: ENOUGH.max(hands.hands.len().saturating_mul(ENOUGH_EACH)),
     };
     answer_in_threads(rt, &ready, &mut hands.hands);
     append_answered(&ready, hands.hands.as_mut_slice(), pending)
