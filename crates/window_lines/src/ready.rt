@@ -61,8 +61,9 @@ pub struct Answered {
 /// of what is left of the corpus are looked at, where it shows them: none is read by that. What is answered of all is told
 /// in bytes and in lines: where there are many, each thread of `hands` answers pieces of them by itself, which pays where
 /// there are more lines than threads, and otherwise one does, without a thread. What is answered ends before a bad line,
-/// before one of 4,194,304 bytes and more, or of 1,048,576 where much is to be written already, and where more is. `None` where the first line is bad, and
-/// nothing is put then.
+/// before one of 4,194,304 bytes and more, where enough is written (20,971,520 bytes, or 5,242,880 for each thread where
+/// they are more than four), and before one of 1,048,576 bytes and more where half of that is. `None` where the first line
+/// is bad, and nothing is put then.
 ///
 /// Each document is handed to a part of the pool by the thread that evaluates it, and what the part answers is
 /// written. The pool answers what is found and keeps no list, so nothing is gathered of its parts.
