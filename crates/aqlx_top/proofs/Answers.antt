@@ -27,7 +27,7 @@ use Rattle.aqlx_top.specs.Stages.{IsToldAs}
 use Rattle.aqlx_top.specs.Statuses.{HasLine}
 use Rattle.aqlx_top.specs.Taken.{How, at_end, failed, at_limit, left_off, is_at_end, HasNoBadLine, IsFirstBad}
 use Rattle.aqlx_top.specs.Words.{Order, to_run, to_check, to_plan, to_generate, to_demonstrate, file_of, IsOrder, IsNoRun, IsNoOrder, IsFileOrder}
-use Rattle.aqlx_top.proofs.Sinks.{appends_nothing}
+use Rattle.line_parts.specs.SinkLaws.{appends_nothing}
 
 -- an untouched sink gained nothing
 pub gained_nothing : (sink : SinkEnds) → IsUntouched sink → Gained sink []

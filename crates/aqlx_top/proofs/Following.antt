@@ -22,7 +22,7 @@ use Rattle.aqlx_top.specs.Words.{Order, to_check, to_plan, to_generate, to_demon
 use Rattle.aqlx_top.proofs.Answers.{gained_nothing}
 use Rattle.plan_maker.specs.PlanTexts.{text_of}
 use Rattle.aqlx_top.proofs.Planning.{plan_counts, sound_counts}
-use Rattle.aqlx_top.proofs.Sinks.{appends_more}
+use Rattle.line_parts.specs.SinkLaws.{appends_more}
 use Rattle.aqlx_top.proofs.Turns.{rose_later}
 
 -- what is shown follows from the plan

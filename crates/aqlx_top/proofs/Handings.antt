@@ -22,14 +22,14 @@ use Rattle.aqlx_top.specs.declared.status.Status.{Status}
 use Rattle.aqlx_top.specs.declared.status.Status.TheVariants.{Done, Program, Usage, Corpus, ReadFault, WriteFault}
 use Rattle.aqlx_top.specs.declared.status.CorpusFault.TheVariants.{BadLine, LineLong, CorpusLarge}
 use Rattle.aqlx_top.specs.Devices.{SourceEnds, SinkEnds, source_ends, IsFlushed, SinkNeverFailed}
-use Rattle.window_lines.specs.DocumentLaws.{documents-append, documents_from_bad}
+use Rattle.line_parts.specs.DocumentLaws.{documents-append, documents_from_bad}
 use Rattle.aqlx_top.specs.Endings.{InPart, Came, written_for}
 use Rattle.aqlx_top.specs.Handing.{PoolEnds, pool_ends, IsHandedAll, CameBy, InPartBy}
 use Rattle.aqlx_top.specs.PoolTurns.{StandsBy, FinishedBy, IsRunBy}
 use Rattle.aqlx_top.specs.Progress.{IsReadTo, IsRunTo}
 use Rattle.aqlx_top.specs.Taken.{is_at_end, HasNoBadLine}
 use Rattle.aqlx_top.proofs.Readings.{lines_so_far, line_read, end_read, failed_read, limit_read, long_read}
-use Rattle.aqlx_top.proofs.Sinks.{appends_more, appends_nothing}
+use Rattle.line_parts.specs.SinkLaws.{appends_more, appends_nothing}
 use Rattle.aqlx_top.proofs.Turns.{begins, came_of, consumes_more, cut_pending, ended_bad, ended_done, ended_failed, ended_limit, ended_long, finished_in_part, next_line_good, part_at, part_of_taken, sent_whole}
 
 -- ---- documents of lines

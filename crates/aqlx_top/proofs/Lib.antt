@@ -1,4 +1,3 @@
-pub mod Sinks
 pub mod Lists
 pub mod LimitLaws
 pub mod FileLemmas

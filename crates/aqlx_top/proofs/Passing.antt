@@ -12,8 +12,8 @@ use Rattle.corpus_json.specs.Lines.{joined, HasNoLf}
 use Rattle.corpus_json.specs.Reading.{Passed, Reading}
 use Rattle.corpus_json.specs.declared.step.Step.{Step}
 use Rattle.line_sight.specs.Seen.{shown_by, StandsAt}
-use Rattle.window_lines.specs.Answered.{AreAnswered, answer_to}
-use Rattle.window_lines.specs.DocumentLaws.{pieces-append}
+use Rattle.line_parts.specs.Answered.{AreAnswered, answer_to}
+use Rattle.line_parts.specs.DocumentLaws.{pieces-append}
 use Rattle.aqlx_top.specs.Devices.{source_ends}
 use Rattle.aqlx_top.specs.Progress.{Stands}
 use Rattle.aqlx_top.proofs.Turns.{joined_long}

@@ -23,9 +23,9 @@ use Rattle.aqlx_top.specs.Devices.{SourceEnds, SinkEnds, source_ends, IsFlushed,
 use Rattle.aqlx_top.specs.Endings.{InPart, Came, written_for}
 use Rattle.aqlx_top.specs.Progress.{Stands, Finished, IsRunTo, IsReadTo}
 use Rattle.aqlx_top.specs.Taken.{How, at_end, failed, at_limit, left_off, is_at_end, IsTaken, HasNoBadLine}
-use Rattle.window_lines.specs.DocumentLaws.{pieces-append, documents_from_bad}
+use Rattle.line_parts.specs.DocumentLaws.{pieces-append, documents_from_bad}
 use Rattle.aqlx_top.proofs.Readings.{IsLeftOff, lines_so_far, line_read, end_read, failed_read, limit_read, long_read}
-use Rattle.aqlx_top.proofs.Sinks.{appends_more, appends_nothing}
+use Rattle.line_parts.specs.SinkLaws.{appends_more, appends_nothing}
 
 -- two reads in a row
 pub consumes_more : (a b c : Option (List ℕ)) (xs ys : List ℕ) → Consumes a b xs → Consumes b c ys → Consumes a c (xs ++ ys)

@@ -35,7 +35,6 @@ pub mod Planned
 pub mod ProgramFile
 pub mod Programs
 -- a run under way
-pub mod Prefixes
 pub mod Progress
 pub mod Turns
 pub mod PoolTurns

@@ -3,7 +3,7 @@ use Rattle.std.proofs.Common.{◌≡◌, ℕ, true, List, [], ◌++◌, All, ap,
 use Rattle.span_token.specs.Documents.{Doc}
 use Rattle.corpus_json.specs.Lines.{joined, lines_of, HasNoLf}
 use Rattle.corpus_json.specs.LineLaws.{lines_of-joined}
-use Rattle.window_lines.specs.DocumentLaws.{pieces-append}
+use Rattle.line_parts.specs.DocumentLaws.{pieces-append}
 use Rattle.aqlx_top.specs.Endings.{written_for}
 use Rattle.aqlx_top.specs.Taken.{HasNoBadLine}
 

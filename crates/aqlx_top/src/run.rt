@@ -10,11 +10,12 @@ ghost use Rattle.algebra.specs.Plans.{Parts};
 ghost use Rattle.run_pool.specs.Entries.{Entry};
 
 use crate::asks::asks_for_tokens;
-use crate::put::{put, put_and_flush};
+use crate::put::put_and_flush;
 use crate::{CorpusFault, Status};
 use algebra::Plan;
 use aql_io::{Failed, Sink, Source};
 use corpus_json::{Layout, LineBuffer, Step};
+use line_parts::put;
 use plan_operators::Schedule;
 use row_values::Output;
 use run_pool::Pool;

@@ -1,7 +1,7 @@
 //! A run by workers: each answers lines that are ready, or left of the corpus, by itself, and a few large documents are
 //! evaluated in windows, by all workers together.
 
-ghost use Rattle.std.specs.Prelude.{◌≡◌, ◌≢◌, ◌<◌, ◌≤◌, ◌+◌, ◌-◌, ◌*◌, ◌^◌, ◌++◌, ℕ, [], ◌∷◌, false, true, not, IfOk, OnOk, OnErr, Option, List, MatchResult, None, length, map};
+ghost use Rattle.std.specs.Prelude.{◌≡◌, ◌≢◌, ◌<◌, ◌≤◌, ◌+◌, ◌-◌, ◌*◌, ◌^◌, ◌++◌, ℕ, [], ◌∷◌, false, true, not, IfOk, IfSome, OnOk, OnErr, Option, List, MatchResult, None, length, map};
 ghost use Rattle.algebra.specs.Plans.{Parts};
 ghost use Rattle.aql_io.specs.Causes.{Rose};
 ghost use Rattle.corpus_json.specs.Documents.{documents, is_bad_line};
@@ -13,17 +13,18 @@ ghost use Rattle.aqlx_top.specs.Devices.{SourceEnds, source_ends, sink_ends, sou
 ghost use Rattle.aqlx_top.specs.Endings.{InPart};
 ghost use Rattle.aqlx_top.specs.Progress.{Finished, Stands, IsGoing, IsRunTo};
 ghost use Rattle.aqlx_top.specs.Planned.{line_by, names_in};
-ghost use Rattle.aqlx_top.specs.Turns.{Turned};
-ghost use Rattle.aqlx_top.specs.Windows.{meant_by, Fits, HasAnswered, HasTaken, IsAsBefore, IsGiven};
+ghost use Rattle.line_parts.specs.Answered.{outgoing};
+ghost use Rattle.aqlx_top.specs.Windows.{meant_by, outcome, Fits, HasAnswered, HasTaken, IsAsBefore, IsGiven, TurnedOut};
 ghost use Rattle.window_lines.specs.Lines.{AreShort};
 
 use crate::asks::asks_for_tokens;
-use crate::put::{put_all, put_all_and_flush};
-use crate::run::{PIECE, Turn};
+use crate::put::put_all_and_flush;
+use crate::run::PIECE;
 use crate::{CorpusFault, Status};
 use algebra::Plan;
 use aql_io::{Failed, Sink, Source};
 use corpus_json::{DocumentReader, Input, Layout, LineBuffer, NotDocument, Step};
+use line_parts::{Pending, put_all};
 use memchr::memchr;
 use plan_operators::Schedule;
 use row_values::Output;
@@ -31,7 +32,7 @@ use run_pool::Pool;
 use span_token::{Failure, OutOfMemory};
 use std::alloc::Global;
 use std::thread::Threads;
-use window_lines::{Hands, Pending, append_ready, append_window};
+use window_lines::{Hands, answer_ready, append_window};
 use worker_pool::Crew;
 
 /// The most documents of a window.
@@ -60,12 +61,9 @@ const WORTH: usize = 1_048_576;
 /// Where so many bytes for each worker are left, most large lines are short enough that there is one for each of them.
 const EACH: usize = 1_048_576;
 
-/// Up to how many bytes behind those that are ready are answered in one turn, so that a worker that is through seldom
-/// waits for the others.
-const AHEAD: usize = 33_554_432;
-
-/// The same where lines are large, since it takes long until all workers are through.
-const AHEAD_LARGE: usize = 67_108_864;
+/// Up to how many bytes behind those that are ready are answered in one turn: so many that workers seldom wait for each other
+/// at its end.
+const AHEAD: usize = 1_073_741_824;
 
 /// What a run keeps from line to line: lines that are pending, and behind them a window of documents whose
 /// lines aren't made yet, which has at most `most` documents and so many bytes of lines.
@@ -88,6 +86,17 @@ pub(crate) struct Windowed<'p> {
     pub window: Vec<Input>,
     pub bytes: usize,
     pub pending: Pending,
+}
+
+/// What came of a turn.
+#[derive(Drop)]
+pub(crate) enum Turnout {
+    /// There may be more lines.
+    Next,
+    /// The run came to this status, but for what is pending.
+    Ended(Status),
+    /// A write failed.
+    Unwritten,
 }
 
 /// Runs a plan over a corpus as `run` does, with the documents evaluated by so many workers, each alone or in
@@ -122,9 +131,10 @@ pub(crate) fn run_in_windows<R: Threads + Sync, S: Source + Sync, O: Sink, P: Po
             Ok(()) => {}
             Err(Failed) => return Ok(Status::WriteFault),
         }
-        match turn_in_window(rt, alloc, &mut work, pool, corpus)? {
-            Turn::Next => {}
-            Turn::Ended(status) => return Ok(finish_all(out, &work.pending, status)),
+        match turn_in_window(rt, alloc, &mut work, pool, corpus, out)? {
+            Turnout::Next => {}
+            Turnout::Ended(status) => return Ok(finish_all(out, &work.pending, status)),
+            Turnout::Unwritten => return Ok(Status::WriteFault),
         }
     }
 }
@@ -175,12 +185,7 @@ fn room_ahead<S: Source>(work: &Windowed<'_>, corpus: &S) -> usize
     if !shows_byte(corpus, worth) {
         return 0;
     }
-    let most = if work.line.len() < LARGE {
-        AHEAD
-    } else {
-        AHEAD_LARGE
-    };
-    most.min(work.reader.may_take())
+    AHEAD.min(work.reader.may_take())
 }
 
 /// Whether the corpus shows the byte that stands so many behind the next one.
@@ -232,31 +237,32 @@ fn is_to_send(work: &Windowed<'_>) -> bool
 
 /// Looks at the next line and at those behind it, and evaluates the window where it is due: so it is
 /// empty at the end of the run.
-fn turn_in_window<R: Threads + Sync, S: Source + Sync, P: Pool>(
+fn turn_in_window<R: Threads + Sync, S: Source + Sync, P: Pool, O: Sink>(
     rt: &R,
     alloc: Global,
     work: &mut Windowed<'_>,
     pool: &mut P,
     corpus: &mut S,
-) -> Result<Turn, OutOfMemory>
+    out: &mut O,
+) -> Result<Turnout, OutOfMemory>
     requires fits { Fits work.old.plan.now work.old }
     requires as_found { P.means pool.old ≡ rows_by }
     requires untold { P.told pool.old ≡ None }
     requires below { length work.old.window.items < work.old.most }
     requires room { work.old.number < 2 ^ 63 }
     requires going { IsGoing work.old.reader }
-    ensures turned { (plan : Parts) (left : Option (List ℕ)) (faults : ℕ) (before now : Option (List ℕ)) → work.old.plan.now ≡ plan →
-        Stands (line_by plan) (source_ends left (S.left corpus.old) faults (S.faults corpus.old)) before now work.old.reader (meant_by (line_by plan) work.old.pending work.old.window.items) work.old.number →
-        Turned (line_by plan) (source_ends left (S.left corpus.new) faults (S.faults corpus.new)) before now work.new.reader (meant_by (line_by plan) work.new.pending work.new.window.items) work.new.number result }
-    ensures counts { IfOk result (λ came. came ≡ Turn.Next → work.old.number < work.new.number) }
-    ensures going { IfOk result (λ came. came ≡ Turn.Next → IsGoing work.new.reader) }
+    ensures turned { (plan : Parts) (left : Option (List ℕ)) (faults : ℕ) (before : Option (List ℕ)) → work.old.plan.now ≡ plan →
+        Stands (line_by plan) (source_ends left (S.left corpus.old) faults (S.faults corpus.old)) before (O.held out.old) work.old.reader (meant_by (line_by plan) work.old.pending work.old.window.items) work.old.number →
+        TurnedOut (line_by plan) (source_ends left (S.left corpus.new) faults (S.faults corpus.new)) before (outcome (O.held out.new) (O.faults out.old) (O.faults out.new)) work.new.reader (meant_by (line_by plan) work.new.pending work.new.window.items) work.new.number result }
+    ensures counts { IfOk result (λ came. came ≡ Turnout.Next → work.old.number < work.new.number) }
+    ensures going { IfOk result (λ came. came ≡ Turnout.Next → IsGoing work.new.reader) }
     ensures fits { IfOk result (λ _. (plan : Parts) → Fits plan work.old → Fits plan work.new) }
-    ensures below { IfOk result (λ came. came ≡ Turn.Next → length work.new.window.items < work.new.most) }
-    ensures ended { IfOk result (λ came. came ≢ Turn.Next → work.new.window.items ≡ []) }
+    ensures below { IfOk result (λ came. came ≡ Turnout.Next → length work.new.window.items < work.new.most) }
+    ensures ended { IfOk result (λ came. came ≢ Turnout.Next → work.new.window.items ≡ []) }
     ensures means { P.means pool.new ≡ P.means pool.old }
     ensures told { P.told pool.new ≡ P.told pool.old }
 {
-    let turn = take_line(rt, alloc, work, pool, corpus)?;
+    let turn = take_line(rt, alloc, work, pool, corpus, out)?;
     if is_due(work, &turn) {
         evaluate_window(rt, alloc, work, pool)?;
         Ok(turn)
@@ -266,24 +272,25 @@ fn turn_in_window<R: Threads + Sync, S: Source + Sync, P: Pool>(
 }
 
 /// Looks at the next line, and puts its document into the window, or answers it and those behind it.
-fn take_line<R: Threads + Sync, S: Source + Sync, P: Pool>(
+fn take_line<R: Threads + Sync, S: Source + Sync, P: Pool, O: Sink>(
     rt: &R,
     alloc: Global,
     work: &mut Windowed<'_>,
     pool: &P,
     corpus: &mut S,
-) -> Result<Turn, OutOfMemory>
+    out: &mut O,
+) -> Result<Turnout, OutOfMemory>
     requires fits { Fits work.old.plan.now work.old }
     requires as_found { P.means pool.now ≡ rows_by }
     requires untold { P.told pool.now ≡ None }
     requires below { length work.old.window.items < work.old.most }
     requires room { work.old.number < 2 ^ 63 }
     requires going { IsGoing work.old.reader }
-    ensures turned { (plan : Parts) (left : Option (List ℕ)) (faults : ℕ) (before now : Option (List ℕ)) → work.old.plan.now ≡ plan →
-        Stands (line_by plan) (source_ends left (S.left corpus.old) faults (S.faults corpus.old)) before now work.old.reader (meant_by (line_by plan) work.old.pending work.old.window.items) work.old.number →
-        Turned (line_by plan) (source_ends left (S.left corpus.new) faults (S.faults corpus.new)) before now work.new.reader (meant_by (line_by plan) work.new.pending work.new.window.items) work.new.number result }
-    ensures counts { IfOk result (λ came. came ≡ Turn.Next → work.old.number < work.new.number) }
-    ensures going { IfOk result (λ came. came ≡ Turn.Next → IsGoing work.new.reader) }
+    ensures turned { (plan : Parts) (left : Option (List ℕ)) (faults : ℕ) (before : Option (List ℕ)) → work.old.plan.now ≡ plan →
+        Stands (line_by plan) (source_ends left (S.left corpus.old) faults (S.faults corpus.old)) before (O.held out.old) work.old.reader (meant_by (line_by plan) work.old.pending work.old.window.items) work.old.number →
+        TurnedOut (line_by plan) (source_ends left (S.left corpus.new) faults (S.faults corpus.new)) before (outcome (O.held out.new) (O.faults out.old) (O.faults out.new)) work.new.reader (meant_by (line_by plan) work.new.pending work.new.window.items) work.new.number result }
+    ensures counts { IfOk result (λ came. came ≡ Turnout.Next → work.old.number < work.new.number) }
+    ensures going { IfOk result (λ came. came ≡ Turnout.Next → IsGoing work.new.reader) }
     ensures fits { IfOk result (λ _. (plan : Parts) → Fits plan work.old → Fits plan work.new) }
 {
     match work.reader.next_line(corpus, &mut work.line)? {
@@ -291,64 +298,67 @@ fn take_line<R: Threads + Sync, S: Source + Sync, P: Pool>(
             work.number += 1;
             // no more bytes were taken than a corpus has, which bounds the number of lines
             let _taken = work.reader.taken();
-            take_given(rt, alloc, work, pool, corpus)
+            take_given(rt, alloc, work, pool, corpus, out)
         }
-        Step::End => Ok(Turn::Ended(Status::Done)),
-        Step::Long => Ok(Turn::Ended(Status::Corpus(CorpusFault::LineLong(work.number + 1)))),
-        Step::Failed => Ok(Turn::Ended(Status::ReadFault)),
-        Step::Limit => Ok(Turn::Ended(Status::Corpus(CorpusFault::CorpusLarge))),
+        Step::End => Ok(Turnout::Ended(Status::Done)),
+        Step::Long => Ok(Turnout::Ended(Status::Corpus(CorpusFault::LineLong(work.number + 1)))),
+        Step::Failed => Ok(Turnout::Ended(Status::ReadFault)),
+        Step::Limit => Ok(Turnout::Ended(Status::Corpus(CorpusFault::CorpusLarge))),
     }
 }
 
 /// Puts the document of the line that was given into the window, or answers that line and those behind it.
-fn take_given<R: Threads + Sync, S: Source + Sync, P: Pool>(
+fn take_given<R: Threads + Sync, S: Source + Sync, P: Pool, O: Sink>(
     rt: &R,
     alloc: Global,
     work: &mut Windowed<'_>,
     pool: &P,
     corpus: &mut S,
-) -> Result<Turn, OutOfMemory>
+    out: &mut O,
+) -> Result<Turnout, OutOfMemory>
     requires fits { Fits work.old.plan.now work.old }
     requires as_found { P.means pool.now ≡ rows_by }
     requires untold { P.told pool.now ≡ None }
     requires below { length work.old.window.items < work.old.most }
     requires line { length work.old.line.items ≤ line_limit }
-    ensures given { IfOk result (IsGiven (line_by work.old.plan.now) (S.looks corpus.old) (S.left corpus.old) (S.left corpus.new) work.old work.new) }
+    ensures given { IfOk result (IsGiven (line_by work.old.plan.now) (S.looks corpus.old) (S.left corpus.old) (S.left corpus.new)
+        (outgoing work.old.pending (O.held out.old) (O.faults out.old)) (outgoing work.new.pending (O.held out.new) (O.faults out.new)) work.old work.new) }
     ensures fits { IfOk result (λ _. (plan : Parts) → Fits plan work.old → Fits plan work.new) }
-    ensures err { OnErr result (S.left corpus.new ≡ S.left corpus.old) }
+    ensures err { OnErr result ((S.left corpus.new ≡ S.left corpus.old) × (O.held out.new ≡ O.held out.old)) }
     ensures faults { S.faults corpus.new ≡ S.faults corpus.old }
 {
     if is_for_window(work, corpus) {
         take_document(alloc, work)
     } else {
-        answer_or_take(rt, alloc, work, pool, corpus)
+        answer_or_take(rt, alloc, work, pool, corpus, out)
     }
 }
 
 /// Answers the line that was given and those behind it, or puts the document of that one into the window
 /// where it can't.
-fn answer_or_take<R: Threads + Sync, S: Source + Sync, P: Pool>(
+fn answer_or_take<R: Threads + Sync, S: Source + Sync, P: Pool, O: Sink>(
     rt: &R,
     alloc: Global,
     work: &mut Windowed<'_>,
     pool: &P,
     corpus: &mut S,
-) -> Result<Turn, OutOfMemory>
+    out: &mut O,
+) -> Result<Turnout, OutOfMemory>
     requires fits { Fits work.old.plan.now work.old }
     requires as_found { P.means pool.now ≡ rows_by }
     requires untold { P.told pool.now ≡ None }
     requires below { length work.old.window.items < work.old.most }
     requires line { length work.old.line.items ≤ line_limit }
     requires empty { work.old.window.items ≡ [] }
-    ensures given { IfOk result (IsGiven (line_by work.old.plan.now) (S.looks corpus.old) (S.left corpus.old) (S.left corpus.new) work.old work.new) }
+    ensures given { IfOk result (IsGiven (line_by work.old.plan.now) (S.looks corpus.old) (S.left corpus.old) (S.left corpus.new)
+        (outgoing work.old.pending (O.held out.old) (O.faults out.old)) (outgoing work.new.pending (O.held out.new) (O.faults out.new)) work.old work.new) }
     ensures fits { IfOk result (λ _. (plan : Parts) → Fits plan work.old → Fits plan work.new) }
-    ensures err { OnErr result (S.left corpus.new ≡ S.left corpus.old) }
+    ensures err { OnErr result ((S.left corpus.new ≡ S.left corpus.old) × (O.held out.new ≡ O.held out.old)) }
     ensures faults { S.faults corpus.new ≡ S.faults corpus.old }
 {
-    if answer_ready(rt, alloc, work, pool, corpus)? {
-        Ok(Turn::Next)
-    } else {
-        take_document(alloc, work)
+    match answer_given(rt, alloc, work, pool, corpus, out)? {
+        Some(turnout) => Ok(turnout),
+        None => take_document(alloc, work),
     }
 }
 
@@ -380,27 +390,30 @@ fn has_lines(bytes: &[u8], number: usize) -> bool {
     true
 }
 
-/// Answers the line that was given and those behind it, as far as none is bad. False where that one is
+/// Answers the line that was given and those behind it, as far as none is bad. `None` where that one is
 /// bad: then nothing is answered.
-fn answer_ready<R: Threads + Sync, S: Source + Sync, P: Pool>(
+fn answer_given<R: Threads + Sync, S: Source + Sync, P: Pool, O: Sink>(
     rt: &R,
     alloc: Global,
     work: &mut Windowed<'_>,
     pool: &P,
     corpus: &mut S,
-) -> Result<bool, OutOfMemory>
+    out: &mut O,
+) -> Result<Option<Turnout>, OutOfMemory>
     requires fits { Fits work.old.plan.now work.old }
     requires as_found { P.means pool.now ≡ rows_by }
     requires untold { P.told pool.now ≡ None }
     requires empty { work.old.window.items ≡ [] }
-    ensures answered { IfOk result (λ answered. answered ≡ true → HasAnswered (line_by work.old.plan.now) (S.looks corpus.old) (S.left corpus.old) (S.left corpus.new) work.old work.new) }
-    ensures none { IfOk result (λ answered. answered ≡ false → IsAsBefore work.old work.new × (S.left corpus.new ≡ S.left corpus.old)) }
+    ensures answered { IfOk result (λ came. IfSome came (HasAnswered (line_by work.old.plan.now) (S.looks corpus.old) (S.left corpus.old) (S.left corpus.new)
+        (outgoing work.old.pending (O.held out.old) (O.faults out.old)) (outgoing work.new.pending (O.held out.new) (O.faults out.new)) work.old work.new)) }
+    ensures none { IfOk result (λ came. came ≡ None → IsAsBefore work.old work.new × (S.left corpus.new ≡ S.left corpus.old)
+        × (O.held out.new ≡ O.held out.old) × (O.faults out.new ≡ O.faults out.old)) }
     ensures fits { IfOk result (λ _. (plan : Parts) → Fits plan work.old → Fits plan work.new) }
-    ensures err { OnErr result (S.left corpus.new ≡ S.left corpus.old) }
+    ensures err { OnErr result ((S.left corpus.new ≡ S.left corpus.old) × (O.held out.new ≡ O.held out.old)) }
     ensures faults { S.faults corpus.new ≡ S.faults corpus.old }
 {
     let ahead = room_ahead(work, corpus);
-    let told = append_ready(
+    let told = answer_ready(
         rt,
         alloc,
         &work.schedule,
@@ -413,19 +426,22 @@ fn answer_ready<R: Threads + Sync, S: Source + Sync, P: Pool>(
         &work.line,
         work.reader.ready(),
         &mut work.pending,
+        out,
     )?;
-    match told {
-        Some(taken) => {
-            work.reader.pass(corpus, taken.bytes);
-            work.number = work.number.saturating_add(taken.lines);
-            Ok(true)
-        }
-        None => Ok(false),
+    let Some(taken) = told else {
+        return Ok(None);
+    };
+    work.reader.pass(corpus, taken.bytes);
+    work.number = work.number.saturating_add(taken.lines);
+    if taken.failed {
+        Ok(Some(Turnout::Unwritten))
+    } else {
+        Ok(Some(Turnout::Next))
     }
 }
 
 /// Puts the document of the line that was given behind those of the window; a blank line has none.
-fn take_document(alloc: Global, work: &mut Windowed<'_>) -> Result<Turn, OutOfMemory>
+fn take_document(alloc: Global, work: &mut Windowed<'_>) -> Result<Turnout, OutOfMemory>
     requires line { length work.old.line.items ≤ line_limit }
     requires short { AreShort work.old.window.items }
     requires below { length work.old.window.items < work.old.most }
@@ -435,9 +451,9 @@ fn take_document(alloc: Global, work: &mut Windowed<'_>) -> Result<Turn, OutOfMe
     let good = put_document(alloc, &mut work.documents, &work.line, &mut work.window)?;
     if good {
         work.bytes = work.bytes.saturating_add(work.line.len());
-        Ok(Turn::Next)
+        Ok(Turnout::Next)
     } else {
-        Ok(Turn::Ended(Status::Corpus(CorpusFault::BadLine(work.number))))
+        Ok(Turnout::Ended(Status::Corpus(CorpusFault::BadLine(work.number))))
     }
 }
 
@@ -468,17 +484,17 @@ fn put_document(
 
 /// Whether the window is to be evaluated: where the run ends, where it is full, or where the next line isn't
 /// whole yet and no more input may be there already.
-fn is_due(work: &Windowed<'_>, turn: &Turn) -> bool
-    ensures goes_on { result ≡ false → turn.now ≡ Turn.Next }
+fn is_due(work: &Windowed<'_>, turn: &Turnout) -> bool
+    ensures goes_on { result ≡ false → turn.now ≡ Turnout.Next }
     ensures below { result ≡ false → length work.now.window.items < work.now.most }
 {
     match turn {
-        Turn::Next => {
+        Turnout::Next => {
             work.window.len() >= work.most
                 || work.bytes >= MOST_BYTES
                 || !(work.reader.has_line() || work.reader.was_filled())
         }
-        Turn::Ended(_) => true,
+        Turnout::Ended(_) | Turnout::Unwritten => true,
     }
 }
 

@@ -374,7 +374,7 @@ fn what_is_looked_at_is_answered_once_and_in_order(rt: HostRuntime) -> Result<()
 }
 
 /// 70 documents of 8,000 digits each, whose output lines have some 360,000 bytes each, and behind 40 of them one of 1,200,000
-/// letters: by then more than half is written of what ends a turn.
+/// letters: more is written in all than may be held until it can be.
 fn much_to_write(alloc: Global) -> Result<String, Fail> {
     let digits = repeated(alloc, "1", 8_000)?;
     let letters = repeated(alloc, "x", 1_200_000)?;
@@ -388,12 +388,13 @@ fn much_to_write(alloc: Global) -> Result<String, Fail> {
     Ok(all)
 }
 
-/// Runs over a corpus that shows what is left of it, and asserts that the run ends well.
+/// Runs over a corpus that shows what is left of it, and asserts with which status the run ends.
 fn write_all<R: Threads + Sync + Abort>(
     rt: &R,
     alloc: Global,
     corpus: &str,
     workers: &str,
+    status: u8,
     out: &mut MemSink,
 ) -> Result<(), Fail> {
     let words = ["run", "p.aql", "--workers", workers];
@@ -404,20 +405,29 @@ fn write_all<R: Threads + Sync + Abort>(
     let mut source = SureSource::new(Vec::from_slice(alloc, corpus.as_bytes())?);
     let (code, err) = call(rt, alloc, &setup, &mut source, out, &mut Workers)?;
     assert_eq!(rt; err.bytes(), b"".as_slice(), "{workers} workers");
-    assert_eq!(rt; code, 0, "{workers} workers");
+    assert_eq!(rt; code, status, "{workers} workers");
     Ok(())
 }
 
 #[test]
-fn a_turn_that_wrote_much_leaves_the_rest_to_the_next_ones(rt: HostRuntime) -> Result<(), Fail> {
+fn much_is_written_while_workers_answer_more(rt: HostRuntime) -> Result<(), Fail> {
     let alloc = rt.alloc();
     let corpus = much_to_write(alloc)?;
     let mut alone = sink_of(alloc, 1 << 25, 1 << 20, &[])?;
-    write_all(&rt, alloc, corpus.as_str(), "1", &mut alone)?;
+    write_all(&rt, alloc, corpus.as_str(), "1", 0, &mut alone)?;
     for workers in &["2", "4"] {
         let mut out = sink_of(alloc, 1 << 25, 1 << 20, &[])?;
-        write_all(&rt, alloc, corpus.as_str(), workers, &mut out)?;
+        write_all(&rt, alloc, corpus.as_str(), workers, 0, &mut out)?;
         assert!(rt; out.bytes() == alone.bytes(), "{workers} workers");
+        // a write that fails while others answer lines is told, and leaves what was written before it
+        for call in &[1u64, 4, 20] {
+            let mut out = sink_of(alloc, 1 << 25, 1 << 20, &[*call])?;
+            write_all(&rt, alloc, corpus.as_str(), workers, 5, &mut out)?;
+            assert!(rt;
+                alone.bytes().starts_with(out.bytes()),
+                "{workers} workers, call {call}"
+            );
+        }
     }
     Ok(())
 }

@@ -11,6 +11,9 @@ use Rattle.span_token.proofs.document.Document.TheSendSync as document
 use Rattle.std.proofs.sync.atomic.AtomicUsize.TheSendSync as word
 use Rattle.corpus_json.proofs.write.layout.Layout.TheSendSync as layout
 use Rattle.line_sight.proofs.Crosses.{Seen-sync, Sight-send}
+use Rattle.line_parts.proofs.Crosses.{Done-send}
+use Rattle.line_parts.specs.declared.turn.Turn.{Ghosts as Turns}
+use Rattle.shared_queue.proofs.queue.SharedQueue.TheSendSync as queue
 use Rattle.scalar_ops.proofs.Crosses.{tools}
 use Rattle.plan_operators.specs.contracts.schedule.Schedule as Schedule
 use Rattle.worker_pool.proofs.Crosses.{Plan-sync}
@@ -30,9 +33,11 @@ one_captured_sync ν A a = search sendable depth 20
 Schedule-sync : (p : NamedLft) → IsSync (Schedule.the_row p)
 Schedule-sync p = search (Plan-sync, vec.the_sync, crosses, sendable) depth 60 fits 20000
 
--- what threads share that answer lines, with a pool and a source that may be shared
-pub Ready-sync : (a l p : NamedLft) (P S : RattleType) (ghosts : Ghosts P.Denot) (sources : Sources S.Denot) → IsSync P → IsSync S → IsSync (Ready.the_row a l p P S ghosts sources)
-Ready-sync a l p P S ghosts sources shared shown = search (Schedule-sync, Seen-sync, layout.the_sync, word.the_sync, crosses, sendable) depth 60 fits 20000
+-- what threads share that answer lines, with a turn's name, a pool and a source that may be shared
+pub Ready-sync : (a l p : NamedLft) (W P S : RattleType) (w : Turns W.Denot) (ghosts : Ghosts P.Denot) (sources : Sources S.Denot)
+    → IsSend W → IsSync W → IsSync P → IsSync S → IsSync (Ready.the_row a l p W P S w ghosts sources)
+Ready-sync a l p W P S w ghosts sources named known shared shown =
+    search (Schedule-sync, Seen-sync, Done-send, queue.the_sync, layout.the_sync, word.the_sync, crosses, sendable) depth 60 fits 20000
 
 -- a hand may be sent: its tools, and room
 pub Hand-send : (p : NamedLft) → IsSend (Hand.the_row p)

@@ -4,7 +4,5 @@ pub mod Sharing
 pub mod Handing
 -- stretches of lists
 pub mod Stretches
--- parts of bytes, whose lines were answered
-pub mod Parts
 -- what is shared among threads, and sent to them
 pub mod Crosses

@@ -11,7 +11,7 @@ ghost use Rattle.run_pool.specs.Answers.{IsAnswer};
 ghost use Rattle.run_pool.specs.Entries.{entry_of, AreHanded};
 ghost use Rattle.run_pool.specs.Lines.{line_from, names_in, rows_by};
 ghost use Rattle.span_token.specs.Limits.{text_limit};
-ghost use Rattle.window_lines.specs.Answered.{answer_to};
+ghost use Rattle.line_parts.specs.Answered.{answer_to};
 
 use algebra::{Plan, PlanOut};
 use corpus_json::{DocumentReader, Input, InputRef, Layout, NotDocument, append_document};

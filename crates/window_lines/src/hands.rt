@@ -4,8 +4,8 @@ ghost use Rattle.std.specs.Prelude.{◌≡◌, ◌≤◌, [], IfOk, vec_len};
 ghost use Rattle.window_lines.specs.Hands.{HaveTools};
 
 use crate::answer::Room;
-use crate::pending::LARGE;
 use algebra::Plan;
+use line_parts::LARGE;
 use line_sight::Sight;
 use scalar_ops::{Tables, Tools};
 use span_token::OutOfMemory;
@@ -37,42 +37,14 @@ impl<'p> Model for Hands<'p> {
     ghost invariant = { λ hands. (0 < vec_len hands.hands) × (vec_len hands.hands < 2 ^ 32) × HaveTools hands.tables.now hands.hands.items };
 }
 
-/// What one thread keeps: its tools, room for a document, what it looked at, and what it answered last.
+/// What one thread keeps: its tools, room for a document, and what it looked at.
 #[derive(Drop)]
 pub(crate) struct Hand<'p> {
-    /// Whether it answers the first line, as the last hand does: its thread is the one that is started first.
-    pub leads: bool,
     pub tools: Tools<'p>,
     pub room: Room,
     pub sight: Sight,
-    pub first: First,
-    /// What is written for the first line, where it is good.
-    pub head: Vec<u8>,
-    pub parts: Vec<Part>,
-    /// How many of the parts are put behind what is pending.
-    pub put: usize,
     /// Texts of parts that are used again.
     pub spare: Vec<Vec<u8>>,
-}
-
-/// What came of the first line.
-#[derive(Clone, Copy, Debug)]
-pub(crate) enum First {
-    /// It wasn't answered, for want of memory or since another hand does.
-    Unknown,
-    /// It is bad.
-    Bad,
-    /// It is answered.
-    Good,
-}
-
-/// What is written for the lines that stand from one place to another, and their number.
-#[derive(Drop)]
-pub(crate) struct Part {
-    pub from: usize,
-    pub to: usize,
-    pub count: u64,
-    pub text: Vec<u8>,
 }
 
 impl<'p> Hands<'p> {
@@ -97,52 +69,28 @@ fn hands_for<'p>(
     ensures tools { IfOk result (λ hands. HaveTools tables.now hands.items) }
 {
     let mut hands = Vec::with_capacity(alloc, number as usize)?;
-    for n in 0..number {
-        let leads = n + 1 == number;
-        hands.push(hand_for(alloc, tables, leads)?)?;
+    for _ in 0..number {
+        hands.push(hand_for(alloc, tables)?)?;
     }
     Ok(hands)
 }
 
-/// A hand with tools for the tables, which answered nothing yet.
-fn hand_for<'p>(alloc: Global, tables: &'p Tables, leads: bool) -> Result<Hand<'p>, OutOfMemory>
+/// A hand with tools for the tables.
+fn hand_for<'p>(alloc: Global, tables: &'p Tables) -> Result<Hand<'p>, OutOfMemory>
     ensures { IfOk result (λ hand. hand.tools ≡ tables.now) }
 {
     Ok(Hand {
-        leads,
         tools: Tools::new(alloc, tables)?,
         room: Room::new(alloc),
         sight: Sight::new(alloc),
-        first: First::Unknown,
-        head: Vec::new(alloc),
-        parts: Vec::new(alloc),
-        put: 0,
         spare: Vec::new(alloc),
     })
 }
 
 impl<'p> Hand<'p> {
-    /// Forgets what was answered, and keeps the room that it took.
-    pub(crate) fn clear(&mut self)
-        ensures tools { self.new.tools ≡ self.old.tools }
-        ensures none { self.new.parts.items ≡ [] }
-    {
-        self.first = First::Unknown;
-        self.head.clear();
-        for _ in 0..self.parts.len() {
-            if let Some(part) = self.parts.pop() {
-                self.keep(part.text);
-            }
-        }
-        self.parts.clear();
-        self.put = 0;
-    }
-
     /// Keeps the room of a text, where it isn't large and few are kept.
     pub(crate) fn keep(&mut self, text: Vec<u8>)
         ensures tools { self.new.tools ≡ self.old.tools }
-        ensures head { self.new.head ≡ self.old.head }
-        ensures parts { self.new.parts ≡ self.old.parts }
     {
         if text.capacity() <= LARGE && self.spare.len() < MOST_SPARE {
             // room that can't be kept is made again
@@ -154,8 +102,6 @@ impl<'p> Hand<'p> {
     pub(crate) fn text(&mut self, alloc: Global) -> Vec<u8>
         ensures empty { result.items ≡ [] }
         ensures tools { self.new.tools ≡ self.old.tools }
-        ensures head { self.new.head ≡ self.old.head }
-        ensures parts { self.new.parts ≡ self.old.parts }
     {
         match self.spare.pop() {
             Some(mut text) => {

@@ -11,16 +11,14 @@ mod answer;
 mod answers;
 mod documents;
 mod hands;
+mod lead;
 mod lines;
-mod pending;
 mod pieces;
-mod put;
 mod ready;
 mod stretch;
 mod window;
 
 pub use answer::{Room, all_lent, all_shown, answer_line, append_answer, document_of, lent};
 pub use hands::Hands;
-pub use pending::{Pending, Texts};
-pub use ready::{Answered, append_ready};
+pub use ready::answer_ready;
 pub use window::append_window;

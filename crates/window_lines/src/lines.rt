@@ -9,10 +9,10 @@ ghost use Rattle.run_pool.specs.Answers.{AreAllAnswers, IsAnswer};
 ghost use Rattle.run_pool.specs.Lines.{line_from, names_in};
 
 use crate::answer::append_line;
-use crate::pending::Pending;
 use crate::stretch::{stretch, stretch_count, stretch_size};
 use algebra::Plan;
 use corpus_json::Layout;
+use line_parts::Pending;
 use row_values::Rows;
 use run_pool::Pool;
 use span_token::{Document, OutOfMemory};
@@ -76,7 +76,9 @@ pub(crate) fn append_lines<'d, R: Threads + Sync, P: Pool>(
     ensures bytes { OnOk result (pending.new ≡ pending.old ++ flat_map (line_from (P.means pool.now) plan.now) docs.now) }
 {
     if threads == 1 {
-        return append_answers(alloc, pool, plan, layout, docs, answers, &mut pending.last);
+        let mut lines = Vec::new(alloc);
+        append_answers(alloc, pool, plan, layout, docs, answers, &mut lines)?;
+        return pending.take_text(&mut lines);
     }
     let size = stretch_size(docs.len(), threads);
     let writing = Writing {

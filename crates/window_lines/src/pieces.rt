@@ -4,18 +4,19 @@ ghost use Rattle.std.specs.Prelude.{◌≡◌, ◌<◌, ◌*◌, ◌++◌, ◌�
 ghost use Rattle.corpus_json.specs.Documents.{is_bad_line};
 ghost use Rattle.corpus_json.specs.Lines.{FirstLfAt};
 ghost use Rattle.line_sight.specs.Seen.{Sees};
-ghost use Rattle.window_lines.specs.declared.hands.First.TheVariants as declared_first;
-ghost use Rattle.window_lines.specs.Answered.{answer_to};
-ghost use Rattle.window_lines.specs.Hands.{AreParts, HasAnswered, IsHead, IsPart};
+ghost use Rattle.line_parts.specs.Answered.{answer_to};
 ghost use Rattle.window_lines.specs.Lines.{line_by, names_in, rows_by};
+ghost use Rattle.line_parts.specs.Turns.{IsPart};
 
 use crate::answer::answer_line;
-use crate::hands::{First, Hand, Part};
+use crate::hands::Hand;
 use aql_io::Source;
 use corpus_json::{LINE_LIMIT, Layout};
+use line_parts::{Done, Part, Turn};
 use line_sight::{Seen, Sight};
 use plan_operators::Schedule;
 use run_pool::Pool;
+use shared_queue::SharedQueue;
 use span_token::OutOfMemory;
 use std::alloc::Global;
 use std::mem;
@@ -24,12 +25,9 @@ use std::sync::atomic::{AtomicUsize, Ordering};
 /// Lines of so many bytes and more are left to the caller, since they may be evaluated by all threads together.
 const LONG: usize = 4_194_304;
 
-/// The same once half of what is enough is written: all other threads would wait for such a line at the end of the turn.
-const LATE: usize = 1_048_576;
-
 /// What the threads share that answer lines.
 #[derive(Drop)]
-pub(crate) struct Ready<'a, 'l, 'p, P: Pool, S: Source> {
+pub(crate) struct Ready<'a, 'l, 'p, W: Turn, P: Pool, S: Source> {
     pub alloc: Global,
     /// The pool of which each thread makes a part for itself.
     pub pool: &'a P,
@@ -44,92 +42,68 @@ pub(crate) struct Ready<'a, 'l, 'p, P: Pool, S: Source> {
     pub count: usize,
     /// The number of the piece that is taken up next; `count` and more where nobody is to take another one.
     pub next: &'a AtomicUsize,
-    /// How many bytes of output lines there are, and how many are enough.
-    pub written: &'a AtomicUsize,
+    /// The parts that other threads than the caller's have done.
+    pub done: &'a SharedQueue<Done<W>>,
+    /// How many bytes such parts have that aren't put behind what is pending, and how many are enough.
+    pub unsent: &'a AtomicUsize,
     pub enough: usize,
     ghost of_plan: { layout.now ≡ names_in schedule.now },
     ghost some: { 0 < size },
     ghost begun: { (n : ℕ) → n < count → n * size < seen.most },
+    ghost piece: { W.piece ≡ line_by schedule.now },
+    ghost shown: { W.shown ≡ seen },
 }
 
-impl<'a, 'l, 'p, P: Pool, S: Source> Ready<'a, 'l, 'p, P, S> {
-    /// Answers pieces until none is left, by a part of the pool; the hand that leads answers the first line before.
+impl<'a, 'l, 'p, W: Turn, P: Pool, S: Source> Ready<'a, 'l, 'p, W, P, S> {
+    /// Answers pieces until none is left, by a part of the pool, and hands each part over that is done.
     pub fn answer(&self, hand: &mut Hand<'_>)
         requires as_found { P.means self.now.pool.now ≡ rows_by }
         requires tools { hand.old.tools ≡ self.now.schedule.now.lists }
         ensures tools { hand.new.tools ≡ self.now.schedule.now.lists }
-        ensures answered { HasAnswered (line_by self.now.schedule.now) self.now.first.now self.now.seen hand.new }
     {
-        hand.clear();
         let mut pool = self.pool.part(self.alloc);
-        let first = if hand.leads {
-            self.answer_first(hand, &mut pool)
-        } else {
-            First::Unknown
-        };
-        self.answer_pieces(hand, &mut pool);
-        hand.first = first;
-    }
-
-    /// Answers the first line, and tells what came of it.
-    fn answer_first(&self, hand: &mut Hand<'_>, pool: &mut P) -> First
-        requires tools { hand.old.tools ≡ self.now.schedule.now.lists }
-        requires as_found { P.means pool.old ≡ rows_by }
-        ensures good { result ≡ declared_first.Good → IsHead (line_by self.now.schedule.now) self.now.first.now hand.new.head.items }
-        ensures bad { result ≡ declared_first.Bad → is_bad_line self.now.first.now ≡ true }
-        ensures tools { hand.new.tools ≡ hand.old.tools }
-        ensures parts { hand.new.parts ≡ hand.old.parts }
-        ensures as_found { P.means pool.new ≡ P.means pool.old }
-    {
-        let mut text = hand.text(self.alloc);
-        let answered = self.answer_one(self.first, hand, pool, &mut text);
-        let old = mem::replace(&mut hand.head, text);
-        hand.keep(old);
-        match answered {
-            Ok(true) => {
-                self.note_written(hand.head.len());
-                First::Good
-            }
-            Ok(false) => First::Bad,
-            Err(OutOfMemory) => {
-                self.stop();
-                First::Unknown
-            }
-        }
-    }
-
-    /// Answers one piece after another that nobody answers yet.
-    fn answer_pieces(&self, hand: &mut Hand<'_>, pool: &mut P)
-        requires tools { hand.old.tools ≡ self.now.schedule.now.lists }
-        requires as_found { P.means pool.old ≡ rows_by }
-        requires parts { AreParts (line_by self.now.schedule.now) self.now.seen hand.old.parts.items }
-        ensures tools { hand.new.tools ≡ hand.old.tools }
-        ensures head { hand.new.head ≡ hand.old.head }
-        ensures parts { AreParts (line_by self.now.schedule.now) self.now.seen hand.new.parts.items }
-        ensures as_found { P.means pool.new ≡ P.means pool.old }
-    {
         'pieces: for _ in 0..self.count {
-            let n = self.next.fetch_add(1, Ordering::Relaxed);
-            if n >= self.count {
+            let Some(n) = self.take_up() else {
                 return;
-            }
+            };
             // where memory is wanting, nothing behind this piece can be put, and the next turn begins with it
-            if self.answer_piece(n, hand, pool).is_err() {
+            let answered = self.answer_piece(n, hand, &mut pool);
+            if !self.hand_over(answered) {
                 self.stop();
                 return;
             }
         }
     }
 
-    /// Answers the lines that begin in the piece of number `n`; a piece in the middle of a line has none.
-    fn answer_piece(&self, n: usize, hand: &mut Hand<'_>, pool: &mut P) -> Result<(), OutOfMemory>
+    /// Hands a part over to the caller's thread. False where there was no memory for it, or there is no room in the queue.
+    fn hand_over(&self, answered: Result<Option<Done<W>>, OutOfMemory>) -> bool {
+        match answered {
+            Ok(Some(done)) => self.done.put(done).is_ok(),
+            Ok(None) => true,
+            Err(OutOfMemory) => false,
+        }
+    }
+
+    /// The number of a piece that nobody answers yet. `None` where nobody is to take another one.
+    pub fn take_up(&self) -> Option<usize>
+        ensures { IfSome result (λ n. n < self.now.count) }
+    {
+        let n = self.next.fetch_add(1, Ordering::Relaxed);
+        if n < self.count { Some(n) } else { None }
+    }
+
+    /// Answers the lines that begin in the piece of number `n`. `None` where it has no part: it lies in the middle of a line, or
+    /// none of its lines is answered.
+    pub fn answer_piece(
+        &self,
+        n: usize,
+        hand: &mut Hand<'_>,
+        pool: &mut P,
+    ) -> Result<Option<Done<W>>, OutOfMemory>
         requires there { n < self.now.count }
         requires tools { hand.old.tools ≡ self.now.schedule.now.lists }
         requires as_found { P.means pool.old ≡ rows_by }
-        requires parts { AreParts (line_by self.now.schedule.now) self.now.seen hand.old.parts.items }
         ensures tools { hand.new.tools ≡ hand.old.tools }
-        ensures head { hand.new.head ≡ hand.old.head }
-        ensures parts { AreParts (line_by self.now.schedule.now) self.now.seen hand.new.parts.items }
         ensures as_found { P.means pool.new ≡ P.means pool.old }
     {
         let begin = n.saturating_mul(self.size);
@@ -147,19 +121,16 @@ impl<'a, 'l, 'p, P: Pool, S: Source> Ready<'a, 'l, 'p, P, S> {
         sight: &mut Sight,
         hand: &mut Hand<'_>,
         pool: &mut P,
-    ) -> Result<(), OutOfMemory>
+    ) -> Result<Option<Done<W>>, OutOfMemory>
         requires there { begin < self.now.seen.most }
         requires tools { hand.old.tools ≡ self.now.schedule.now.lists }
         requires as_found { P.means pool.old ≡ rows_by }
-        requires parts { AreParts (line_by self.now.schedule.now) self.now.seen hand.old.parts.items }
         ensures tools { hand.new.tools ≡ hand.old.tools }
-        ensures head { hand.new.head ≡ hand.old.head }
-        ensures parts { AreParts (line_by self.now.schedule.now) self.now.seen hand.new.parts.items }
         ensures as_found { P.means pool.new ≡ P.means pool.old }
     {
         let until = begin + self.size.min(self.seen.most - begin);
         if !self.go_to_line(begin, until, sight)? {
-            return Ok(());
+            return Ok(None);
         }
         let from = sight.at();
         let mut part = Part {
@@ -169,9 +140,13 @@ impl<'a, 'l, 'p, P: Pool, S: Source> Ready<'a, 'l, 'p, P, S> {
             text: hand.text(self.alloc),
         };
         self.answer_lines(until, sight, hand, pool, &mut part)?;
-        self.note_written(part.text.len());
-        hand.parts.push(part)?;
-        Ok(())
+        if part.to > from {
+            self.note_done(part.text.len());
+            Ok(Some(Done::new(part)))
+        } else {
+            hand.keep(part.text);
+            Ok(None)
+        }
     }
 
     /// Goes to the first place from `begin` on at which a line begins: the first byte's, or one behind an LF. False where
@@ -207,12 +182,10 @@ impl<'a, 'l, 'p, P: Pool, S: Source> Ready<'a, 'l, 'p, P, S> {
         requires as_found { P.means pool.old ≡ rows_by }
         requires sees { Sees self.now.seen sight.old }
         requires at { sight.old.at ≡ part.old.to }
-        requires part { IsPart (line_by self.now.schedule.now) self.now.seen part.old }
+        requires part { IsPart W.piece W.shown part.old }
         ensures tools { hand.new.tools ≡ hand.old.tools }
-        ensures head { hand.new.head ≡ hand.old.head }
-        ensures parts { hand.new.parts ≡ hand.old.parts }
         ensures as_found { P.means pool.new ≡ P.means pool.old }
-        ensures part { OnOk result (IsPart (line_by self.now.schedule.now) self.now.seen part.new) }
+        ensures part { OnOk result (IsPart W.piece W.shown part.new) }
     {
         'lines: while part.to < until {
             if !self.answer_next(until, sight, hand, pool, part)? {
@@ -236,12 +209,10 @@ impl<'a, 'l, 'p, P: Pool, S: Source> Ready<'a, 'l, 'p, P, S> {
         requires as_found { P.means pool.old ≡ rows_by }
         requires sees { Sees self.now.seen sight.old }
         requires at { sight.old.at ≡ part.old.to }
-        requires part { IsPart (line_by self.now.schedule.now) self.now.seen part.old }
+        requires part { IsPart W.piece W.shown part.old }
         ensures tools { hand.new.tools ≡ hand.old.tools }
-        ensures head { hand.new.head ≡ hand.old.head }
-        ensures parts { hand.new.parts ≡ hand.old.parts }
         ensures as_found { P.means pool.new ≡ P.means pool.old }
-        ensures part { OnOk result (IsPart (line_by self.now.schedule.now) self.now.seen part.new) }
+        ensures part { OnOk result (IsPart W.piece W.shown part.new) }
         ensures more { IfOk result (λ more. more ≡ true → (part.old.to < part.new.to) × Sees self.now.seen sight.new × (sight.new.at ≡ part.new.to)) }
     {
         let Some(n) = self.find_next(until, sight)? else {
@@ -266,12 +237,7 @@ impl<'a, 'l, 'p, P: Pool, S: Source> Ready<'a, 'l, 'p, P, S> {
         ensures sees { OnOk result (Sees self.now.seen sight.new) }
         ensures found { IfOk result (λ found. IfSome found (FirstLfAt sight.new.bytes)) }
     {
-        let limit = if self.has_written(self.enough / 2) {
-            LATE
-        } else {
-            LONG
-        };
-        let found = sight.find_line(&self.seen, limit, until)?;
+        let found = sight.find_line(&self.seen, LONG, until)?;
         if let Some(n) = found {
             self.skip_line(sight.at(), n);
         }
@@ -287,22 +253,23 @@ impl<'a, 'l, 'p, P: Pool, S: Source> Ready<'a, 'l, 'p, P, S> {
         }
     }
 
-    /// Whether so many bytes of output lines are there.
-    fn has_written(&self, bytes: usize) -> bool {
-        self.written.load(Ordering::Relaxed) >= bytes
-    }
-
-    /// Counts what is written for a piece, and lets nobody take another one where it is enough.
-    fn note_written(&self, bytes: usize) {
-        let before = self.written.fetch_add(bytes, Ordering::Relaxed);
+    /// Counts the bytes of a part that is done, and lets nobody take another piece where enough are unsent: the caller's thread
+    /// is behind.
+    fn note_done(&self, bytes: usize) {
+        let before = self.unsent.fetch_add(bytes, Ordering::Relaxed);
         if before >= self.enough || bytes >= self.enough - before {
             self.stop();
         }
     }
 
+    /// The same of bytes that were put behind what is pending.
+    pub fn note_sent(&self, bytes: usize) {
+        let _ = self.unsent.fetch_sub(bytes, Ordering::Relaxed);
+    }
+
     /// Hands the document of a line to the part of the pool, and puts what is written for the line behind the
     /// text. False, and nothing is put, where it is bad.
-    fn answer_one(
+    pub fn answer_one(
         &self,
         line: &[u8],
         hand: &mut Hand<'_>,
@@ -313,11 +280,9 @@ impl<'a, 'l, 'p, P: Pool, S: Source> Ready<'a, 'l, 'p, P, S> {
         requires as_found { P.means pool.old ≡ rows_by }
         ensures good { IfOk result (λ good. good ≡ true → is_bad_line line.now ≡ false) }
         ensures bad { IfOk result (λ good. good ≡ false → is_bad_line line.now ≡ true) }
-        ensures put { IfOk result (λ good. good ≡ true → text.new.items ≡ text.old.items ++ answer_to (line_by self.now.schedule.now) (line.now ∷ [])) }
+        ensures put { IfOk result (λ good. good ≡ true → text.new.items ≡ text.old.items ++ answer_to W.piece (line.now ∷ [])) }
         ensures none { IfOk result (λ good. good ≡ false → text.new.items ≡ text.old.items) }
         ensures tools { hand.new.tools ≡ hand.old.tools }
-        ensures head { hand.new.head ≡ hand.old.head }
-        ensures parts { hand.new.parts ≡ hand.old.parts }
         ensures as_found { P.means pool.new ≡ P.means pool.old }
     {
         if line.len() > LINE_LIMIT {
@@ -341,8 +306,8 @@ impl<'a, 'l, 'p, P: Pool, S: Source> Ready<'a, 'l, 'p, P, S> {
         Ok(good)
     }
 
-    /// Lets nobody take another piece, since nothing behind it would be put, or enough is written.
-    fn stop(&self) {
+    /// Lets nobody take another piece, since nothing behind it would be put, or enough is unsent.
+    pub fn stop(&self) {
         self.next.store(self.count, Ordering::Relaxed);
     }
 }

@@ -1,29 +1,31 @@
 //! Lines that are ready: each of several threads reads, evaluates and answers pieces of them by itself.
 
-ghost use Rattle.std.specs.Prelude.{◌≡◌, ◌<◌, ◌≤◌, ◌+◌, ◌++◌, ◌-◌, ℕ, List, true, Some, None, IfOk, OnOk, MatchOption, length, vec_len};
-ghost use Rattle.std.specs.Thread.{IsSync};
+ghost use Rattle.std.specs.Prelude.{◌≡◌, ◌<◌, ◌≤◌, ◌+◌, ℕ, List, true, None, IfOk, OnErr, Option, MatchOption, MatchResult, vec_len};
+ghost use Rattle.std.specs.Thread.{IsSend, IsSync};
 ghost use Rattle.corpus_json.specs.Documents.{is_bad_line};
-ghost use Rattle.span_token.specs.Documents.{Doc};
 ghost use Rattle.scalar_ops.specs.Tables.{Lists};
-ghost use Rattle.window_lines.specs.Answered.{IsAnswered};
-ghost use Rattle.window_lines.specs.Hands.{HasAnswered, HaveAnswered, HaveTools, IsAnsweredBehind};
+ghost use Rattle.line_sight.specs.Seen.{shown_by};
+ghost use Rattle.line_parts.specs.declared.desk.First.TheVariants as declared_first;
+ghost use Rattle.line_parts.specs.Answered.{CameTo, Outgoing, outgoing};
 ghost use Rattle.window_lines.specs.Lines.{line_by, names_in, rows_by};
-ghost use Rattle.line_sight.specs.Seen.{Shown, shown_by};
+ghost use Rattle.line_parts.specs.Turns.{HasStood, none_taken};
+ghost use Rattle.window_lines.specs.Hands.{HaveTools};
 
-use crate::hands::{First, Hand, Hands};
-use crate::pending::Pending;
+use crate::hands::{Hand, Hands};
 use crate::pieces::Ready;
-use crate::put::append_part_at;
 use crate::stretch::stretch_count;
-use aql_io::Source;
+use aql_io::{Sink, Source};
 use corpus_json::Layout;
+use line_parts::{Answered, Desk, Done, First, Pending, Turn};
 use line_sight::Seen;
 use plan_operators::Schedule;
 use run_pool::Pool;
+use shared_queue::SharedQueue;
 use span_token::OutOfMemory;
 use std::alloc::Global;
+use std::marker::Brand;
 use std::sync::atomic::AtomicUsize;
-use std::thread::{self, Threads, join_mut};
+use std::thread::{Threads, join_mut};
 
 /// How many bytes of lines pay for the threads that answer them.
 const MANY: usize = 16_384;
@@ -39,31 +41,26 @@ const PIECES: usize = 32;
 /// behind a piece and in the next one, and so few that none waits long for the last ones.
 const PIECE_AHEAD: usize = 65_536;
 
-/// How many bytes of output lines are enough for one call: the pieces that are begun are answered, and no more.
+/// How many bytes of output lines are enough that can't be written yet: the pieces that are begun are answered, and no more.
 const ENOUGH: usize = 20_971_520;
 
 /// The same for each thread, where they are many.
 const ENOUGH_EACH: usize = 5_242_880;
 
-/// How far lines that are ready were answered.
-#[derive(Clone, Copy, Debug)]
-pub struct Answered {
-    /// How many bytes, from the first one: whole lines, each with its LF.
-    pub bytes: usize,
-    /// How many lines.
-    pub lines: u64,
-}
+/// How many parts each thread may have done, on average, while the caller's thread answers one piece.
+const PARTS_EACH: usize = 256;
 
-/// Puts what is written for a line, and for lines behind it, behind what is pending: an output line for each document,
-/// and nothing for a blank line, in their order.
+/// Writes what is written for a line, and for lines behind it, behind what is pending: an output line for each document, and
+/// nothing for a blank line, in their order. What isn't a piece yet, or came last, is left pending.
 ///
 /// `first` is the line, without its LF, and `bytes` are those that are ready behind it. Behind these, up to `ahead` bytes
 /// of what is left of the corpus are looked at, where it shows them: none is read by that. What is answered of all is told
 /// in bytes and in lines: where there are many, each thread of `hands` answers pieces of them by itself, which pays where
-/// there are more lines than threads, and otherwise one does, without a thread. What is answered ends before a bad line,
-/// before one of 4,194,304 bytes and more, where enough is written (20,971,520 bytes, or 5,242,880 for each thread where
-/// they are more than four), and before one of 1,048,576 bytes and more where half of that is. `None` where the first line
-/// is bad, and nothing is put then.
+/// there are more lines than threads, and otherwise one does, without a thread. The caller's own thread writes what the others
+/// have done between its pieces. What is answered ends before a bad line, before one of 4,194,304 bytes and more, and where so
+/// much is answered that can't be written yet (20,971,520 bytes, or 5,242,880 for each thread where they are more than
+/// four). `None` where the first line is bad, and nothing is written then. The error is that memory was wanting for the first
+/// line, and nothing is written then.
 ///
 /// Each document is handed to a part of the pool by the thread that evaluates it, and what the part answers is
 /// written. The pool answers what is found and keeps no list, so nothing is gathered of its parts.
@@ -72,9 +69,9 @@ pub struct Answered {
 /// same for every number of them. `with_tokens` says whether documents keep their tokens, and changes no
 /// byte.
 ///
-/// Meaning: `IsAnswered`, `specs/Answered.antt`, of what is seen by `specs/Seen.antt`; `line_by`, `specs/Lines.antt`: for
+/// Meaning: `CameTo`, `specs/Answered.antt`, of what is seen by `specs/Seen.antt`; `line_by`, `specs/Lines.antt`: for
 /// each output the value of its node on the document.
-pub fn append_ready<R: Threads + Sync, P: Pool, S: Source + Sync>(
+pub fn answer_ready<R: Threads + Sync, P: Pool, S: Source + Sync, O: Sink>(
     rt: &R,
     alloc: Global,
     schedule: &Schedule<'_>,
@@ -87,20 +84,79 @@ pub fn append_ready<R: Threads + Sync, P: Pool, S: Source + Sync>(
     first: &[u8],
     bytes: &[u8],
     pending: &mut Pending,
+    out: &mut O,
 ) -> Result<Option<Answered>, OutOfMemory>
     requires layout { layout.now ≡ names_in schedule.now }
     requires of_plan { hands.old ≡ schedule.now.lists }
     requires as_found { P.means pool.now ≡ rows_by }
     requires untold { P.told pool.now ≡ None }
     ensures taken { IfOk result (λ told. MatchOption told
-        ((is_bad_line first.now ≡ true) × (pending.new ≡ pending.old))
-        (λ taken. IsAnswered (line_by schedule.now) first.now (shown_by (S.looks corpus.now) bytes.now (S.left corpus.now) ahead) taken pending.old pending.new)) }
+        ((is_bad_line first.now ≡ true) × (outgoing pending.new (O.held out.new) (O.faults out.new) ≡ outgoing pending.old (O.held out.old) (O.faults out.old)))
+        (λ taken. CameTo (line_by schedule.now) first.now (shown_by (S.looks corpus.now) bytes.now (S.left corpus.now) ahead) taken
+        (outgoing pending.old (O.held out.old) (O.faults out.old)) (outgoing pending.new (O.held out.new) (O.faults out.new)))) }
+    ensures none { OnErr result (O.held out.new ≡ O.held out.old) }
+    ensures same { hands.new ≡ hands.old }
+{
+    answer_turn::<Brand, R, P, S, O>(
+        rt,
+        alloc,
+        schedule,
+        with_tokens,
+        layout,
+        hands,
+        pool,
+        Seen {
+            ready: bytes,
+            corpus,
+            most: bytes.len().saturating_add(ahead),
+        },
+        ahead,
+        first,
+        pending,
+        out,
+    )
+}
+
+/// The same, for the turn of this name.
+fn answer_turn<W: Turn + Send + Sync, R: Threads + Sync, P: Pool, S: Source + Sync, O: Sink>(
+    rt: &R,
+    alloc: Global,
+    schedule: &Schedule<'_>,
+    with_tokens: bool,
+    layout: &Layout<'_>,
+    hands: &mut Hands<'_>,
+    pool: &P,
+    seen: Seen<'_, S>,
+    ahead: usize,
+    first: &[u8],
+    pending: &mut Pending,
+    out: &mut O,
+) -> Result<Option<Answered>, OutOfMemory>
+    requires piece { W.piece ≡ line_by schedule.now }
+    requires shown { W.shown ≡ seen }
+    requires layout { layout.now ≡ names_in schedule.now }
+    requires of_plan { hands.old ≡ schedule.now.lists }
+    requires as_found { P.means pool.now ≡ rows_by }
+    ensures taken { IfOk result (λ told. MatchOption told
+        ((is_bad_line first.now ≡ true) × (outgoing pending.new (O.held out.new) (O.faults out.new) ≡ outgoing pending.old (O.held out.old) (O.faults out.old)))
+        (λ taken. CameTo W.piece first.now W.shown taken
+        (outgoing pending.old (O.held out.old) (O.faults out.old)) (outgoing pending.new (O.held out.new) (O.faults out.new)))) }
+    ensures none { OnErr result (O.held out.new ≡ O.held out.old) }
     ensures same { hands.new ≡ hands.old }
 {
     let next = AtomicUsize::new(0);
-    let written = AtomicUsize::new(0);
-    let most = bytes.len().saturating_add(ahead);
-    let size = piece_size(bytes.len(), ahead, hands.hands.len());
+    let unsent = AtomicUsize::new(0);
+    let size = piece_size(seen.ready.len(), ahead, hands.hands.len());
+    let count = stretch_count(seen.most, size);
+    let threads = if seen.most < MANY {
+        1
+    } else {
+        hands.hands.len().min(count)
+    };
+    let done: SharedQueue<Done<W>> = SharedQueue::new(
+        alloc,
+        count.min(threads.saturating_mul(PARTS_EACH)).max(1),
+    )?;
     let ready = Ready {
         alloc,
         pool,
@@ -108,19 +164,25 @@ pub fn append_ready<R: Threads + Sync, P: Pool, S: Source + Sync>(
         with_tokens,
         layout,
         first,
-        seen: Seen {
-            ready: bytes,
-            corpus,
-            most,
-        },
+        seen,
         size,
-        count: stretch_count(most, size),
+        count,
         next: &next,
-        written: &written,
+        done: &done,
+        unsent: &unsent,
         enough: ENOUGH.max(hands.hands.len().saturating_mul(ENOUGH_EACH)),
     };
-    answer_in_threads(rt, &ready, &mut hands.hands);
-    append_answered(&ready, hands.hands.as_mut_slice(), pending)
+    let mut desk = Desk::new(alloc);
+    answer_by(
+        rt,
+        &ready,
+        threads,
+        &mut hands.hands,
+        &mut desk,
+        pending,
+        out,
+    );
+    finish(&ready, &mut desk, pending)
 }
 
 /// The size of a piece, where so many bytes are ready and so many may be seen behind them, for so many threads.
@@ -135,85 +197,81 @@ fn piece_size(length: usize, ahead: usize, threads: usize) -> usize
     }
 }
 
-/// Lets the hands answer, each in a thread of its own but for the first one, where there are many bytes.
-fn answer_in_threads<R: Threads + Sync, P: Pool, S: Source + Sync>(
-    rt: &R,
-    ready: &Ready<'_, '_, '_, P, S>,
-    hands: &mut Vec<Hand<'_>>,
-)
-    requires some { 0 < vec_len hands.old }
-    requires as_found { P.means ready.now.pool.now ≡ rows_by }
-    requires tools { HaveTools ready.now.schedule.now.lists hands.old.items }
-    ensures some { 0 < vec_len hands.new }
-    ensures few { vec_len hands.new ≤ vec_len hands.old }
-    ensures tools { HaveTools ready.now.schedule.now.lists hands.new.items }
-    ensures answered { HaveAnswered (line_by ready.now.schedule.now) ready.now.first.now ready.now.seen hands.new.items }
-{
-    let threads = hands.len().min(ready.count);
-    if threads < 2 || ready.seen.most < MANY {
-        answer_alone(rt, ready, hands);
-    } else {
-        answer_by(rt, ready, threads, hands);
-    }
-}
-
 /// Lets the hands answer in so many threads, of which this one starts all others: a system may put a thread that a new
-/// thread starts onto the same processor, where the two wait for each other.
+/// thread starts onto the same processor, where the two wait for each other. This one leads.
 #[cycle(threads)]
-fn answer_by<R: Threads + Sync, P: Pool, S: Source + Sync>(
+fn answer_by<W: Turn + Send + Sync, R: Threads + Sync, P: Pool, S: Source + Sync, O: Sink>(
     rt: &R,
-    ready: &Ready<'_, '_, '_, P, S>,
+    ready: &Ready<'_, '_, '_, W, P, S>,
     threads: usize,
     hands: &mut Vec<Hand<'_>>,
+    desk: &mut Desk<W>,
+    pending: &mut Pending,
+    out: &mut O,
 )
-    requires shared { IsSync R.row × IsSync P.row × IsSync S.row }
+    requires shared { IsSync R.row × IsSync P.row × IsSync S.row × IsSend W.row × IsSync W.row }
     requires some { 0 < vec_len hands.old }
     requires as_found { P.means ready.now.pool.now ≡ rows_by }
     requires tools { HaveTools ready.now.schedule.now.lists hands.old.items }
+    requires first { desk.old.first ≡ declared_first.Unknown }
+    requires taken { desk.old.taken ≡ none_taken }
     ensures some { 0 < vec_len hands.new }
     ensures few { vec_len hands.new ≤ vec_len hands.old }
     ensures tools { HaveTools ready.now.schedule.now.lists hands.new.items }
-    ensures answered { HaveAnswered (line_by ready.now.schedule.now) ready.now.first.now ready.now.seen hands.new.items }
+    ensures few_lines { desk.new.taken.lines ≤ desk.new.taken.bytes }
+    ensures stood { HasStood W.piece ready.now.first.now W.shown desk.new.first desk.new.taken
+        (outgoing pending.old (O.held out.old) (O.faults out.old)) (outgoing pending.new (O.held out.new) (O.faults out.new)) }
 {
     if threads < 2 || hands.len() < 2 {
-        answer_alone(rt, ready, hands);
+        ready.lead(&mut hands[0], desk, pending, out);
         return;
     }
     let Some(mut last) = hands.pop() else {
+        ready.lead(&mut hands[0], desk, pending, out);
         return;
     };
-    answer_beside(rt, ready, threads - 1, hands, &mut last);
+    answer_beside(rt, ready, threads - 1, hands, &mut last, desk, pending, out);
     put_back(hands, last);
 }
 
 /// Lets the hands answer in so many threads, and another one in one more.
 #[cycle(threads)]
-fn answer_beside<R: Threads + Sync, P: Pool, S: Source + Sync>(
+fn answer_beside<W: Turn + Send + Sync, R: Threads + Sync, P: Pool, S: Source + Sync, O: Sink>(
     rt: &R,
-    ready: &Ready<'_, '_, '_, P, S>,
+    ready: &Ready<'_, '_, '_, W, P, S>,
     threads: usize,
     hands: &mut Vec<Hand<'_>>,
     last: &mut Hand<'_>,
+    desk: &mut Desk<W>,
+    pending: &mut Pending,
+    out: &mut O,
 )
-    requires shared { IsSync R.row × IsSync P.row × IsSync S.row }
+    requires shared { IsSync R.row × IsSync P.row × IsSync S.row × IsSend W.row × IsSync W.row }
     requires some { 0 < vec_len hands.old }
     requires as_found { P.means ready.now.pool.now ≡ rows_by }
     requires tools { HaveTools ready.now.schedule.now.lists hands.old.items }
     requires last { last.old.tools ≡ ready.now.schedule.now.lists }
+    requires first { desk.old.first ≡ declared_first.Unknown }
+    requires taken { desk.old.taken ≡ none_taken }
     ensures some { 0 < vec_len hands.new }
     ensures few { vec_len hands.new ≤ vec_len hands.old }
     ensures tools { HaveTools ready.now.schedule.now.lists hands.new.items × (last.new.tools ≡ ready.now.schedule.now.lists) }
-    ensures answered { HaveAnswered (line_by ready.now.schedule.now) ready.now.first.now ready.now.seen hands.new.items
-        × HasAnswered (line_by ready.now.schedule.now) ready.now.first.now ready.now.seen last.new }
+    ensures few_lines { desk.new.taken.lines ≤ desk.new.taken.bytes }
+    ensures stood { HasStood W.piece ready.now.first.now W.shown desk.new.first desk.new.taken
+        (outgoing pending.old (O.held out.old) (O.faults out.old)) (outgoing pending.new (O.held out.new) (O.faults out.new)) }
 {
     let mut one = ||
-        requires { IsSync P.row × IsSync S.row × (P.means ready.now.pool.now ≡ rows_by) × (last.now.tools ≡ ready.now.schedule.now.lists) }
-        ensures { (last.exit.now.tools ≡ ready.entry.now.schedule.now.lists) × HasAnswered (line_by ready.entry.now.schedule.now) ready.entry.now.first.now ready.entry.now.seen last.exit.now }
+        requires { (P.means ready.now.pool.now ≡ rows_by) × (last.now.tools ≡ ready.now.schedule.now.lists) }
+        ensures { last.exit.now.tools ≡ ready.entry.now.schedule.now.lists }
     { ready.answer(last) };
     let mut others = ||
-        requires { IsSync R.row × IsSync P.row × IsSync S.row × (0 < vec_len hands.now) × (P.means ready.now.pool.now ≡ rows_by) × HaveTools ready.now.schedule.now.lists hands.now.items }
-        ensures { (0 < vec_len hands.exit.now) × (vec_len hands.exit.now ≤ vec_len hands.entry.now) × HaveTools ready.entry.now.schedule.now.lists hands.exit.now.items × HaveAnswered (line_by ready.entry.now.schedule.now) ready.entry.now.first.now ready.entry.now.seen hands.exit.now.items }
-    { answer_by(rt, ready, threads, hands) };
+        requires { IsSync R.row × IsSync P.row × IsSync S.row × IsSend W.row × IsSync W.row × (0 < vec_len hands.now) × (P.means ready.now.pool.now ≡ rows_by)
+            × HaveTools ready.now.schedule.now.lists hands.now.items × (desk.now.first ≡ declared_first.Unknown) × (desk.now.taken ≡ none_taken) }
+        ensures { (0 < vec_len hands.exit.now) × (vec_len hands.exit.now ≤ vec_len hands.entry.now) × HaveTools ready.entry.now.schedule.now.lists hands.exit.now.items
+            × (desk.exit.now.taken.lines ≤ desk.exit.now.taken.bytes)
+            × HasStood W.piece ready.entry.now.first.now W.shown desk.exit.now.first desk.exit.now.taken
+            (outgoing pending.entry.now (O.held out.entry.now) (O.faults out.entry.now)) (outgoing pending.exit.now (O.held out.exit.now) (O.faults out.exit.now)) }
+    { answer_by(rt, ready, threads, hands, desk, pending, out) };
     join_mut(rt, &mut one, &mut others);
 }
 
@@ -222,130 +280,36 @@ fn put_back<'p>(hands: &mut Vec<Hand<'p>>, hand: Hand<'p>)
     ensures some { vec_len hands.old ≤ vec_len hands.new }
     ensures few { vec_len hands.new ≤ vec_len hands.old + 1 }
     ensures tools { (lists : Lists) → HaveTools lists hands.old.items → hand.entry.tools ≡ lists → HaveTools lists hands.new.items }
-    ensures answered { (piece : Doc → List ℕ) (first : List ℕ) (shown : Shown) → HaveAnswered piece first shown hands.old.items → HasAnswered piece first shown hand.entry
-        → HaveAnswered piece first shown hands.new.items }
 {
     // its room is there, since it was just taken out
     let _ = hands.push(hand);
 }
 
-/// Lets the hands answer in this thread: the last one answers all, and the others find nothing left.
-fn answer_alone<R: Threads + Sync, P: Pool, S: Source + Sync>(
-    rt: &R,
-    ready: &Ready<'_, '_, '_, P, S>,
-    hands: &mut Vec<Hand<'_>>,
-)
-    requires some { 0 < vec_len hands.old }
-    requires as_found { P.means ready.now.pool.now ≡ rows_by }
-    requires tools { HaveTools ready.now.schedule.now.lists hands.old.items }
-    ensures some { 0 < vec_len hands.new }
-    ensures few { vec_len hands.new ≤ vec_len hands.old }
-    ensures tools { HaveTools ready.now.schedule.now.lists hands.new.items }
-    ensures answered { HaveAnswered (line_by ready.now.schedule.now) ready.now.first.now ready.now.seen hands.new.items }
-{
-    if hands.len() < 2 {
-        answer_by_each(rt, ready, hands);
-        return;
-    }
-    let Some(mut last) = hands.pop() else {
-        return;
-    };
-    ready.answer(&mut last);
-    answer_by_each(rt, ready, hands);
-    put_back(hands, last);
-}
-
-/// Lets one hand after the other answer what is left.
-fn answer_by_each<R: Threads + Sync, P: Pool, S: Source + Sync>(
-    rt: &R,
-    ready: &Ready<'_, '_, '_, P, S>,
-    hands: &mut Vec<Hand<'_>>,
-)
-    requires as_found { P.means ready.now.pool.now ≡ rows_by }
-    requires tools { HaveTools ready.now.schedule.now.lists hands.old.items }
-    ensures long { vec_len hands.new ≡ vec_len hands.old }
-    ensures tools { HaveTools ready.now.schedule.now.lists hands.new.items }
-    ensures answered { HaveAnswered (line_by ready.now.schedule.now) ready.now.first.now ready.now.seen hands.new.items }
-{
-    share_out(rt, ready, 1, hands.as_mut_slice());
-}
-
-/// The same, of hands in a row.
-fn share_out<R: Threads + Sync, P: Pool, S: Source + Sync>(
-    rt: &R,
-    ready: &Ready<'_, '_, '_, P, S>,
-    threads: usize,
-    hands: &mut [Hand<'_>],
-)
-    requires some { 0 < threads }
-    requires as_found { P.means ready.now.pool.now ≡ rows_by }
-    requires tools { HaveTools ready.now.schedule.now.lists hands.old }
-    ensures long { length hands.new ≡ length hands.old }
-    ensures tools { HaveTools ready.now.schedule.now.lists hands.new }
-    ensures answered { HaveAnswered (line_by ready.now.schedule.now) ready.now.first.now ready.now.seen hands.new }
-{
-    let job = |_number: usize, hand: &mut Hand<'_>|
-        requires { IsSync P.row × IsSync S.row × (P.means ready.now.pool.now ≡ rows_by) × (hand.old.tools ≡ ready.now.schedule.now.lists) }
-        ensures { (hand.new.tools ≡ ready.entry.now.schedule.now.lists) × HasAnswered (line_by ready.entry.now.schedule.now) ready.entry.now.first.now ready.entry.now.seen hand.new }
-    { ready.answer(hand) };
-    thread::for_each_mut(rt, hands, threads, &job);
-}
-
-/// Puts what the hands answered behind what is pending, in the order of the lines, as far as each part begins
-/// where the one before it ends.
-fn append_answered<P: Pool, S: Source>(
-    ready: &Ready<'_, '_, '_, P, S>,
-    hands: &mut [Hand<'_>],
+/// Puts what is done, once no thread is left, behind what is pending, as far as each part begins where the one before it
+/// ends.
+fn finish<W: Turn, P: Pool, S: Source>(
+    ready: &Ready<'_, '_, '_, W, P, S>,
+    desk: &mut Desk<W>,
     pending: &mut Pending,
 ) -> Result<Option<Answered>, OutOfMemory>
-    requires some { 0 < length hands.old }
-    requires answered { HaveAnswered (line_by ready.now.schedule.now) ready.now.first.now ready.now.seen hands.old }
-    ensures long { length hands.new ≡ length hands.old }
-    ensures tools { (lists : Lists) → HaveTools lists hands.old → HaveTools lists hands.new }
-    ensures taken { IfOk result (λ told. MatchOption told
-        ((is_bad_line ready.now.first.now ≡ true) × (pending.new ≡ pending.old))
-        (λ taken. IsAnswered (line_by ready.now.schedule.now) ready.now.first.now ready.now.seen taken pending.old pending.new)) }
+    requires few { desk.old.taken.lines ≤ desk.old.taken.bytes }
+    ensures { (first : List ℕ) (begin : Outgoing) (held : Option (List ℕ)) (faults : ℕ) →
+        HasStood W.piece first W.shown desk.old.first desk.old.taken begin (outgoing pending.old held faults) →
+        MatchResult result
+        (λ told. MatchOption told
+        ((is_bad_line first ≡ true) × (outgoing pending.new held faults ≡ begin))
+        (λ taken. CameTo W.piece first W.shown taken begin (outgoing pending.new held faults)))
+        (λ _. held ≡ begin.held) }
 {
-    let leader = hands.len() - 1;
-    match hands[leader].first {
+    match desk.first {
         First::Unknown => Err(OutOfMemory),
         First::Bad => Ok(None),
         First::Good => {
-            append_head(&mut hands[leader], pending)?;
-            let taken = append_parts(ready, hands, pending)?;
-            Ok(Some(taken))
+            if !desk.taken.failed {
+                ready.collect(desk);
+                ready.append(desk, pending);
+            }
+            Ok(Some(desk.taken))
         }
     }
-}
-
-/// Puts what is written for the first line behind what is pending.
-fn append_head(hand: &mut Hand<'_>, pending: &mut Pending) -> Result<(), OutOfMemory>
-    ensures put { OnOk result (pending.new ≡ pending.old ++ hand.old.head.items) }
-    ensures tools { hand.new.tools ≡ hand.old.tools }
-    ensures answered { OnOk result ((piece : Doc → List ℕ) (first : List ℕ) (shown : Shown) → HasAnswered piece first shown hand.old → HasAnswered piece first shown hand.new) }
-{
-    hand.first = First::Unknown;
-    pending.take_text(&mut hand.head)
-}
-
-/// Puts the parts of the hands behind what is pending.
-fn append_parts<P: Pool, S: Source>(
-    ready: &Ready<'_, '_, '_, P, S>,
-    hands: &mut [Hand<'_>],
-    pending: &mut Pending,
-) -> Result<Answered, OutOfMemory>
-    requires answered { HaveAnswered (line_by ready.now.schedule.now) ready.now.first.now ready.now.seen hands.old }
-    ensures long { length hands.new ≡ length hands.old }
-    ensures tools { (lists : Lists) → HaveTools lists hands.old → HaveTools lists hands.new }
-    ensures taken { IfOk result (λ taken. IsAnsweredBehind (line_by ready.now.schedule.now) ready.now.seen taken pending.old pending.new) }
-{
-    let mut taken = Answered { bytes: 0, lines: 0 };
-    'pieces: for _ in 0..ready.count {
-        let Some(end) = append_part_at(hands, taken.bytes, pending)? else {
-            return Ok(taken);
-        };
-        taken.bytes = end.bytes;
-        taken.lines += end.lines;
-    }
-    Ok(taken)
 }

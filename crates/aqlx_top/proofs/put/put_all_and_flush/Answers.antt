@@ -1,4 +1,4 @@
-use Rattle.aqlx_top.proofs.Sinks.{front_of_whole}
+use Rattle.line_parts.specs.SinkLaws.{front_of_whole}
 use Rattle.aqlx_top.proofs.put.put_all_and_flush.Goals as goal
 
 pub returns-in-Ok-clause-bytes : goal.returns-in-Ok-clause-bytes

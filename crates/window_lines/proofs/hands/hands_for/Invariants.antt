@@ -2,5 +2,5 @@ use Rattle.std.proofs.Common.{◌≡◌, vec_len}
 use Rattle.window_lines.specs.Hands.{HaveTools}
 use Rattle.window_lines.proofs.hands.hands_for.Given as goal
 
-abbrev pub invariant-loop-n : goal.invariant-loop-n
-invariant-loop-n l = (vec_len l.hands ≡ l.n) × HaveTools l.tables l.hands.items
+abbrev pub invariant-loop : goal.invariant-loop
+invariant-loop l = (vec_len l.hands ≡ l.counter) × HaveTools l.tables l.hands.items

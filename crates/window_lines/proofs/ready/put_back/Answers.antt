@@ -3,7 +3,6 @@ use Rattle.std.proofs.Common.{◌≡◌, ◌++◌, ◌∷◌, [], List, Bool, tr
 use Rattle.std.proofs.lemmas.List.Elements.{All-push}
 use Rattle.std.specs.Prelude.{is_ok}
 use Rattle.window_lines.specs.declared.hands.Hand.{Hand}
-use Rattle.window_lines.specs.Hands.{HasAnswered}
 use Rattle.window_lines.proofs.ready.put_back.Goals as goal
 
 all_put : (P : Hand → Type 0) (before now : List Hand) (hand : Hand) (put : Bool) → now ≡ cond put (before ++ hand ∷ []) before → All P before → P hand → All P now
@@ -13,7 +12,3 @@ all_put P before now hand false is all own = subst (All P) (sym is) all
 pub returns-clause-tools : goal.returns-clause-tools
 returns-clause-tools c = λ lists all own.
     all_put (λ hand. hand.tools ≡ lists) c.args.hands.now.items c.push.new.self.items c.args.hand (is_ok c.push.result) c.push.ensures.items all own
-
-pub returns-clause-answered : goal.returns-clause-answered
-returns-clause-answered c = λ piece first shown all own.
-    all_put (HasAnswered piece first shown) c.args.hands.now.items c.push.new.self.items c.args.hand (is_ok c.push.result) c.push.ensures.items all own

@@ -1,24 +1,23 @@
 use Rattle.std.proofs.Common.{◌≡◌, ◌∙◌, ◌+◌, ◌++◌, [], ◌∷◌, List, ℕ, length, false, ap, sym, subst, take, arith}
 use Rattle.corpus_json.specs.Documents.{is_bad_line}
 use Rattle.corpus_json.specs.Lines.{FirstLfAt}
-use Rattle.line_sight.specs.Seen.{Sighted, StandsAt}
+use Rattle.line_sight.specs.Seen.{Sees, Shown, Sighted, StandsAt}
 use Rattle.line_sight.specs.SeenLaws.{stands-append}
-use Rattle.window_lines.specs.Answered.{answer_to}
-use Rattle.window_lines.specs.Lines.{line_by}
-use Rattle.window_lines.proofs.Parts.{answered_on, stands_line}
+use Rattle.line_parts.specs.Answered.{answer_to}
+use Rattle.line_parts.specs.PartLaws.{answered_on, stands_line}
 use Rattle.window_lines.proofs.pieces.Ready.answer_next.Goals as goal
 
 pub returns-then-branch-clause-part : goal.returns-then-branch-clause-part
 returns-then-branch-clause-part g c =
-    let piece = line_by c.args.self.now.schedule.now in
-    let shown = c.args.self.now.seen in
+    let piece = g.W.Turn.piece in
+    let shown = g.W.Turn.shown in
     let sight = c.find_next.new.sight in
     let n = c.in-Some.n in
     let to = c.args.part.now.to in
     let is = c.requires.part in
     let line = take n sight.bytes in
     let lf : FirstLfAt sight.bytes n = rw c.in-Some.is at c.in_ok-n.ensures.found in
-    let sees = c.in_ok-n.ensures.sees in
+    let sees = subst (λ (s : Shown). Sees s sight) (sym c.args.self.now.shown) c.in_ok-n.ensures.sees in
     let at : sight.at ≡ to = c.in_ok-n.ensures.at ∙ c.requires.at in
     let good : is_bad_line line ≡ false = subst (λ (l : List ℕ). is_bad_line l ≡ false) c.front.ensures (c.in_ok-answer_one.ensures.good c.if-branch.true) in
     let put : c.answer_one.new.text.items ≡ c.args.part.now.text.items ++ answer_to piece (line ∷ []) =

@@ -1,0 +1,2 @@
+-- what is shared among threads, and sent to them
+pub mod Crosses

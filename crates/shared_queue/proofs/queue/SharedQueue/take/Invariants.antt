@@ -1,0 +1,5 @@
+use Rattle.crossbeam_queue.specs.Passes.{IsPassOf}
+use Rattle.shared_queue.proofs.queue.SharedQueue.take.Given as goal
+
+abbrev pub invariant-loop : goal.invariant-loop
+invariant-loop g l = IsPassOf l.self.ring l.pass
