@@ -13,6 +13,6 @@ mod send;
 mod turn;
 
 pub use desk::{Answered, Desk, First};
-pub use pending::{LARGE, Pending, Texts};
+pub use pending::{Pending, Texts};
 pub use send::{put, put_all};
 pub use turn::{Done, Part, Turn};

@@ -7,7 +7,7 @@ use std::marker::Model;
 use std::mem;
 
 /// Texts with room for more bytes are handed on without a copy.
-pub const LARGE: usize = 65_536;
+const LARGE: usize = 65_536;
 
 /// Bytes that are still to be written. They lie in several texts, since a large one is handed on without a copy.
 ///

@@ -1,19 +1,15 @@
 //! What each of several threads keeps of its own.
 
-ghost use Rattle.std.specs.Prelude.{◌≡◌, ◌≤◌, [], IfOk, vec_len};
+ghost use Rattle.std.specs.Prelude.{◌≡◌, ◌≤◌, IfOk, vec_len};
 ghost use Rattle.window_lines.specs.Hands.{HaveTools};
 
 use crate::answer::Room;
 use algebra::Plan;
-use line_parts::LARGE;
 use line_sight::Sight;
 use scalar_ops::{Tables, Tools};
 use span_token::OutOfMemory;
 use std::alloc::Global;
 use std::marker::Model;
-
-/// The most texts of which a thread keeps the room from turn to turn.
-const MOST_SPARE: usize = 64;
 
 /// What each of several threads keeps of its own for a plan, made once and used for all lines of a run.
 ///
@@ -43,8 +39,6 @@ pub(crate) struct Hand<'p> {
     pub tools: Tools<'p>,
     pub room: Room,
     pub sight: Sight,
-    /// Texts of parts that are used again.
-    pub spare: Vec<Vec<u8>>,
 }
 
 impl<'p> Hands<'p> {
@@ -83,32 +77,5 @@ fn hand_for<'p>(alloc: Global, tables: &'p Tables) -> Result<Hand<'p>, OutOfMemo
         tools: Tools::new(alloc, tables)?,
         room: Room::new(alloc),
         sight: Sight::new(alloc),
-        spare: Vec::new(alloc),
     })
-}
-
-impl<'p> Hand<'p> {
-    /// Keeps the room of a text, where it isn't large and few are kept.
-    pub(crate) fn keep(&mut self, text: Vec<u8>)
-        ensures tools { self.new.tools ≡ self.old.tools }
-    {
-        if text.capacity() <= LARGE && self.spare.len() < MOST_SPARE {
-            // room that can't be kept is made again
-            let _ = self.spare.push(text);
-        }
-    }
-
-    /// A text without a byte, with room that was kept where there is some.
-    pub(crate) fn text(&mut self, alloc: Global) -> Vec<u8>
-        ensures empty { result.items ≡ [] }
-        ensures tools { self.new.tools ≡ self.old.tools }
-    {
-        match self.spare.pop() {
-            Some(mut text) => {
-                text.clear();
-                text
-            }
-            None => Vec::new(alloc),
-        }
-    }
 }

@@ -59,7 +59,7 @@ impl<'a, 'l, 'p, W: Turn, P: Pool, S: Source> Ready<'a, 'l, 'p, W, P, S> {
             → (is_bad_line self.now.first.now ≡ false) × (pending.new ≡ pending.old ++ answer_to W.piece (self.now.first.now ∷ [])) }
         ensures bad { desk.new.first ≡ declared_first.Bad → (is_bad_line self.now.first.now ≡ true) × (pending.new ≡ pending.old) }
     {
-        let mut text = hand.text(self.alloc);
+        let mut text = Vec::new(self.alloc);
         match self.answer_one(self.first, hand, pool, &mut text) {
             Ok(true) => {
                 if pending.take_text(&mut text).is_ok() {
@@ -69,7 +69,6 @@ impl<'a, 'l, 'p, W: Turn, P: Pool, S: Source> Ready<'a, 'l, 'p, W, P, S> {
             Ok(false) => desk.first = First::Bad,
             Err(OutOfMemory) => {}
         }
-        hand.keep(text);
     }
 
     /// Answers one piece after another that nobody answers yet, and hands out what is done after each of them.

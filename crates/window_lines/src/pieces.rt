@@ -137,14 +137,13 @@ impl<'a, 'l, 'p, W: Turn, P: Pool, S: Source> Ready<'a, 'l, 'p, W, P, S> {
             from,
             to: from,
             count: 0,
-            text: hand.text(self.alloc),
+            text: Vec::new(self.alloc),
         };
         self.answer_lines(until, sight, hand, pool, &mut part)?;
         if part.to > from {
             self.note_done(part.text.len());
             Ok(Some(Done::new(part)))
         } else {
-            hand.keep(part.text);
             Ok(None)
         }
     }
