@@ -57,7 +57,11 @@ fn each_value_of_several_threads_comes_out_once(rt: HostRuntime) -> Result<(), F
         3,
         &|n: usize| -> u32 { put_some(shared, n as u32 * 1_000) },
     )?;
-    assert_eq!(rt; put.as_slice(), [EACH, EACH, EACH].as_slice(), "there is room for all");
+    assert_eq!(rt;
+        put.as_slice(),
+        [EACH, EACH, EACH].as_slice(),
+        "there is room for all"
+    );
     // 0 to 99, 1,000 to 1,099 and 2,000 to 2,099
     assert_eq!(rt; take_all(shared, 400), (300, 314_850));
     assert_eq!(rt; queue.take(), None, "none is left");
@@ -68,12 +72,12 @@ fn each_value_of_several_threads_comes_out_once(rt: HostRuntime) -> Result<(), F
 fn values_are_taken_while_others_are_put(rt: HostRuntime) -> Result<(), Fail> {
     let queue = SharedQueue::new(rt.alloc(), 128)?;
     let shared = &queue;
-    let (put, early) = thread::join(
-        &rt,
-        || put_some(shared, 1_000),
-        || take_all(shared, 10_000),
-    );
+    let (put, early) = thread::join(&rt, || put_some(shared, 1_000), || take_all(shared, 10_000));
     let late = take_all(shared, 200);
-    assert_eq!(rt; early.0.saturating_add(late.0), put, "each that was put was taken");
+    assert_eq!(rt;
+        early.0.saturating_add(late.0),
+        put,
+        "each that was put was taken"
+    );
     Ok(())
 }
