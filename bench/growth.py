@@ -3,7 +3,8 @@
 
 usage: bench/growth.py corpus [PROGRAM ..]      the time on 2, 20 and 200 MB of mails
        bench/growth.py document [PROGRAM ..]    the time on 100 MB of one text, cut into documents of 10 KB to 10 MB
-       bench/growth.py memory [PROGRAM ..]      peak memory on 20 and 200 MB of mails and of large documents
+       bench/growth.py memory [PROGRAM ..]      peak memory on 20 and 200 MB of mails, of large documents of all sizes, and of
+                                                large documents of one size
        bench/growth.py start                    the time on an empty corpus, of the demonstration and of a dictionary with
                                                 10,000 entries, with that of /bin/true beside
 
@@ -64,6 +65,13 @@ def write_mails(size, file):
     with open(file, "wb") as corpus:
         for _ in range(size // CORPUS[0]):
             corpus.write(lines)
+
+
+def write_one(size, file):
+    """Writes a corpus of so many bytes: the large document of middle size, as often as it takes."""
+    lines = sorted((DATA / "large-M.jsonl").read_bytes().splitlines(True), key=len)
+    middle = lines[len(lines) // 2]
+    file.write_bytes(middle * (size // len(middle)))
 
 
 def one_text():
@@ -166,6 +174,9 @@ def memory(names, work):
     for times in (1, 10):
         corpora[f"large x {times}"] = work / f"large-{times}.jsonl"
         (work / f"large-{times}.jsonl").write_bytes((DATA / "large-M.jsonl").read_bytes() * times)
+    for size in CORPUS[1:]:
+        corpora[f"one {named(size)}"] = work / f"one-{size}.jsonl"
+        write_one(size, work / f"one-{size}.jsonl")
     print(f"{'program':<17}" + "".join(f" {what:>13}" for what in corpora) + "   peak memory in MB")
     for name in names:
         words = [AQLX, "run", str(text_of(name, MAILS, work)[0]), "--workers", WORKERS]
