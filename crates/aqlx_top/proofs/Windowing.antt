@@ -20,7 +20,7 @@ use Rattle.aqlx_top.specs.Planned.{line_by}
 use Rattle.aql_io.specs.Causes.{Rose}
 use Rattle.line_parts.specs.Answered.{CameTo, Outgoing, outgoing}
 use Rattle.std.specs.Io.KnownBytes.{Appends}
-use Rattle.aqlx_top.specs.Windows.{meant_by, Fits, HasAnswered, HasTaken, IsGiven, IsPut, Outcome, outcome, TurnedOut}
+use Rattle.aqlx_top.specs.Windows.{meant_by, Fits, HasAnswered, HasTaken, IsGiven, IsPut, SinkTurn, sink_turn, TurnedOut}
 use Rattle.aqlx_top.specs.declared.windows.Turnout.{Turnout}
 use Rattle.aqlx_top.specs.declared.windows.Turnout.TheVariants.{Next, Ended, Unwritten}
 use Rattle.aqlx_top.specs.declared.windows.Windowed.{Windowed}
@@ -57,7 +57,7 @@ finished_unsent piece corpus before now pending status finished =
     finished_in_part piece corpus before now now pending status 0 finished (appends_nothing now)
 
 -- what a turn came to, where memory is wanting behind it
-pub turned_unsent : (piece : Doc → List ℕ) (left_before left_now : Option (List ℕ)) (faults_before faults_now : ℕ) (before : Option (List ℕ)) (out : Outcome) (reading : Reading) (pending : List ℕ) (number : ℕ) (turn : Turnout)
+pub turned_unsent : (piece : Doc → List ℕ) (left_before left_now : Option (List ℕ)) (faults_before faults_now : ℕ) (before : Option (List ℕ)) (out : SinkTurn) (reading : Reading) (pending : List ℕ) (number : ℕ) (turn : Turnout)
     → TurnedOut piece (source_ends left_before left_now faults_before faults_now) before out reading pending number (Ok turn) → InPart piece (source_ends left_before left_now faults_before faults_now) before out.held
 turned_unsent piece left_before left_now faults_before faults_now before out reading pending number Next turned =
     part_of piece left_before left_now faults_before faults_now before out.held reading pending number turned.0
@@ -72,7 +72,7 @@ meant_evaluated plan own pending after window none same put empty =
     meant_alone (line_by plan) after none empty ∙ put ∙ ap (λ (p : Parts). meant_by (line_by p) pending window) same
 
 -- what a turn came to, where the same is pending, of one reading and one number
-pub turned_with : (piece : Doc → List ℕ) (corpus : SourceEnds) (before : Option (List ℕ)) (out : Outcome) (reading next : Reading) (pending after : List ℕ) (number following : ℕ) (result : Result Turnout OutOfMemory)
+pub turned_with : (piece : Doc → List ℕ) (corpus : SourceEnds) (before : Option (List ℕ)) (out : SinkTurn) (reading next : Reading) (pending after : List ℕ) (number following : ℕ) (result : Result Turnout OutOfMemory)
     → next ≡ reading → after ≡ pending → following ≡ number
     → TurnedOut piece corpus before out reading pending number result → TurnedOut piece corpus before out next after following result
 turned_with piece corpus before out reading next pending after number following result read same counted turned = rw (read, same, counted) turned
@@ -132,7 +132,7 @@ module _ (piece : Doc → List ℕ) (left_before left_now left_next : Option (Li
         ap (λ (bytes : List ℕ). meant_by piece bytes after.window.items) (is.pending ∙ same)
         ∙ meant_more piece pending window after.window.items (documents (mid.line.items ∷ [])) (is.documents_are ∙ ap (λ (docs : List Input). map doc_of docs ++ documents (mid.line.items ∷ [])) there)
 
-    taken_turned : (turn : Turnout) → HasTaken mid after turn → TurnedOut piece corpus before (outcome now troubles troubles) after.reader (meant_by piece after.pending after.window.items) after.number (Ok turn)
+    taken_turned : (turn : Turnout) → HasTaken mid after turn → TurnedOut piece corpus before (sink_turn now troubles troubles) after.reader (meant_by piece after.pending after.window.items) after.number (Ok turn)
     taken_turned Next is = (rw (is.reader, is.number) (stands_with piece corpus before now mid.reader _ _ mid.number (sym (put_behind true is)) (looked_at is.good_is)), refl)
     taken_turned (Ended status) is =
         let line = mid.line.items in
@@ -166,7 +166,7 @@ module _ (piece : Doc → List ℕ) (left_before left_now left_next : Option (Li
           (stands_with piece (source_ends left_before left_after faults_before faults_next) before now after.reader _ _ (mid.number + is.taken.lines) (sym put.put) all))
 
       answered_turned : (failed : Bool) → is.taken.failed ≡ failed
-          → TurnedOut piece (source_ends left_before left_after faults_before faults_next) before (outcome held troubles then) after.reader (meant_by piece after.pending after.window.items) after.number (Ok turn)
+          → TurnedOut piece (source_ends left_before left_after faults_before faults_next) before (sink_turn held troubles then) after.reader (meant_by piece after.pending after.window.items) after.number (Ok turn)
       answered_turned false still =
           let kept = is.came.kept still in
           rw (is.next still)
@@ -178,18 +178,18 @@ module _ (piece : Doc → List ℕ) (left_before left_now left_next : Option (Li
     -- what a line that was given comes to
     given_turned : (looks : Bool) (left_after held : Option (List ℕ)) (then : ℕ) (turn : Turnout)
         → IsGiven piece looks left_next left_after (outgoing mid.pending now troubles) (outgoing after.pending held then) mid after turn
-        → TurnedOut piece (source_ends left_before left_after faults_before faults_next) before (outcome held troubles then) after.reader (meant_by piece after.pending after.window.items) after.number (Ok turn)
+        → TurnedOut piece (source_ends left_before left_after faults_before faults_next) before (sink_turn held troubles then) after.reader (meant_by piece after.pending after.window.items) after.number (Ok turn)
     given_turned looks left_after held then turn (inl is) =
-        subst (λ (l : Option (List ℕ)). TurnedOut piece (source_ends left_before l faults_before faults_next) before (outcome held troubles then) after.reader (meant_by piece after.pending after.window.items) after.number (Ok turn)) (sym is.1)
-        (subst (λ (h : Option (List ℕ)). TurnedOut piece corpus before (outcome h troubles then) after.reader (meant_by piece after.pending after.window.items) after.number (Ok turn)) (sym is.2)
-        (subst (λ (f : ℕ). TurnedOut piece corpus before (outcome now troubles f) after.reader (meant_by piece after.pending after.window.items) after.number (Ok turn)) (sym is.3)
+        subst (λ (l : Option (List ℕ)). TurnedOut piece (source_ends left_before l faults_before faults_next) before (sink_turn held troubles then) after.reader (meant_by piece after.pending after.window.items) after.number (Ok turn)) (sym is.1)
+        (subst (λ (h : Option (List ℕ)). TurnedOut piece corpus before (sink_turn h troubles then) after.reader (meant_by piece after.pending after.window.items) after.number (Ok turn)) (sym is.2)
+        (subst (λ (f : ℕ). TurnedOut piece corpus before (sink_turn now troubles f) after.reader (meant_by piece after.pending after.window.items) after.number (Ok turn)) (sym is.3)
         (taken_turned turn is.0)))
     given_turned looks left_after held then turn (inr is) = answered_turned looks left_after held then turn is is.taken.failed refl
 
     -- and where memory is wanting for it
     pub given_result : (looks : Bool) (left_after held : Option (List ℕ)) (then : ℕ) (result : Result Turnout OutOfMemory)
         → IfOk result (IsGiven piece looks left_next left_after (outgoing mid.pending now troubles) (outgoing after.pending held then) mid after) → OnErr result ((left_after ≡ left_next) × (held ≡ now))
-        → TurnedOut piece (source_ends left_before left_after faults_before faults_next) before (outcome held troubles then) after.reader (meant_by piece after.pending after.window.items) after.number result
+        → TurnedOut piece (source_ends left_before left_after faults_before faults_next) before (sink_turn held troubles then) after.reader (meant_by piece after.pending after.window.items) after.number result
     given_result looks left_after held then (Ok turn) is stays = given_turned looks left_after held then turn is
     given_result looks left_after held then (Err none) is stays =
         subst (λ (l : Option (List ℕ)). InPart piece (source_ends left_before l faults_before faults_next) before held) (sym stays.0)

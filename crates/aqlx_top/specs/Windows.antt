@@ -87,17 +87,17 @@ IsGiven piece looks left_before left_now out_before out_now before now turn =
     ⊎ HasAnswered piece looks left_before left_now out_before out_now before now turn
 
 -- a sink behind a turn: the bytes that it holds, where they are told, and its count of faults before the turn and behind it
-pub record Outcome : Type 0 where
+pub record SinkTurn : Type 0 where
   pub held : Option (List ℕ)
   pub faults_before : ℕ
   pub faults_now : ℕ
 
-abbrev pub outcome : Option (List ℕ) → ℕ → ℕ → Outcome
-outcome held before now = record { held = held; faults_before = before; faults_now = now }
+abbrev pub sink_turn : Option (List ℕ) → ℕ → ℕ → SinkTurn
+sink_turn held before now = record { held = held; faults_before = before; faults_now = now }
 
 -- what one turn came to: the run stands further, or it is finished, and no write failed; or one did; where that is so, or memory is
 -- wanting, a prefix is sent
-abbrev pub TurnedOut : (Doc → List ℕ) → SourceEnds → Option (List ℕ) → Outcome → Reading → List ℕ → ℕ → Result Turnout OutOfMemory → Type 0
+abbrev pub TurnedOut : (Doc → List ℕ) → SourceEnds → Option (List ℕ) → SinkTurn → Reading → List ℕ → ℕ → Result Turnout OutOfMemory → Type 0
 TurnedOut piece corpus before out reading pending number (Ok Next) = Stands piece corpus before out.held reading pending number × (out.faults_now ≡ out.faults_before)
 TurnedOut piece corpus before out reading pending number (Ok (Ended status)) = Finished piece corpus before out.held pending status × (out.faults_now ≡ out.faults_before)
 TurnedOut piece corpus before out reading pending number (Ok Unwritten) = InPart piece corpus before out.held × Rose out.faults_before out.faults_now

@@ -14,7 +14,7 @@ ghost use Rattle.aqlx_top.specs.Endings.{InPart};
 ghost use Rattle.aqlx_top.specs.Progress.{Finished, Stands, IsGoing, IsRunTo};
 ghost use Rattle.aqlx_top.specs.Planned.{line_by, names_in};
 ghost use Rattle.line_parts.specs.Answered.{outgoing};
-ghost use Rattle.aqlx_top.specs.Windows.{meant_by, outcome, Fits, HasAnswered, HasTaken, IsAsBefore, IsGiven, TurnedOut};
+ghost use Rattle.aqlx_top.specs.Windows.{meant_by, sink_turn, Fits, HasAnswered, HasTaken, IsAsBefore, IsGiven, TurnedOut};
 ghost use Rattle.window_lines.specs.Lines.{AreShort};
 
 use crate::asks::asks_for_tokens;
@@ -253,7 +253,7 @@ fn turn_in_window<R: Threads + Sync, S: Source + Sync, P: Pool, O: Sink>(
     requires going { IsGoing work.old.reader }
     ensures turned { (plan : Parts) (left : Option (List ℕ)) (faults : ℕ) (before : Option (List ℕ)) → work.old.plan.now ≡ plan →
         Stands (line_by plan) (source_ends left (S.left corpus.old) faults (S.faults corpus.old)) before (O.held out.old) work.old.reader (meant_by (line_by plan) work.old.pending work.old.window.items) work.old.number →
-        TurnedOut (line_by plan) (source_ends left (S.left corpus.new) faults (S.faults corpus.new)) before (outcome (O.held out.new) (O.faults out.old) (O.faults out.new)) work.new.reader (meant_by (line_by plan) work.new.pending work.new.window.items) work.new.number result }
+        TurnedOut (line_by plan) (source_ends left (S.left corpus.new) faults (S.faults corpus.new)) before (sink_turn (O.held out.new) (O.faults out.old) (O.faults out.new)) work.new.reader (meant_by (line_by plan) work.new.pending work.new.window.items) work.new.number result }
     ensures counts { IfOk result (λ came. came ≡ Turnout.Next → work.old.number < work.new.number) }
     ensures going { IfOk result (λ came. came ≡ Turnout.Next → IsGoing work.new.reader) }
     ensures fits { IfOk result (λ _. (plan : Parts) → Fits plan work.old → Fits plan work.new) }
@@ -288,7 +288,7 @@ fn take_line<R: Threads + Sync, S: Source + Sync, P: Pool, O: Sink>(
     requires going { IsGoing work.old.reader }
     ensures turned { (plan : Parts) (left : Option (List ℕ)) (faults : ℕ) (before : Option (List ℕ)) → work.old.plan.now ≡ plan →
         Stands (line_by plan) (source_ends left (S.left corpus.old) faults (S.faults corpus.old)) before (O.held out.old) work.old.reader (meant_by (line_by plan) work.old.pending work.old.window.items) work.old.number →
-        TurnedOut (line_by plan) (source_ends left (S.left corpus.new) faults (S.faults corpus.new)) before (outcome (O.held out.new) (O.faults out.old) (O.faults out.new)) work.new.reader (meant_by (line_by plan) work.new.pending work.new.window.items) work.new.number result }
+        TurnedOut (line_by plan) (source_ends left (S.left corpus.new) faults (S.faults corpus.new)) before (sink_turn (O.held out.new) (O.faults out.old) (O.faults out.new)) work.new.reader (meant_by (line_by plan) work.new.pending work.new.window.items) work.new.number result }
     ensures counts { IfOk result (λ came. came ≡ Turnout.Next → work.old.number < work.new.number) }
     ensures going { IfOk result (λ came. came ≡ Turnout.Next → IsGoing work.new.reader) }
     ensures fits { IfOk result (λ _. (plan : Parts) → Fits plan work.old → Fits plan work.new) }
@@ -324,7 +324,7 @@ fn take_given<R: Threads + Sync, S: Source + Sync, P: Pool, O: Sink>(
     ensures given { IfOk result (IsGiven (line_by work.old.plan.now) (S.looks corpus.old) (S.left corpus.old) (S.left corpus.new)
         (outgoing work.old.pending (O.held out.old) (O.faults out.old)) (outgoing work.new.pending (O.held out.new) (O.faults out.new)) work.old work.new) }
     ensures fits { IfOk result (λ _. (plan : Parts) → Fits plan work.old → Fits plan work.new) }
-    ensures err { OnErr result ((S.left corpus.new ≡ S.left corpus.old) × (O.held out.new ≡ O.held out.old)) }
+    ensures err { OnErr result ((S.left corpus.new ≡ S.left corpus.old) × (O.held out.new ≡ O.held out.old) × (O.faults out.new ≡ O.faults out.old)) }
     ensures faults { S.faults corpus.new ≡ S.faults corpus.old }
 {
     if is_for_window(work, corpus) {
@@ -353,7 +353,7 @@ fn answer_or_take<R: Threads + Sync, S: Source + Sync, P: Pool, O: Sink>(
     ensures given { IfOk result (IsGiven (line_by work.old.plan.now) (S.looks corpus.old) (S.left corpus.old) (S.left corpus.new)
         (outgoing work.old.pending (O.held out.old) (O.faults out.old)) (outgoing work.new.pending (O.held out.new) (O.faults out.new)) work.old work.new) }
     ensures fits { IfOk result (λ _. (plan : Parts) → Fits plan work.old → Fits plan work.new) }
-    ensures err { OnErr result ((S.left corpus.new ≡ S.left corpus.old) × (O.held out.new ≡ O.held out.old)) }
+    ensures err { OnErr result ((S.left corpus.new ≡ S.left corpus.old) × (O.held out.new ≡ O.held out.old) × (O.faults out.new ≡ O.faults out.old)) }
     ensures faults { S.faults corpus.new ≡ S.faults corpus.old }
 {
     match answer_given(rt, alloc, work, pool, corpus, out)? {
@@ -409,7 +409,7 @@ fn answer_given<R: Threads + Sync, S: Source + Sync, P: Pool, O: Sink>(
     ensures none { IfOk result (λ came. came ≡ None → IsAsBefore work.old work.new × (S.left corpus.new ≡ S.left corpus.old)
         × (O.held out.new ≡ O.held out.old) × (O.faults out.new ≡ O.faults out.old)) }
     ensures fits { IfOk result (λ _. (plan : Parts) → Fits plan work.old → Fits plan work.new) }
-    ensures err { OnErr result ((S.left corpus.new ≡ S.left corpus.old) × (O.held out.new ≡ O.held out.old)) }
+    ensures err { OnErr result ((S.left corpus.new ≡ S.left corpus.old) × (O.held out.new ≡ O.held out.old) × (O.faults out.new ≡ O.faults out.old)) }
     ensures faults { S.faults corpus.new ≡ S.faults corpus.old }
 {
     let ahead = room_ahead(work, corpus);

@@ -1,4 +1,4 @@
--- What a sink gained: all of a text, or its beginning. Only private clauses cite this.
+-- What a sink gained: all of a text, or its beginning.
 use Rattle.std.specs.Prelude.{ℕ, List, take, Option, Result, MatchResult}
 use Rattle.std.specs.Io.KnownBytes.{Appends}
 

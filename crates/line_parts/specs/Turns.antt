@@ -25,8 +25,8 @@ none_taken = record { bytes = 0; lines = 0; failed = false }
 abbrev pub GoesOn : (Doc → List ℕ) → List ℕ → Shown → Answered → Outgoing → Answered → Outgoing → Type 0
 GoesOn piece first shown taken out next after = (begin : Outgoing) → CameTo piece first shown taken begin out → CameTo piece first shown next begin after
 
--- what came of a turn: by its first line nothing, where memory was wanting for it or where it is bad, and else what it came to
+-- what came of a turn: nothing is written, where memory was wanting for its first line; nothing at all, where that is bad; else what it came to
 pub record HasStood (piece : Doc → List ℕ) (first : List ℕ) (shown : Shown) (came : First) (taken : Answered) (begin now : Outgoing) : Type 0 where
-  pub unknown : came ≡ Unknown → now.held ≡ begin.held
+  pub unknown : came ≡ Unknown → (now.held ≡ begin.held) × (now.faults ≡ begin.faults)
   pub bad : came ≡ Bad → (is_bad_line first ≡ true) × (now ≡ begin)
   pub good : came ≡ Good → CameTo piece first shown taken begin now

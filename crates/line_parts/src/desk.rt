@@ -1,6 +1,6 @@
 //! The desk at which the caller's thread puts parts that are done one behind the other, and writes them.
 
-ghost use Rattle.std.specs.Prelude.{◌≡◌, ◌<◌, ◌≤◌, ◌+◌, [], ℕ, List, Option, false, IfSome};
+ghost use Rattle.std.specs.Prelude.{◌≡◌, ◌<◌, ◌≤◌, ◌+◌, [], ℕ, List, Option, false, IfSome, is_some};
 ghost use Rattle.line_parts.specs.declared.desk.First.TheVariants as declared_first;
 ghost use Rattle.line_parts.specs.Answered.{outgoing};
 ghost use Rattle.line_parts.specs.Turns.{GoesOn, IsPart, none_taken};
@@ -29,7 +29,7 @@ pub struct Answered {
 /// What came of the first line.
 #[derive(Clone, Copy, Debug)]
 pub enum First {
-    /// It isn't answered, for want of memory.
+    /// It isn't answered yet, or memory was wanting for it.
     Unknown,
     /// It is bad.
     Bad,
@@ -43,7 +43,7 @@ pub struct Desk<W: Turn> {
     pub first: First,
     /// The lines behind the first one whose parts are put behind what was pending.
     pub taken: Answered,
-    pub kept: Vec<Done<W>>,
+    kept: Vec<Done<W>>,
 }
 
 impl<W: Turn> Desk<W> {
@@ -72,8 +72,9 @@ impl<W: Turn> Desk<W> {
         self.kept.push(done).is_ok()
     }
 
-    /// Puts the parts that are next behind what is pending, as far as they are there, and tells how many bytes they have.
-    pub fn append_parts(&mut self, pending: &mut Pending) -> usize
+    /// Puts the parts that are next behind what is pending, as far as they are there, and tells how many bytes they have. The
+    /// error is that memory was wanting for one: it isn't put, and is lost, so the turn ends before it.
+    pub fn append_parts(&mut self, pending: &mut Pending) -> Result<usize, OutOfMemory>
         requires unfailed { self.old.taken.failed ≡ false }
         requires few { self.old.taken.lines ≤ self.old.taken.bytes }
         ensures first { self.new.first ≡ self.old.first }
@@ -83,17 +84,17 @@ impl<W: Turn> Desk<W> {
     {
         let mut bytes = 0usize;
         for _ in 0..self.kept.len() {
-            let Some(more) = self.append_next(pending) else {
-                return bytes;
+            let Some(more) = self.append_next(pending)? else {
+                return Ok(bytes);
             };
             bytes = bytes.saturating_add(more);
         }
-        bytes
+        Ok(bytes)
     }
 
-    /// Puts the part that is next behind what is pending, and tells how many bytes it has. `None`, and nothing is put, where it
-    /// isn't there, or memory is wanting.
-    fn append_next(&mut self, pending: &mut Pending) -> Option<usize>
+    /// Puts the part that is next behind what is pending, and tells how many bytes it has; `None` where it isn't there. The error is
+    /// that memory was wanting: nothing is put, and the part is lost.
+    fn append_next(&mut self, pending: &mut Pending) -> Result<Option<usize>, OutOfMemory>
         requires unfailed { self.old.taken.failed ≡ false }
         requires few { self.old.taken.lines ≤ self.old.taken.bytes }
         ensures first { self.new.first ≡ self.old.first }
@@ -101,19 +102,17 @@ impl<W: Turn> Desk<W> {
         ensures few { self.new.taken.lines ≤ self.new.taken.bytes }
         ensures goes_on { (first : List ℕ) (held : Option (List ℕ)) (faults : ℕ) → GoesOn W.piece first W.shown self.old.taken (outgoing pending.old held faults) self.new.taken (outgoing pending.new held faults) }
     {
-        let mut part = self.take_next()?;
+        let Some(mut part) = self.take_next() else {
+            return Ok(None);
+        };
         let bytes = part.text.len();
-        match pending.take_text(&mut part.text) {
-            Ok(()) => {
-                self.taken = Answered {
-                    bytes: part.to,
-                    lines: self.taken.lines + part.count,
-                    failed: false,
-                };
-                Some(bytes)
-            }
-            Err(OutOfMemory) => None,
-        }
+        pending.take_text(&mut part.text)?;
+        self.taken = Answered {
+            bytes: part.to,
+            lines: self.taken.lines + part.count,
+            failed: false,
+        };
+        Ok(Some(bytes))
     }
 
     /// Takes the part out that begins where the lines end that were put.
@@ -130,11 +129,13 @@ impl<W: Turn> Desk<W> {
         None
     }
 
-    /// Writes what is pending once it has many bytes.
+    /// Writes what is pending once it has 65,536 bytes, or holds a text that is handed on without a copy.
     pub fn send<O: Sink>(&mut self, pending: &mut Pending, out: &mut O)
         requires unfailed { self.old.taken.failed ≡ false }
         ensures first { self.new.first ≡ self.old.first }
         ensures taken { (self.new.taken.bytes ≡ self.old.taken.bytes) × (self.new.taken.lines ≡ self.old.taken.lines) }
+        ensures told { is_some (O.held out.new) ≡ is_some (O.held out.old) }
+        ensures flushed { O.flushed out.new ≡ O.flushed out.old }
         ensures goes_on { (first : List ℕ) → GoesOn W.piece first W.shown self.old.taken (outgoing pending.old (O.held out.old) (O.faults out.old)) self.new.taken (outgoing pending.new (O.held out.new) (O.faults out.new)) }
     {
         if !pending.has_many(MANY) {

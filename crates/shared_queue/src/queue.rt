@@ -7,7 +7,8 @@ use std::alloc::{AllocError, Global};
 /// How often a value is tried to be put, or taken, where another thread comes first each time.
 const TRIES: usize = 16;
 
-/// A queue for values of any number of threads, shared by `&`. What was put first is taken first.
+/// A queue for values of any number of threads, shared by `&`. What was put first is taken first: that, and when there is room, is
+/// tested and no clause.
 #[derive(Drop)]
 pub struct SharedQueue<T> {
     ring: RuledArrayQueue<T, (), Free>,

@@ -79,5 +79,9 @@ fn values_are_taken_while_others_are_put(rt: HostRuntime) -> Result<(), Fail> {
         put,
         "each that was put was taken"
     );
+    if put == EACH {
+        // 1,000 to 1,099
+        assert_eq!(rt; early.1.saturating_add(late.1), 104_950);
+    }
     Ok(())
 }

@@ -1,6 +1,6 @@
 //! The caller's thread, which owns the output: between its own pieces it writes what others have done.
 
-ghost use Rattle.std.specs.Prelude.{◌≡◌, ◌≤◌, ◌++◌, ◌∷◌, [], ℕ, List, Option, true, false};
+ghost use Rattle.std.specs.Prelude.{◌≡◌, ◌≤◌, ◌++◌, ◌∷◌, [], ℕ, List, Option, true, false, is_some};
 ghost use Rattle.corpus_json.specs.Documents.{is_bad_line};
 ghost use Rattle.line_parts.specs.declared.desk.First.TheVariants as declared_first;
 ghost use Rattle.line_parts.specs.Answered.{answer_to, outgoing};
@@ -30,6 +30,8 @@ impl<'a, 'l, 'p, W: Turn, P: Pool, S: Source> Ready<'a, 'l, 'p, W, P, S> {
         requires taken { desk.old.taken ≡ none_taken }
         ensures tools { hand.new.tools ≡ self.now.schedule.now.lists }
         ensures few { desk.new.taken.lines ≤ desk.new.taken.bytes }
+        ensures told { is_some (O.held out.new) ≡ is_some (O.held out.old) }
+        ensures flushed { O.flushed out.new ≡ O.flushed out.old }
         ensures stood { HasStood W.piece self.now.first.now W.shown desk.new.first desk.new.taken
             (outgoing pending.old (O.held out.old) (O.faults out.old)) (outgoing pending.new (O.held out.new) (O.faults out.new)) }
     {
@@ -71,7 +73,8 @@ impl<'a, 'l, 'p, W: Turn, P: Pool, S: Source> Ready<'a, 'l, 'p, W, P, S> {
         }
     }
 
-    /// Answers one piece after another that nobody answers yet, and hands out what is done after each of them.
+    /// Answers one piece after another that nobody answers yet; after each of them, and once none is left, what is done is put and
+    /// written.
     fn lead_pieces<O: Sink>(
         &self,
         hand: &mut Hand<'_>,
@@ -87,11 +90,14 @@ impl<'a, 'l, 'p, W: Turn, P: Pool, S: Source> Ready<'a, 'l, 'p, W, P, S> {
         ensures tools { hand.new.tools ≡ hand.old.tools }
         ensures first { desk.new.first ≡ desk.old.first }
         ensures few { desk.new.taken.lines ≤ desk.new.taken.bytes }
+        ensures told { is_some (O.held out.new) ≡ is_some (O.held out.old) }
+        ensures flushed { O.flushed out.new ≡ O.flushed out.old }
         ensures goes_on { GoesOn W.piece self.now.first.now W.shown desk.old.taken (outgoing pending.old (O.held out.old) (O.faults out.old))
             desk.new.taken (outgoing pending.new (O.held out.new) (O.faults out.new)) }
     {
         'pieces: for _ in 0..self.count {
             let Some(n) = self.take_up() else {
+                self.hand_out(desk, pending, out);
                 return;
             };
             let kept = match self.answer_piece(n, hand, pool) {
@@ -103,13 +109,34 @@ impl<'a, 'l, 'p, W: Turn, P: Pool, S: Source> Ready<'a, 'l, 'p, W, P, S> {
                 self.stop();
                 return;
             }
-            self.collect(desk);
-            self.append(desk, pending);
-            desk.send(pending, out);
+            self.hand_out(desk, pending, out);
             if desk.taken.failed {
-                self.stop();
                 return;
             }
+        }
+    }
+
+    /// Takes over what others have done, puts what is next behind what is pending, and writes that once it is much. Lets nobody
+    /// take another piece where a write failed, or memory was wanting.
+    fn hand_out<O: Sink>(&self, desk: &mut Desk<W>, pending: &mut Pending, out: &mut O)
+        requires unfailed { desk.old.taken.failed ≡ false }
+        requires few { desk.old.taken.lines ≤ desk.old.taken.bytes }
+        ensures first { desk.new.first ≡ desk.old.first }
+        ensures few { desk.new.taken.lines ≤ desk.new.taken.bytes }
+        ensures told { is_some (O.held out.new) ≡ is_some (O.held out.old) }
+        ensures flushed { O.flushed out.new ≡ O.flushed out.old }
+        ensures goes_on { (first : List ℕ) → GoesOn W.piece first W.shown desk.old.taken (outgoing pending.old (O.held out.old) (O.faults out.old)) desk.new.taken (outgoing pending.new (O.held out.new) (O.faults out.new)) }
+    {
+        self.collect(desk);
+        let put = desk.append_parts(pending);
+        desk.send(pending, out);
+        if desk.taken.failed {
+            self.stop();
+            return;
+        }
+        match put {
+            Ok(bytes) => self.note_sent(bytes),
+            Err(OutOfMemory) => self.stop(),
         }
     }
 
@@ -127,18 +154,5 @@ impl<'a, 'l, 'p, W: Turn, P: Pool, S: Source> Ready<'a, 'l, 'p, W, P, S> {
                 return;
             }
         }
-    }
-
-    /// Puts the parts that are next behind what is pending.
-    pub fn append(&self, desk: &mut Desk<W>, pending: &mut Pending)
-        requires unfailed { desk.old.taken.failed ≡ false }
-        requires few { desk.old.taken.lines ≤ desk.old.taken.bytes }
-        ensures first { desk.new.first ≡ desk.old.first }
-        ensures unfailed { desk.new.taken.failed ≡ false }
-        ensures few { desk.new.taken.lines ≤ desk.new.taken.bytes }
-        ensures goes_on { (first : List ℕ) (held : Option (List ℕ)) (faults : ℕ) → GoesOn W.piece first W.shown desk.old.taken (outgoing pending.old held faults) desk.new.taken (outgoing pending.new held faults) }
-    {
-        let bytes = desk.append_parts(pending);
-        self.note_sent(bytes);
     }
 }

@@ -44,7 +44,7 @@ pub(crate) struct Ready<'a, 'l, 'p, W: Turn, P: Pool, S: Source> {
     pub next: &'a AtomicUsize,
     /// The parts that other threads than the caller's have done.
     pub done: &'a SharedQueue<Done<W>>,
-    /// How many bytes such parts have that aren't put behind what is pending, and how many are enough.
+    /// How many bytes the parts have that are done and aren't written yet, and how many are enough.
     pub unsent: &'a AtomicUsize,
     pub enough: usize,
     ghost of_plan: { layout.now ≡ names_in schedule.now },
@@ -75,7 +75,8 @@ impl<'a, 'l, 'p, W: Turn, P: Pool, S: Source> Ready<'a, 'l, 'p, W, P, S> {
         }
     }
 
-    /// Hands a part over to the caller's thread. False where there was no memory for it, or there is no room in the queue.
+    /// Hands a part over to the caller's thread. False where there was no memory for it, or the queue doesn't take it, since it
+    /// is full, or others came first each time: then the part is lost.
     fn hand_over(&self, answered: Result<Option<Done<W>>, OutOfMemory>) -> bool {
         match answered {
             Ok(Some(done)) => self.done.put(done).is_ok(),
@@ -252,7 +253,7 @@ impl<'a, 'l, 'p, W: Turn, P: Pool, S: Source> Ready<'a, 'l, 'p, W, P, S> {
         }
     }
 
-    /// Counts the bytes of a part that is done, and lets nobody take another piece where enough are unsent: the caller's thread
+    /// Counts the bytes of a part that is done, of any thread, and lets nobody take another piece where enough are unsent: the caller's thread
     /// is behind.
     fn note_done(&self, bytes: usize) {
         let before = self.unsent.fetch_add(bytes, Ordering::Relaxed);
@@ -261,7 +262,7 @@ impl<'a, 'l, 'p, W: Turn, P: Pool, S: Source> Ready<'a, 'l, 'p, W, P, S> {
         }
     }
 
-    /// The same of bytes that were put behind what is pending.
+    /// Takes bytes off again that are on their way out.
     pub fn note_sent(&self, bytes: usize) {
         let _ = self.unsent.fetch_sub(bytes, Ordering::Relaxed);
     }

@@ -1,6 +1,6 @@
 //! Lines that are ready: each of several threads reads, evaluates and answers pieces of them by itself.
 
-ghost use Rattle.std.specs.Prelude.{◌≡◌, ◌<◌, ◌≤◌, ◌+◌, ℕ, List, true, None, IfOk, OnErr, Option, MatchOption, MatchResult, vec_len};
+ghost use Rattle.std.specs.Prelude.{◌≡◌, ◌<◌, ◌≤◌, ◌+◌, ℕ, List, true, None, IfOk, OnErr, Option, MatchOption, MatchResult, is_some, vec_len};
 ghost use Rattle.std.specs.Thread.{IsSend, IsSync};
 ghost use Rattle.corpus_json.specs.Documents.{is_bad_line};
 ghost use Rattle.scalar_ops.specs.Tables.{Lists};
@@ -50,8 +50,9 @@ const ENOUGH_EACH: usize = 5_242_880;
 /// How many parts each thread may have done, on average, while the caller's thread answers one piece.
 const PARTS_EACH: usize = 256;
 
-/// Writes what is written for a line, and for lines behind it, behind what is pending: an output line for each document, and
-/// nothing for a blank line, in their order. What isn't a piece yet, or came last, is left pending.
+/// Puts what is written for a line, and for lines behind it, behind what is pending, and writes it: an output line for each
+/// document, and nothing for a blank line, in their order. What is pending is written once it has 65,536 bytes; the rest is
+/// left pending, and nothing is flushed.
 ///
 /// `first` is the line, without its LF, and `bytes` are those that are ready behind it. Behind these, up to `ahead` bytes
 /// of what is left of the corpus are looked at, where it shows them: none is read by that. What is answered of all is told
@@ -59,8 +60,8 @@ const PARTS_EACH: usize = 256;
 /// there are more lines than threads, and otherwise one does, without a thread. The caller's own thread writes what the others
 /// have done between its pieces. What is answered ends before a bad line, before one of 4,194,304 bytes and more, and where so
 /// much is answered that can't be written yet (20,971,520 bytes, or 5,242,880 for each thread where they are more than
-/// four). `None` where the first line is bad, and nothing is written then. The error is that memory was wanting for the first
-/// line, and nothing is written then.
+/// four), or 256 parts for each thread wait that are done. `None` where the first line is bad, and nothing is written or pending
+/// then. The error is that memory was wanting for the first line, or for what the threads share, and no write is tried then.
 ///
 /// Each document is handed to a part of the pool by the thread that evaluates it, and what the part answers is
 /// written. The pool answers what is found and keeps no list, so nothing is gathered of its parts.
@@ -69,8 +70,9 @@ const PARTS_EACH: usize = 256;
 /// same for every number of them. `with_tokens` says whether documents keep their tokens, and changes no
 /// byte.
 ///
-/// Meaning: `CameTo`, `specs/Answered.antt`, of what is seen by `specs/Seen.antt`; `line_by`, `specs/Lines.antt`: for
-/// each output the value of its node on the document.
+/// Meaning: `CameTo`, `specs/Answered.antt` of `line_parts`, of what is seen by `specs/Seen.antt` of `line_sight`;
+/// `line_by`, `specs/Lines.antt`: for each output the value of its node on the document. Where it ends, and what stays
+/// pending, are no clauses, but tested.
 pub fn answer_ready<R: Threads + Sync, P: Pool, S: Source + Sync, O: Sink>(
     rt: &R,
     alloc: Global,
@@ -94,7 +96,9 @@ pub fn answer_ready<R: Threads + Sync, P: Pool, S: Source + Sync, O: Sink>(
         ((is_bad_line first.now ≡ true) × (outgoing pending.new (O.held out.new) (O.faults out.new) ≡ outgoing pending.old (O.held out.old) (O.faults out.old)))
         (λ taken. CameTo (line_by schedule.now) first.now (shown_by (S.looks corpus.now) bytes.now (S.left corpus.now) ahead) taken
         (outgoing pending.old (O.held out.old) (O.faults out.old)) (outgoing pending.new (O.held out.new) (O.faults out.new)))) }
-    ensures none { OnErr result (O.held out.new ≡ O.held out.old) }
+    ensures none { OnErr result ((O.held out.new ≡ O.held out.old) × (O.faults out.new ≡ O.faults out.old)) }
+    ensures told { is_some (O.held out.new) ≡ is_some (O.held out.old) }
+    ensures flushed { O.flushed out.new ≡ O.flushed out.old }
     ensures same { hands.new ≡ hands.old }
 {
     answer_turn::<Brand, R, P, S, O>(
@@ -141,7 +145,9 @@ fn answer_turn<W: Turn + Send + Sync, R: Threads + Sync, P: Pool, S: Source + Sy
         ((is_bad_line first.now ≡ true) × (outgoing pending.new (O.held out.new) (O.faults out.new) ≡ outgoing pending.old (O.held out.old) (O.faults out.old)))
         (λ taken. CameTo W.piece first.now W.shown taken
         (outgoing pending.old (O.held out.old) (O.faults out.old)) (outgoing pending.new (O.held out.new) (O.faults out.new)))) }
-    ensures none { OnErr result (O.held out.new ≡ O.held out.old) }
+    ensures none { OnErr result ((O.held out.new ≡ O.held out.old) × (O.faults out.new ≡ O.faults out.old)) }
+    ensures told { is_some (O.held out.new) ≡ is_some (O.held out.old) }
+    ensures flushed { O.flushed out.new ≡ O.flushed out.old }
     ensures same { hands.new ≡ hands.old }
 {
     let next = AtomicUsize::new(0);
@@ -219,6 +225,8 @@ fn answer_by<W: Turn + Send + Sync, R: Threads + Sync, P: Pool, S: Source + Sync
     ensures few { vec_len hands.new ≤ vec_len hands.old }
     ensures tools { HaveTools ready.now.schedule.now.lists hands.new.items }
     ensures few_lines { desk.new.taken.lines ≤ desk.new.taken.bytes }
+    ensures told { is_some (O.held out.new) ≡ is_some (O.held out.old) }
+    ensures flushed { O.flushed out.new ≡ O.flushed out.old }
     ensures stood { HasStood W.piece ready.now.first.now W.shown desk.new.first desk.new.taken
         (outgoing pending.old (O.held out.old) (O.faults out.old)) (outgoing pending.new (O.held out.new) (O.faults out.new)) }
 {
@@ -257,6 +265,8 @@ fn answer_beside<W: Turn + Send + Sync, R: Threads + Sync, P: Pool, S: Source + 
     ensures few { vec_len hands.new ≤ vec_len hands.old }
     ensures tools { HaveTools ready.now.schedule.now.lists hands.new.items × (last.new.tools ≡ ready.now.schedule.now.lists) }
     ensures few_lines { desk.new.taken.lines ≤ desk.new.taken.bytes }
+    ensures told { is_some (O.held out.new) ≡ is_some (O.held out.old) }
+    ensures flushed { O.flushed out.new ≡ O.flushed out.old }
     ensures stood { HasStood W.piece ready.now.first.now W.shown desk.new.first desk.new.taken
         (outgoing pending.old (O.held out.old) (O.faults out.old)) (outgoing pending.new (O.held out.new) (O.faults out.new)) }
 {
@@ -269,6 +279,7 @@ fn answer_beside<W: Turn + Send + Sync, R: Threads + Sync, P: Pool, S: Source + 
             × HaveTools ready.now.schedule.now.lists hands.now.items × (desk.now.first ≡ declared_first.Unknown) × (desk.now.taken ≡ none_taken) }
         ensures { (0 < vec_len hands.exit.now) × (vec_len hands.exit.now ≤ vec_len hands.entry.now) × HaveTools ready.entry.now.schedule.now.lists hands.exit.now.items
             × (desk.exit.now.taken.lines ≤ desk.exit.now.taken.bytes)
+            × (is_some (O.held out.exit.now) ≡ is_some (O.held out.entry.now)) × (O.flushed out.exit.now ≡ O.flushed out.entry.now)
             × HasStood W.piece ready.entry.now.first.now W.shown desk.exit.now.first desk.exit.now.taken
             (outgoing pending.entry.now (O.held out.entry.now) (O.faults out.entry.now)) (outgoing pending.exit.now (O.held out.exit.now) (O.faults out.exit.now)) }
     { answer_by(rt, ready, threads, hands, desk, pending, out) };
@@ -299,7 +310,7 @@ fn finish<W: Turn, P: Pool, S: Source>(
         (λ told. MatchOption told
         ((is_bad_line first ≡ true) × (outgoing pending.new held faults ≡ begin))
         (λ taken. CameTo W.piece first W.shown taken begin (outgoing pending.new held faults)))
-        (λ _. held ≡ begin.held) }
+        (λ _. (held ≡ begin.held) × (faults ≡ begin.faults)) }
 {
     match desk.first {
         First::Unknown => Err(OutOfMemory),
@@ -307,7 +318,8 @@ fn finish<W: Turn, P: Pool, S: Source>(
         First::Good => {
             if !desk.taken.failed {
                 ready.collect(desk);
-                ready.append(desk, pending);
+                // where memory is wanting, the next turn begins with the lines of the part that isn't put
+                let _ = desk.append_parts(pending);
             }
             Ok(Some(desk.taken))
         }

@@ -2,7 +2,7 @@ use Rattle.std.proofs.Common.{Ok, ◌∙◌}
 use Rattle.std.proofs.lemmas.Result.{err_from_is_err_and}
 use Rattle.aqlx_top.specs.Devices.{source_ends}
 use Rattle.aqlx_top.specs.Planned.{line_by}
-use Rattle.aqlx_top.specs.Windows.{meant_by, outcome}
+use Rattle.aqlx_top.specs.Windows.{meant_by, sink_turn}
 use Rattle.aqlx_top.proofs.Windowing as more
 use Rattle.aqlx_top.proofs.windows.turn_in_window.Goals as goal
 
@@ -19,13 +19,13 @@ pub returns-in_err-evaluate_window-clause-turned : goal.returns-in_err-evaluate_
 returns-in_err-evaluate_window-clause-turned g c = λ plan left faults before own s.
     let p = err_from_is_err_and c.from_residual-in_err-evaluate_window.result c.from_residual-in_err-evaluate_window.ensures.1 in
     rw p.1
-    (more.turned_unsent (line_by plan) left (g.S.Source.left c.take_line.new.corpus) faults (g.S.Source.faults c.take_line.new.corpus) before (outcome (g.O.Sink.held c.take_line.new.out) (g.O.Sink.faults c.args.out.now) (g.O.Sink.faults c.take_line.new.out)) c.take_line.new.work.reader (meant_by (line_by plan) c.take_line.new.work.pending c.take_line.new.work.window.items) c.take_line.new.work.number c.in_ok-turn.turn
+    (more.turned_unsent (line_by plan) left (g.S.Source.left c.take_line.new.corpus) faults (g.S.Source.faults c.take_line.new.corpus) before (sink_turn (g.O.Sink.held c.take_line.new.out) (g.O.Sink.faults c.args.out.now) (g.O.Sink.faults c.take_line.new.out)) c.take_line.new.work.reader (meant_by (line_by plan) c.take_line.new.work.pending c.take_line.new.work.window.items) c.take_line.new.work.number c.in_ok-turn.turn
     (c.in_ok-turn.ensures.turned plan left faults before own s))
 
 pub returns-in_ok-evaluate_window-clause-turned : goal.returns-in_ok-evaluate_window-clause-turned
 returns-in_ok-evaluate_window-clause-turned g c = λ plan left faults before own s.
     let fits = c.in_ok-turn.ensures.fits c.args.work.now.plan.now c.requires.fits in
-    more.turned_with (line_by plan) (source_ends left (g.S.Source.left c.take_line.new.corpus) faults (g.S.Source.faults c.take_line.new.corpus)) before (outcome (g.O.Sink.held c.take_line.new.out) (g.O.Sink.faults c.args.out.now) (g.O.Sink.faults c.take_line.new.out)) c.take_line.new.work.reader c.evaluate_window.new.work.reader (meant_by (line_by plan) c.take_line.new.work.pending c.take_line.new.work.window.items) (meant_by (line_by plan) c.evaluate_window.new.work.pending c.evaluate_window.new.work.window.items) c.take_line.new.work.number c.evaluate_window.new.work.number (Ok c.in_ok-turn.turn)
+    more.turned_with (line_by plan) (source_ends left (g.S.Source.left c.take_line.new.corpus) faults (g.S.Source.faults c.take_line.new.corpus)) before (sink_turn (g.O.Sink.held c.take_line.new.out) (g.O.Sink.faults c.args.out.now) (g.O.Sink.faults c.take_line.new.out)) c.take_line.new.work.reader c.evaluate_window.new.work.reader (meant_by (line_by plan) c.take_line.new.work.pending c.take_line.new.work.window.items) (meant_by (line_by plan) c.evaluate_window.new.work.pending c.evaluate_window.new.work.window.items) c.take_line.new.work.number c.evaluate_window.new.work.number (Ok c.in_ok-turn.turn)
     c.in_ok-evaluate_window.ensures.same.0
     (more.meant_evaluated plan c.take_line.new.work.plan.now c.take_line.new.work.pending c.evaluate_window.new.work.pending c.take_line.new.work.window.items c.evaluate_window.new.work.window.items (fits.plan_is ∙ own) c.in_ok-evaluate_window.ensures.meant c.in_ok-evaluate_window.ensures.empty)
     c.in_ok-evaluate_window.ensures.same.1
