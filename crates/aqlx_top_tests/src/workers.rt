@@ -428,8 +428,14 @@ fn much_is_written_while_workers_answer_more(rt: HostRuntime) -> Result<(), Fail
                 "{workers} workers, call {call}"
             );
             // and nothing behind it
-            assert!(rt; out.bytes().len() < alone.bytes().len(), "{workers} workers, call {call}");
-            assert!(rt; (*call == 1) == out.bytes().is_empty(), "{workers} workers, call {call}");
+            assert!(rt;
+                out.bytes().len() < alone.bytes().len(),
+                "{workers} workers, call {call}"
+            );
+            assert!(rt;
+                (*call == 1) == out.bytes().is_empty(),
+                "{workers} workers, call {call}"
+            );
         }
     }
     Ok(())
