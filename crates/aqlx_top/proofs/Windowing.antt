@@ -188,7 +188,7 @@ module _ (piece : Doc → List ℕ) (left_before left_now left_next : Option (Li
 
     -- and where memory is wanting for it
     pub given_result : (looks : Bool) (left_after held : Option (List ℕ)) (then : ℕ) (result : Result Turnout OutOfMemory)
-        → IfOk result (IsGiven piece looks left_next left_after (outgoing mid.pending now troubles) (outgoing after.pending held then) mid after) → OnErr result ((left_after ≡ left_next) × (held ≡ now))
+        → IfOk result (IsGiven piece looks left_next left_after (outgoing mid.pending now troubles) (outgoing after.pending held then) mid after) → OnErr result ((left_after ≡ left_next) × (held ≡ now) × (then ≡ troubles))
         → TurnedOut piece (source_ends left_before left_after faults_before faults_next) before (sink_turn held troubles then) after.reader (meant_by piece after.pending after.window.items) after.number result
     given_result looks left_after held then (Ok turn) is stays = given_turned looks left_after held then turn is
     given_result looks left_after held then (Err none) is stays =
