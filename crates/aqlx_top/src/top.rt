@@ -40,9 +40,9 @@ use std::thread::Threads;
 /// program's pool is `Workers`; a sound pool's lines are those that the program means.
 ///
 /// With `--workers N`, N from 2 on, and a plain pool, `run` answers the lines that are ready, and those behind them that
-/// the corpus shows, by N workers, each in a thread of its own but for one, and holds what one read brought, or a window
-/// of large documents, and what is written for them; no byte of what is written depends on N. All other calls start no
-/// thread. No clause says of threads that there are any.
+/// the corpus shows, by N workers, each in a thread of its own but for one, and holds what docs/FORMATS.md lists
+/// under "Output"; no byte of what is written depends on N. All other calls start no thread. No clause says of threads that
+/// there are any.
 ///
 /// Meaning: `Outcome`, `specs/Outcome.antt`; docs/FORMATS.md, "Exit status and standard error".
 pub fn aqlx<R: Threads + Sync, F: Files, S: Source + Sync, O: Sink, E: Sink, P: Pool>(

@@ -12,6 +12,11 @@ use std::thread::Threads;
 pub const NUMBERS: &str =
     "create view P as extract regex /[0-9]+/ on D.text as num from Document D; output view P;";
 
+/// A program that finds each digit by itself.
+pub const DIGITS: &str =
+    "create view P as extract regex /[0-9]/ on D.text as digit from Document D; \
+    output view P;";
+
 /// The line that it writes for a document whose text is the digit 1.
 pub const DIGIT: &str = "{\"views\":{\"P\":[{\"num\":{\"begin\":0,\"end\":1,\"text\":\"1\"}}]}}\n";
 

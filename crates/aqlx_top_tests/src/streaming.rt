@@ -12,9 +12,9 @@ use std::thread::Threads;
 
 /// A sink that shows how many bytes it holds.
 #[derive(Drop)]
-struct Shown<'a> {
-    inner: MemSink,
-    length: &'a AtomicUsize,
+pub(crate) struct Shown<'a> {
+    pub(crate) inner: MemSink,
+    pub(crate) length: &'a AtomicUsize,
 }
 
 impl Sink for Shown<'_> {

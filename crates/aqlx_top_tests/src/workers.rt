@@ -1,6 +1,7 @@
 //! Runs by several workers: the bytes are those of one worker.
 use crate::setup::{
-    DIGIT, NO_MATCH, NUMBERS, READ_FAULT, Setup, call, comes_to, repeated, run, sink_of, usual,
+    DIGIT, DIGITS, NO_MATCH, NUMBERS, READ_FAULT, Setup, call, comes_to, repeated, run, sink_of,
+    usual,
 };
 use aql_io::{MemSink, SureSource};
 use run_pool::Workers;
@@ -18,10 +19,6 @@ const PAIRS: &str = "create view N as extract regex /[0-9]+/ on D.text as num fr
 /// Numbers by their tokens.
 const TOKENS: &str = "create view P as extract regex /[0-9]+/ on 1 token in D.text as num \
     from Document D; output view P;";
-
-/// Each digit by itself.
-const DIGITS: &str = "create view P as extract regex /[0-9]/ on D.text as digit from Document D; \
-    output view P;";
 
 /// So many documents, every third without a number, and a blank line behind every fifth.
 fn corpus(alloc: Global, count: u32) -> Result<String, Fail> {
@@ -410,7 +407,7 @@ fn write_all<R: Threads + Sync + Abort>(
 }
 
 #[test]
-fn much_is_written_while_workers_answer_more(rt: HostRuntime) -> Result<(), Fail> {
+fn a_failed_write_of_much_output_is_told_and_none_follows_it(rt: HostRuntime) -> Result<(), Fail> {
     let alloc = rt.alloc();
     let corpus = much_to_write(alloc)?;
     let mut alone = sink_of(alloc, 1 << 25, 1 << 20, &[])?;

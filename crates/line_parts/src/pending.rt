@@ -6,7 +6,7 @@ use std::alloc::Global;
 use std::marker::Model;
 use std::mem;
 
-/// Texts with room for more bytes are handed on without a copy.
+/// Texts with room for more bytes, and those behind so many, are handed on without a copy.
 const LARGE: usize = 65_536;
 
 /// Bytes that are still to be written. They lie in several texts, since a large one is handed on without a copy.
@@ -72,16 +72,17 @@ impl Pending {
         self.last.clear();
     }
 
-    /// Puts the bytes of a text behind what is pending and leaves it empty: a large one is handed on as it is,
-    /// and another one is copied and keeps its room. Nothing is put where memory is wanting.
+    /// Puts the bytes of a text behind what is pending and leaves it empty: a large one, and one behind many bytes of others, is
+    /// handed on as it is, and another one is copied and keeps its room. So no text grows for ever, which would be moved each
+    /// time it doubles, and keep its room. Nothing is put where memory is wanting; what was to be handed on is lost then.
     pub fn take_text(&mut self, text: &mut Vec<u8>) -> Result<(), OutOfMemory>
         ensures put { OnOk result (self.new ≡ self.old ++ text.old.items) }
         ensures none { OnErr result (self.new ≡ self.old) }
         ensures taken { OnOk result (text.new.items ≡ []) }
     {
-        if text.capacity() > LARGE {
-            let large = mem::replace(text, Vec::new(self.alloc));
-            return self.push_text(large);
+        if text.capacity() > LARGE || self.last.len() >= LARGE {
+            let whole = mem::replace(text, Vec::new(self.alloc));
+            return self.push_text(whole);
         }
         self.last.extend_from_slice(text.as_slice())?;
         text.clear();

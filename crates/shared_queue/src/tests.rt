@@ -26,11 +26,21 @@ const EACH: u32 = 100;
 fn put_some(queue: &SharedQueue<u32>, first: u32) -> u32 {
     let mut count = 0u32;
     for value in 0..EACH {
-        if queue.put(first.saturating_add(value)).is_ok() {
+        if is_put(queue, first.saturating_add(value)) {
             count = count.saturating_add(1);
         }
     }
     count
+}
+
+/// Whether some try puts the value: one may meet others each time it looks.
+fn is_put(queue: &SharedQueue<u32>, value: u32) -> bool {
+    for _ in 0..1_000 {
+        if queue.put(value).is_ok() {
+            return true;
+        }
+    }
+    false
 }
 
 /// Takes values until some tries find none, and answers how many they are and their sum.

@@ -51,8 +51,8 @@ const ENOUGH_EACH: usize = 5_242_880;
 const PARTS_EACH: usize = 256;
 
 /// Puts what is written for a line, and for lines behind it, behind what is pending, and writes it: an output line for each
-/// document, and nothing for a blank line, in their order. What is pending is written once it has 65,536 bytes; the rest is
-/// left pending, and nothing is flushed.
+/// document, and nothing for a blank line, in their order. What is pending is written once it has 65,536 bytes, or holds a text
+/// that is handed on without a copy; the rest is left pending, and nothing is flushed.
 ///
 /// `first` is the line, without its LF, and `bytes` are those that are ready behind it. Behind these, up to `ahead` bytes
 /// of what is left of the corpus are looked at, where it shows them: none is read by that. What is answered of all is told
@@ -60,8 +60,9 @@ const PARTS_EACH: usize = 256;
 /// there are more lines than threads, and otherwise one does, without a thread. The caller's own thread writes what the others
 /// have done between its pieces. What is answered ends before a bad line, before one of 4,194,304 bytes and more, and where so
 /// much is answered that can't be written yet (20,971,520 bytes, or 5,242,880 for each thread where they are more than
-/// four), or 256 parts for each thread wait that are done. `None` where the first line is bad, and nothing is written or pending
-/// then. The error is that memory was wanting for the first line, or for what the threads share, and no write is tried then.
+/// four), or 256 parts for each thread wait that are done; also before a piece for which memory was wanting, or room in the
+/// queue. `None` where the first line is bad: nothing is written then, and what is pending is as it was. The error is that
+/// memory was wanting for the first line, or for what the threads share, and no write is tried then.
 ///
 /// Each document is handed to a part of the pool by the thread that evaluates it, and what the part answers is
 /// written. The pool answers what is found and keeps no list, so nothing is gathered of its parts.
@@ -72,7 +73,7 @@ const PARTS_EACH: usize = 256;
 ///
 /// Meaning: `CameTo`, `specs/Answered.antt` of `line_parts`, of what is seen by `specs/Seen.antt` of `line_sight`;
 /// `line_by`, `specs/Lines.antt`: for each output the value of its node on the document. Where it ends, and what stays
-/// pending, are no clauses, but tested.
+/// pending, are no clauses.
 pub fn answer_ready<R: Threads + Sync, P: Pool, S: Source + Sync, O: Sink>(
     rt: &R,
     alloc: Global,
