@@ -80,7 +80,8 @@ pub(crate) struct Windowed<'p> {
     pub shows: bool,
     pub reader: LineBuffer,
     pub line: Vec<u8>,
-    pub documents: DocumentReader,
+    /// In a box, since it has thousands of bytes, which no call is to move over the stack.
+    pub documents: Box<DocumentReader>,
     pub number: u64,
     pub most: usize,
     pub window: Vec<Input>,
@@ -153,6 +154,7 @@ fn begin_windows<'p>(
     ensures nothing { IfOk result (λ work. (work.pending ≡ []) × (work.window.items ≡ []) × (work.number ≡ 0)) }
 {
     let room = if shows { ROOM_SHOWN } else { ROOM };
+    let documents = Box::new(alloc, DocumentReader::new(alloc))?;
     let schedule = Schedule::new(alloc, plan)?;
     let with_tokens = asks_for_tokens(&schedule);
     Ok(Windowed {
@@ -166,7 +168,7 @@ fn begin_windows<'p>(
         shows,
         reader: LineBuffer::with_room(alloc, room)?,
         line: Vec::new(alloc),
-        documents: DocumentReader::new(alloc),
+        documents,
         number: 0,
         most: most_documents(plan) as usize,
         window: Vec::new(alloc),
@@ -448,7 +450,7 @@ fn take_document(alloc: Global, work: &mut Windowed<'_>) -> Result<Turnout, OutO
     ensures taken { IfOk result (HasTaken work.old work.new) }
     ensures fits { IfOk result (λ _. (plan : Parts) → Fits plan work.old → Fits plan work.new) }
 {
-    let good = put_document(alloc, &mut work.documents, &work.line, &mut work.window)?;
+    let good = put_document(alloc, &mut *work.documents, &work.line, &mut work.window)?;
     if good {
         work.bytes = work.bytes.saturating_add(work.line.len());
         Ok(Turnout::Next)

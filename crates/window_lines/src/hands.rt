@@ -17,7 +17,7 @@ use std::marker::Model;
 #[derive(Drop)]
 pub struct Hands<'p> {
     pub(crate) tables: &'p Tables,
-    pub(crate) hands: Vec<Hand<'p>>,
+    pub(crate) hands: Vec<Box<Hand<'p>>>,
 }
 
 impl<'p> Model for Hands<'p> {
@@ -33,7 +33,8 @@ impl<'p> Model for Hands<'p> {
     ghost invariant = { λ hands. (0 < vec_len hands.hands) × (vec_len hands.hands < 2 ^ 32) × HaveTools hands.tables.now hands.hands.items };
 }
 
-/// What one thread keeps: its tools, room for a document, and what it looked at.
+/// What one thread keeps: its tools, room for a document, and what it looked at. It has thousands of bytes, and lies in a box, so
+/// that no call moves it over the stack of the thread that starts all others.
 #[derive(Drop)]
 pub(crate) struct Hand<'p> {
     pub tools: Tools<'p>,
@@ -58,7 +59,7 @@ fn hands_for<'p>(
     alloc: Global,
     tables: &'p Tables,
     number: u32,
-) -> Result<Vec<Hand<'p>>, OutOfMemory>
+) -> Result<Vec<Box<Hand<'p>>>, OutOfMemory>
     ensures long { IfOk result (λ hands. vec_len hands ≡ number) }
     ensures tools { IfOk result (λ hands. HaveTools tables.now hands.items) }
 {
@@ -70,12 +71,16 @@ fn hands_for<'p>(
 }
 
 /// A hand with tools for the tables.
-fn hand_for<'p>(alloc: Global, tables: &'p Tables) -> Result<Hand<'p>, OutOfMemory>
-    ensures { IfOk result (λ hand. hand.tools ≡ tables.now) }
+#[inline(never)]
+fn hand_for<'p>(alloc: Global, tables: &'p Tables) -> Result<Box<Hand<'p>>, OutOfMemory>
+    ensures { IfOk result (λ hand. hand.value.tools ≡ tables.now) }
 {
-    Ok(Hand {
-        tools: Tools::new(alloc, tables)?,
-        room: Room::new(alloc),
-        sight: Sight::new(alloc),
-    })
+    Ok(Box::new(
+        alloc,
+        Hand {
+            tools: Tools::new(alloc, tables)?,
+            room: Room::new(alloc),
+            sight: Sight::new(alloc),
+        },
+    )?)
 }

@@ -17,6 +17,7 @@ use span_token::OutOfMemory;
 impl<'a, 'l, 'p, W: Turn, P: Pool, S: Source> Ready<'a, 'l, 'p, W, P, S> {
     /// Answers the first line, and where it is good pieces until none is left; what comes of all lines goes over the desk behind
     /// what is pending, and on to the output.
+    #[inline(never)]
     pub fn lead<O: Sink>(
         &self,
         hand: &mut Hand<'_>,

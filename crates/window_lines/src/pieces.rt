@@ -56,6 +56,7 @@ pub(crate) struct Ready<'a, 'l, 'p, W: Turn, P: Pool, S: Source> {
 
 impl<'a, 'l, 'p, W: Turn, P: Pool, S: Source> Ready<'a, 'l, 'p, W, P, S> {
     /// Answers pieces until none is left, by a part of the pool, and hands each part over that is done.
+    #[inline(never)]
     pub fn answer(&self, hand: &mut Hand<'_>)
         requires as_found { P.means self.now.pool.now ≡ rows_by }
         requires tools { hand.old.tools ≡ self.now.schedule.now.lists }

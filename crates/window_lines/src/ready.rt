@@ -211,7 +211,7 @@ fn answer_by<W: Turn + Send + Sync, R: Threads + Sync, P: Pool, S: Source + Sync
     rt: &R,
     ready: &Ready<'_, '_, '_, W, P, S>,
     threads: usize,
-    hands: &mut Vec<Hand<'_>>,
+    hands: &mut Vec<Box<Hand<'_>>>,
     desk: &mut Desk<W>,
     pending: &mut Pending,
     out: &mut O,
@@ -232,14 +232,14 @@ fn answer_by<W: Turn + Send + Sync, R: Threads + Sync, P: Pool, S: Source + Sync
         (outgoing pending.old (O.held out.old) (O.faults out.old)) (outgoing pending.new (O.held out.new) (O.faults out.new)) }
 {
     if threads < 2 || hands.len() < 2 {
-        ready.lead(&mut hands[0], desk, pending, out);
+        ready.lead(&mut *hands[0], desk, pending, out);
         return;
     }
     let Some(mut last) = hands.pop() else {
-        ready.lead(&mut hands[0], desk, pending, out);
+        ready.lead(&mut *hands[0], desk, pending, out);
         return;
     };
-    answer_beside(rt, ready, threads - 1, hands, &mut last, desk, pending, out);
+    answer_beside(rt, ready, threads - 1, hands, &mut *last, desk, pending, out);
     put_back(hands, last);
 }
 
@@ -249,7 +249,7 @@ fn answer_beside<W: Turn + Send + Sync, R: Threads + Sync, P: Pool, S: Source + 
     rt: &R,
     ready: &Ready<'_, '_, '_, W, P, S>,
     threads: usize,
-    hands: &mut Vec<Hand<'_>>,
+    hands: &mut Vec<Box<Hand<'_>>>,
     last: &mut Hand<'_>,
     desk: &mut Desk<W>,
     pending: &mut Pending,
@@ -288,10 +288,10 @@ fn answer_beside<W: Turn + Send + Sync, R: Threads + Sync, P: Pool, S: Source + 
 }
 
 /// Puts a hand behind the others again, where it came from.
-fn put_back<'p>(hands: &mut Vec<Hand<'p>>, hand: Hand<'p>)
+fn put_back<'p>(hands: &mut Vec<Box<Hand<'p>>>, hand: Box<Hand<'p>>)
     ensures some { vec_len hands.old ≤ vec_len hands.new }
     ensures few { vec_len hands.new ≤ vec_len hands.old + 1 }
-    ensures tools { (lists : Lists) → HaveTools lists hands.old.items → hand.entry.tools ≡ lists → HaveTools lists hands.new.items }
+    ensures tools { (lists : Lists) → HaveTools lists hands.old.items → hand.entry.value.tools ≡ lists → HaveTools lists hands.new.items }
 {
     // its room is there, since it was just taken out
     let _ = hands.push(hand);

@@ -13,4 +13,4 @@ pub answer_by-answer_beside-requires-clause-tools : goal.answer_by-answer_beside
 answer_by-answer_beside-requires-clause-tools g t c κs within =
     let lists = c.args.ready.now.schedule.now.lists in
     let hands = c.args.hands.now in
-    subst (All (λ hand. hand.tools ≡ lists)) (sym c.pop.ensures.rest) (All-take (λ hand. hand.tools ≡ lists) (hands.len - 1) hands.items c.requires.tools)
+    subst (All (λ hand. hand.value.tools ≡ lists)) (sym c.pop.ensures.rest) (All-take (λ hand. hand.value.tools ≡ lists) (hands.len - 1) hands.items c.requires.tools)
