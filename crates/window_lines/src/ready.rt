@@ -239,7 +239,16 @@ fn answer_by<W: Turn + Send + Sync, R: Threads + Sync, P: Pool, S: Source + Sync
         ready.lead(&mut *hands[0], desk, pending, out);
         return;
     };
-    answer_beside(rt, ready, threads - 1, hands, &mut *last, desk, pending, out);
+    answer_beside(
+        rt,
+        ready,
+        threads - 1,
+        hands,
+        &mut *last,
+        desk,
+        pending,
+        out,
+    );
     put_back(hands, last);
 }
 
