@@ -297,6 +297,7 @@ fn answer_beside<W: Turn + Send + Sync, R: Threads + Sync, P: Pool, S: Source + 
 }
 
 /// Puts a hand behind the others again, where it came from.
+#[inline(never)]
 fn put_back<'p>(hands: &mut Vec<Box<Hand<'p>>>, hand: Box<Hand<'p>>)
     ensures some { vec_len hands.old ≤ vec_len hands.new }
     ensures few { vec_len hands.new ≤ vec_len hands.old + 1 }
